@@ -6,3 +6,6 @@ pub mod Locks
 pub mod LockMachine
 pub mod Calls
 pub mod Answers
+pub mod Example
+pub mod ExampleLaws
+pub mod Traces
