@@ -1,0 +1,7 @@
+-- The definitions that the contracts of `words` cite, and their laws.
+pub mod Cases
+pub mod Window
+pub mod Store
+pub mod Header
+pub mod Entries
+pub mod Frames

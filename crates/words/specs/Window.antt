@@ -1,0 +1,143 @@
+-- A window of k words of a list, read and replaced, with the laws of the two.
+use mathlib.Core.Path.{_≡_, refl, sym, ap, _∙_}
+use mathlib.Core.List.{List, [], _∷_, _++_}
+use mathlib.Core.Logic.{_⊎_, inl, inr, ⊎-elim}
+use Prim.Native.Nat.{ℕ, zero, suc, _+_, _-_, _≤_, _<_}
+use native.Mathlib.Omega.{arith}
+use native.Mathlib.Nat.{add-zero}
+use lib.ListN.{length, take, drop, getD, set, length-append, length-take, length-drop, List·getD-append}
+use lib.Seq.{drop-cons, getD-take, getD-drop, getD-append-add, getD-set-other, ext-getD, length-take-le, take-all}
+use Rattle.words.specs.Cases.{order}
+
+-- the k words from index a, 0 past the list's end
+unfoldable pub wordsAt : List ℕ → ℕ → ℕ → List ℕ
+wordsAt l a zero = []
+wordsAt l a (suc k) = getD l a 0 ∷ wordsAt l (suc a) k
+
+-- the list with w in place of the k words from `at`
+unfoldable pub putAt : List ℕ → ℕ → ℕ → List ℕ → List ℕ
+putAt s at k w = take at s ++ (w ++ drop k (drop at s))
+
+-- ---- laws
+
+pub length-words : (l : List ℕ) (a k : ℕ) → length (wordsAt l a k) ≡ k
+unfolding wordsAt
+length-words l a zero = refl
+length-words l a (suc k) = ap suc (length-words l (suc a) k)
+
+at-same : (l : List ℕ) (i j : ℕ) → i ≡ j → getD l i 0 ≡ getD l j 0
+at-same l i j e = ap (λ (k : ℕ). getD l k 0) e
+
+pub words-same : (l m : List ℕ) (a b k : ℕ) → ((j : ℕ) → j < k → getD l (a + j) 0 ≡ getD m (b + j) 0) → wordsAt l a k ≡ wordsAt m b k
+unfolding wordsAt
+words-same l m a b zero h = refl
+words-same l m a b (suc k) h =
+    let here : getD l a 0 ≡ getD m b 0 = rw (← add-zero a, ← add-zero b) (h 0 (omega arith)) in
+    let rest : wordsAt l (suc a) k ≡ wordsAt m (suc b) k =
+    words-same l m (suc a) (suc b) k
+    (λ j p. at-same l (suc a + j) (a + suc j) (omega arith) ∙ h (suc j) (omega arith) ∙ at-same m (b + suc j) (suc b + j) (omega arith)) in
+    cc
+
+-- word j of a window
+pub words-get : (l : List ℕ) (a k j : ℕ) → j < k → getD (wordsAt l a k) j 0 ≡ getD l (a + j) 0
+unfolding wordsAt
+words-get l a zero j h = absurd (omega arith)
+words-get l a (suc k) zero h = at-same l a (a + 0) (omega arith)
+words-get l a (suc k) (suc j) h = words-get l (suc a) k j (omega arith) ∙ at-same l (suc a + j) (a + suc j) (omega arith)
+
+-- within the list the words are those of take and drop
+pub words-part : (l : List ℕ) (a k : ℕ) → a + k ≤ length l → take k (drop a l) ≡ wordsAt l a k
+unfolding wordsAt
+words-part l a zero h = refl
+words-part l a (suc k) h =
+    rw (drop-cons l a 0 (omega arith)) (ap (λ (r : List ℕ). getD l a 0 ∷ r) (words-part l (suc a) k (omega arith)))
+
+-- a list is its words
+pub words-all : (l : List ℕ) (k : ℕ) → length l ≡ k → wordsAt l 0 k ≡ l
+words-all l k h = sym (words-part l 0 k (omega arith)) ∙ take-all k l (omega arith)
+
+module _ (s : List ℕ) (at k : ℕ) (w : List ℕ) (fits : at + k ≤ length s) (whole : length w ≡ k) where
+  pub length-put : length (putAt s at k w) ≡ length s
+  unfolding putAt
+  length-put = simp (length-append, length-take, length-drop) (omega arith)
+
+  pub put-in : (j : ℕ) → j < k → getD (putAt s at k w) (at + j) 0 ≡ getD w j 0
+  unfolding putAt
+  put-in j h =
+      ap (λ (n : ℕ). getD (take at s ++ (w ++ drop k (drop at s))) (n + j) 0) (sym (length-take-le at s (omega arith)))
+      ∙ getD-append-add (take at s) (w ++ drop k (drop at s)) j 0
+      ∙ List·getD-append w (drop k (drop at s)) 0 j (omega arith)
+
+  pub put-before : (j : ℕ) → j < at → getD (putAt s at k w) j 0 ≡ getD s j 0
+  unfolding putAt
+  put-before j h =
+      List·getD-append (take at s) (w ++ drop k (drop at s)) 0 j (rw (length-take-le at s (omega arith)) h) ∙ getD-take at s j 0 h
+
+  pub put-after : (j : ℕ) → at + k ≤ j → getD (putAt s at k w) j 0 ≡ getD s j 0
+  unfolding putAt
+  put-after j h =
+      let i : ℕ = j - (at + k) in
+      ap (λ (n : ℕ). getD (take at s ++ (w ++ drop k (drop at s))) n 0) (omega (arith, length-take-le at s (omega arith)))
+      ∙ getD-append-add (take at s) (w ++ drop k (drop at s)) (length w + i) 0
+      ∙ getD-append-add w (drop k (drop at s)) i 0
+      ∙ getD-drop k (drop at s) i 0
+      ∙ getD-drop at s (k + i) 0
+      ∙ at-same s (at + (k + i)) j (omega arith)
+
+  pub words-put : wordsAt (putAt s at k w) at k ≡ w
+  words-put =
+      words-same (putAt s at k w) w at 0 k (λ j h. put-in j h ∙ at-same w j (0 + j) (omega arith)) ∙ words-all w k whole
+
+  pub words-put-before : (b n : ℕ) → b + n ≤ at → wordsAt (putAt s at k w) b n ≡ wordsAt s b n
+  words-put-before b n h = words-same (putAt s at k w) s b b n (λ j p. put-before (b + j) (omega arith))
+
+  pub words-put-after : (b n : ℕ) → at + k ≤ b → wordsAt (putAt s at k w) b n ≡ wordsAt s b n
+  words-put-after b n h = words-same (putAt s at k w) s b b n (λ j p. put-after (b + j) (omega arith))
+
+  pub drop-put : (n : ℕ) → at + k ≤ n → drop n (putAt s at k w) ≡ drop n s
+  drop-put n h =
+      ext-getD 0 (drop n (putAt s at k w)) (drop n s)
+      (rw (length-drop n (putAt s at k w), length-drop n s, length-put) refl)
+      (λ j p. getD-drop n (putAt s at k w) j 0 ∙ put-after (n + j) (omega arith) ∙ sym (getD-drop n s j 0))
+
+-- ---- writes of windows: the later one counts, what was read is put back, and windows apart are written in either order
+
+-- two lists of one length that agree before, in and after a window are one list
+pub put-ext : (l r : List ℕ) (at k : ℕ) → length l ≡ length r → ((j : ℕ) → j < at → getD l j 0 ≡ getD r j 0)
+    → ((j : ℕ) → j < k → getD l (at + j) 0 ≡ getD r (at + j) 0) → ((j : ℕ) → at + k ≤ j → getD l j 0 ≡ getD r j 0) → l ≡ r
+put-ext l r at k e before in-it after = ext-getD 0 l r e (λ j p. ⊎-elim (before j) (λ q. ⊎-elim (mid j q) (after j) (order j (at + k))) (order j at))
+  where
+    mid : (j : ℕ) → at ≤ j → j < at + k → getD l j 0 ≡ getD r j 0
+    mid j q h = at-same l j (at + (j - at)) (omega arith) ∙ in-it (j - at) (omega arith) ∙ at-same r (at + (j - at)) j (omega arith)
+
+pub put-put : (s : List ℕ) (at k : ℕ) (v w : List ℕ) → at + k ≤ length s → length v ≡ k → length w ≡ k
+    → putAt (putAt s at k v) at k w ≡ putAt s at k w
+put-put s at k v w fits hv hw =
+    let e = length-put s at k v fits hv in
+    let t : List ℕ = putAt s at k v in
+    let f : at + k ≤ length t = omega arith in
+    put-ext (putAt t at k w) (putAt s at k w) at k (length-put t at k w f hw ∙ e ∙ sym (length-put s at k w fits hw))
+    (λ j p. put-before t at k w f hw j p ∙ put-before s at k v fits hv j p ∙ sym (put-before s at k w fits hw j p))
+    (λ j p. put-in t at k w f hw j p ∙ sym (put-in s at k w fits hw j p))
+    (λ j p. put-after t at k w f hw j p ∙ put-after s at k v fits hv j p ∙ sym (put-after s at k w fits hw j p))
+
+pub put-back : (s : List ℕ) (at k : ℕ) → at + k ≤ length s → putAt s at k (wordsAt s at k) ≡ s
+put-back s at k fits =
+    let w : List ℕ = wordsAt s at k in
+    let hw = length-words s at k in
+    put-ext (putAt s at k w) s at k (length-put s at k w fits hw) (put-before s at k w fits hw)
+    (λ j p. put-in s at k w fits hw j p ∙ words-get s at k j p) (put-after s at k w fits hw)
+
+-- a word that is replaced leaves each window that it is not in
+pub words-set : (s : List ℕ) (at v b n : ℕ) → (at < b) ⊎ (b + n ≤ at) → wordsAt (set s at v) b n ≡ wordsAt s b n
+words-set s at v b n h = words-same (set s at v) s b b n (λ j p. getD-set-other s at (b + j) v 0 (apart j p h))
+  where
+    apart : (j : ℕ) → j < n → (at < b) ⊎ (b + n ≤ at) → b + j ≡ at → ⊥
+    apart j p (inl q) e = omega arith
+    apart j p (inr q) e = omega arith
+
+-- a part that was lent and came back changed by f, as the borrow checker says it
+pub lent-put : (s : List ℕ) (at k : ℕ) {ys : List ℕ} (f : List ℕ → List ℕ) → at + k ≤ length s → ys ≡ f (take k (drop at s))
+    → take at s ++ (ys ++ drop k (drop at s)) ≡ putAt s at k (f (wordsAt s at k))
+unfolding putAt
+lent-put s at k {ys} f h e = ap (λ (y : List ℕ). take at s ++ (y ++ drop k (drop at s))) (e ∙ ap f (words-part s at k h))
