@@ -1,0 +1,95 @@
+-- A lock granted when nobody is in the way keeps the holders in agreement.
+use mathlib.Core.Path.{_≡_, refl, sym, ap, _∙_, subst}
+use mathlib.Core.Bool.{Bool, true, false, cond, not, _&&_, _||_}
+use mathlib.Core.List.{List, [], _∷_}
+use mathlib.Core.Logic.{_⊎_, inl, inr}
+use Prim.Native.Nat.{ℕ, zero, suc, _+_, _-_, _≤_, _<_}
+use native.Mathlib.Decide.{ℕ-discrete}
+use native.Mathlib.Omega.{arith}
+use lib.Dec.{eqb, eqb→eq}
+use Rattle.serial.specs.Serial.{true≢false, not-true}
+use Rattle.serial.specs.Locks.{Kind, Mode, weak, strong, Table, lock-rule, Holds, Agree}
+use Rattle.serial.specs.Locks as L
+use Rattle.machine.specs.Holders.{width, holds, count-from, filter, in-the-way, blockers}
+use Rattle.machine.specs.Steps.{rule}
+
+pub rule-symmetric : (k : Kind) (m n : Mode) → rule k m n ≡ rule k n m
+rule-symmetric L.entry weak weak = refl
+rule-symmetric L.entry weak strong = refl
+rule-symmetric L.entry strong weak = refl
+rule-symmetric L.entry strong strong = refl
+rule-symmetric L.group weak weak = refl
+rule-symmetric L.group weak strong = refl
+rule-symmetric L.group strong weak = refl
+rule-symmetric L.group strong strong = refl
+
+-- Holders grow by session p in mode m, at the places Z of kind k, where no other session holds in conflict.
+pub record Grown (H G : Holds) (p : ℕ) (k : Kind) (m : Mode) (Z : ℕ → Type 0) : Type 0 where
+  pub old : (l : Kind) (n : Mode) (q z : ℕ) → H l n q z ≡ true → G l n q z ≡ true
+  pub new : (l : Kind) (n : Mode) (q z : ℕ) → G l n q z ≡ true → (H l n q z ≡ true) ⊎ ((p ≡ q) × (k ≡ l) × (m ≡ n) × Z z)
+  pub clear : (n : Mode) (q z : ℕ) → Z z → ¬ (p ≡ q) → H k n q z ≡ true → rule k n m ≡ true
+
+pub grown-agree : (H G : Holds) (p : ℕ) (k : Kind) (m : Mode) (Z : ℕ → Type 0) → Grown H G p k m Z → Agree rule H → Agree rule G
+grown-agree H G p k m Z g a l n o s t x hs ht = go (g .new l n s x hs) (g .new l o t x ht)
+  where
+    at : (i : Kind) (j : Mode) → k ≡ i → m ≡ j → (u : Mode) (q : ℕ) → H i u q x ≡ true → Z x → ¬ (p ≡ q) → rule i u j ≡ true
+    at i j e f u q h z ne = subst (λ y. rule y u j ≡ true) e (subst (λ y. rule k u y ≡ true) f (g .clear u q x z ne (subst (λ y. H y u q x ≡ true) (sym e) h)))
+
+    apart : (i : Kind) (j : Mode) → k ≡ i → m ≡ j → (u : Mode) (q : ℕ) → H i u q x ≡ true → Z x → Dec (p ≡ q) → (p ≡ q) ⊎ (rule i u j ≡ true)
+    apart i j e f u q h z (yes w) = inl w
+    apart i j e f u q h z (no w) = inr (at i j e f u q h z w)
+
+    left : {A B : Type 0} {C D : Type 0} → (A → C) → (B → D) → A ⊎ B → C ⊎ D
+    left f h (inl y) = inl (f y)
+    left f h (inr y) = inr (h y)
+
+    go : (H l n s x ≡ true) ⊎ ((p ≡ s) × (k ≡ l) × (m ≡ n) × Z x) → (H l o t x ≡ true) ⊎ ((p ≡ t) × (k ≡ l) × (m ≡ o) × Z x) → (s ≡ t) ⊎ (rule l n o ≡ true)
+    go (inl h) (inl i) = a l n o s t x h i
+    go (inl h) (inr w) = left (λ e. sym e ∙ w .0) (λ e. e) (apart l o (w .1) (w .2) n s h (w .3) (ℕ-discrete p s))
+    go (inr w) (inl i) = left (λ e. sym (w .0) ∙ e) (λ e. rule-symmetric l n o ∙ e) (apart l n (w .1) (w .2) o t i (w .3) (ℕ-discrete p t))
+    go (inr w) (inr v) = inl (sym (w .0) ∙ v .0)
+
+-- ---- nobody in the way
+
+filter-none : (f : ℕ → Bool) (k n : ℕ) → filter f (count-from k n) ≡ [] → (t : ℕ) → k ≤ t → t < k + n → f t ≡ false
+filter-none f k zero e t a b = absurd (omega (arith, a, b))
+filter-none f k (suc n) e t a b = go (f k) refl (ℕ-discrete k t) (λ q c. filter-none f (suc k) n q t c (omega (arith, b)))
+  where
+    go : (c : Bool) → f k ≡ c → Dec (k ≡ t) → (filter f (count-from (suc k) n) ≡ [] → suc k ≤ t → f t ≡ false) → f t ≡ false
+    go true q d ih = absurd (cons-nil (rw q at e))
+      where
+        cons-nil : k ∷ filter f (count-from (suc k) n) ≡ [] → ⊥
+        cons-nil z = true≢false {b = true} refl (ap {B = Bool} (λ l. mathlib.Core.Bool.not (Rattle.machine.specs.Steps.is-empty l)) z)
+    go false q (yes d) ih = ap f (sym d) ∙ q
+    go false q (no d) ih = ih (rw q at e) (omega (arith, a, d))
+
+or-left : (a b : Bool) → (a || b) ≡ false → a ≡ false
+or-left true b e = e
+or-left false b e = refl
+
+or-right : (a b : Bool) → (a || b) ≡ false → b ≡ false
+or-right true b e = absurd (true≢false {b = true} refl e)
+or-right false b e = e
+
+and-held : (a b : Bool) → a ≡ true → (a && not b) ≡ false → b ≡ true
+and-held true true p e = refl
+and-held true false p e = absurd (true≢false {b = true} refl e)
+and-held false b p e = absurd (true≢false p refl)
+
+not-self : (a b : ℕ) (c : Bool) → ¬ (a ≡ b) → (not (eqb a b) && c) ≡ false → c ≡ false
+not-self a b c n e = go (eqb a b) refl e
+  where
+    go : (x : Bool) → eqb a b ≡ x → (not x && c) ≡ false → c ≡ false
+    go true q z = absurd (n (eqb→eq a b (rw q tt)))
+    go false q z = z
+
+-- No blockers: whoever else holds, agrees.
+pub unblocked : (k : Kind) (m : Mode) (p hw hs : ℕ) → blockers rule k m p hw hs ≡ [] → (q : ℕ) → 1 ≤ q → q ≤ width → ¬ (p ≡ q)
+    → (holds hw q ≡ true → rule k weak m ≡ true) × (holds hs q ≡ true → rule k strong m ≡ true)
+unfolding blockers
+unblocked k m p hw hs e q a b n =
+    let c : Bool = (holds hw q && not (rule k weak m)) || (holds hs q && not (rule k strong m)) in
+    let f : c ≡ false = not-self q p c (λ z. n (sym z)) (filter-none (in-the-way rule k m p hw hs) 1 16 e q a (omega (arith, b))) in (
+      (λ h. and-held (holds hw q) (rule k weak m) h (or-left (holds hw q && not (rule k weak m)) (holds hs q && not (rule k strong m)) f)),
+      (λ h. and-held (holds hs q) (rule k strong m) h (or-right (holds hw q && not (rule k weak m)) (holds hs q && not (rule k strong m)) f)),
+    )

@@ -1,0 +1,194 @@
+-- Demand 2, waiting: a step waits exactly if another party's lock is in its way, and then changes nothing; the asker is never in its own way.
+use mathlib.Core.Path.{_≡_, refl, sym, ap, _∙_, subst}
+use mathlib.Core.Bool.{Bool, true, false, cond, not, _&&_, _||_}
+use mathlib.Core.List.{List, [], _∷_, _++_, map}
+use mathlib.Core.Option.{Option, none, some}
+use Prim.Native.Nat.{ℕ, zero, suc, _+_, _-_, _*_, _≤_, _<_}
+use native.Mathlib.Omega.{arith}
+use lib.Dec.{leb, ltb, eqb, eqb→eq}
+use lib.ListN.{length}
+use Rattle.serial.specs.Serial.{true≢false}
+use Rattle.serial.specs.Locks.{Kind, Mode, weak, strong, Table}
+use Rattle.machine.specs.Tree.{pick}
+use Rattle.machine.specs.Holders.{width, holds, count-from, filter, in-the-way, blockers, latch-word, elem, add-latch, latch-blockers}
+use Rattle.machine.specs.State.{Desc, Tree, Stage, start, enter, at, change, take, Request, State, Answer, ok, more, wait, done, refused, Outcome, no-desc, same, or-none, stored, lowest-from, gap-below, descOf}
+use Rattle.machine.specs.Descent.{Sons, at-latch}
+use Rattle.machine.specs.Steps.{rule, answer, ended, goes-on, finished, guarded, entry-blockers, group-blockers, read-step, write-step, entry-step, insert-step, remove-step, change-step, memberships, last-take, take-desc, take-step, root-blockers, root-need, root-splits, whole-root, halved-root, enter-step, level-blockers, level-step, son-at, pin-step, make-step, removable, tidied-state, tidy-step, lowest-step, stand-step, at-step, first-step, next-step, inserted-state, updating-state, removed-state, passed-state, located-state}
+use Rattle.machine.specs.Keeps.{either}
+use Rattle.machine.specs.Model.{eqb-yes, eqb-no}
+
+-- ---- the parties in the way of the next step
+
+unfoldable pub stand-blockers : ℕ → ℕ → (h : ℕ) → Tree (suc h) → List ℕ
+stand-blockers p x zero t = []
+stand-blockers p x (suc h) t = level-blockers p x h (t .sons) (son-at x h (t .sons))
+
+-- Long locks on the entry or the descriptor that the step asks for; latches on the nodes that it locks, drops, joins or takes from.
+unfoldable pub step-blockers : ℕ → Request → State → Stage → List ℕ
+step-blockers p r s start = cond (eqb (r .code) 1) (entry-blockers weak p r s) (cond (leb (r .code) 4) (entry-blockers strong p r s) [])
+step-blockers p r s (enter x) = root-blockers p s
+step-blockers p r s (at x) = at-latch (latch-word p) x [] (stand-blockers p x) (suc (s .root .height)) (s .root .node)
+step-blockers p r s change = group-blockers strong p (descOf (r .first) s)
+step-blockers p r s (take x) = group-blockers weak p (or-none (lowest-from x (stored s)))
+
+-- ---- a step waits exactly if these are not none
+
+abbrev pub waiting : Answer → Bool
+waiting ok = false
+waiting more = false
+waiting (wait ps) = true
+waiting (done ns) = false
+waiting (refused n b) = false
+
+-- With nobody in the way an outcome is no wait; else it is the wait for them, and the state ws it was.
+abbrev pub WaitsFor : State → List ℕ → Outcome → Type 0
+WaitsFor s [] o = waiting (o .answer) ≡ false
+WaitsFor s (b ∷ bs) o = o ≡ answer (wait (b ∷ bs)) s
+
+guard-waits : (bs : List ℕ) (need p : ℕ) (r : Request) (s : State) (o : Outcome) → waiting (o .answer) ≡ false → WaitsFor s bs (guarded bs need p r s o)
+unfolding guarded
+guard-waits [] need p r s o h = either (λ x. waiting (x .answer) ≡ false) (leb need (s .free)) o (answer (refused 11 0) (ended p r s)) h refl
+guard-waits (b ∷ bs) need p r s o h = refl
+
+if-waits : (b : Bool) (s : State) (ws bs : List ℕ) (o q : Outcome) → WaitsFor s ws o → WaitsFor s bs q → WaitsFor s (cond b ws bs) (cond b o q)
+if-waits true s ws bs o q f g = f
+if-waits false s ws bs o q f g = g
+
+-- Writes, inserts and removes ask for the same lock on the entry.
+same-test : (c : ℕ) (s : State) (ws : List ℕ) (o q z : Outcome) → WaitsFor s ws o → WaitsFor s ws q → WaitsFor s [] z
+    → WaitsFor s (cond (leb c 4) ws []) (cond (eqb c 2) o (cond (leb c 4) q z))
+same-test c s ws o q z f g k = go (leb c 4) refl (eqb c 2) refl
+  where
+    go : (b : Bool) → leb c 4 ≡ b → (d : Bool) → eqb c 2 ≡ d → WaitsFor s (cond b ws []) (cond d o (cond b q z))
+    go true e true u = f
+    go true e false u = g
+    go false e true u = absurd (true≢false (subst (λ n. leb n 4 ≡ true) (sym (eqb→eq c 2 (rw u tt))) refl) e)
+    go false e false u = k
+
+first-waits : (p : ℕ) (r : Request) (s : State) → WaitsFor s (step-blockers p r s start) (first-step p r s)
+unfolding step-blockers first-step read-step write-step entry-step goes-on finished
+first-waits p r s =
+    if-waits (eqb (r .code) 1) s (entry-blockers weak p r s) (cond (leb (r .code) 4) (entry-blockers strong p r s) []) (read-step p r s)
+    (cond (eqb (r .code) 2) (write-step p r s) (cond (leb (r .code) 4) (entry-step p r s) (finished p r (0 ∷ 0 ∷ []) s)))
+    (guard-waits (entry-blockers weak p r s) 0 p r s _ refl)
+    (same-test (r .code) s (entry-blockers strong p r s) (write-step p r s) (entry-step p r s) (finished p r (0 ∷ 0 ∷ []) s)
+    (guard-waits (entry-blockers strong p r s) 1 p r s _ refl) (guard-waits (entry-blockers strong p r s) 0 p r s _ refl) refl)
+
+enter-waits : (p : ℕ) (r : Request) (x : ℕ) (s : State) → WaitsFor s (step-blockers p r s (enter x)) (enter-step p r x s)
+unfolding step-blockers enter-step goes-on
+enter-waits p r x s = guard-waits (root-blockers p s) (root-need p s) p r s _ refl
+
+tidy-waits : (p : ℕ) (r : Request) (x : ℕ) (d : Desc) (s : State) → WaitsFor s [] (tidy-step p r x d s)
+unfolding tidy-step finished
+tidy-waits p r x d s =
+    either (λ o. waiting (o .answer) ≡ false) (removable (gap-below x 0 (stored s)) d) (finished p r (x ∷ 1 ∷ []) (tidied-state p x s)) (finished p r (x ∷ 0 ∷ []) s) refl refl
+
+stand-waits : (p : ℕ) (r : Request) (x : ℕ) (s : State) (h : ℕ) (t : Tree (suc h)) → WaitsFor s (stand-blockers p x h t) (stand-step p r x s h t)
+unfolding stand-blockers stand-step lowest-step level-step pin-step make-step goes-on
+stand-waits p r x s zero t =
+    let d = pick x no-desc same (t .sons) in
+    either (λ o. waiting (o .answer) ≡ false) (eqb p 0) (tidy-step p r x d s) (cond (eqb (d .key) x) (pin-step p r x s) (make-step p r x s)) (tidy-waits p r x d s)
+    (either (λ o. waiting (o .answer) ≡ false) (eqb (d .key) x) (pin-step p r x s) (make-step p r x s) refl (guard-waits [] 1 p r s _ refl))
+stand-waits p r x s (suc h) t = guard-waits (level-blockers p x h (t .sons) (son-at x h (t .sons))) _ p r s _ refl
+
+latch-waits : (p : ℕ) (r : Request) (x : ℕ) (s : State) (h : ℕ) (t : Tree h)
+    → WaitsFor s (at-latch (latch-word p) x [] (stand-blockers p x) h t) (at-latch (latch-word p) x (answer more s) (stand-step p r x s) h t)
+unfolding at-latch
+latch-waits p r x s zero t = refl
+latch-waits p r x s (suc h) t =
+    if-waits (eqb (t .latch) (latch-word p)) s (stand-blockers p x h t) (pick x [] (at-latch (latch-word p) x [] (stand-blockers p x) h) (t .sons))
+    (stand-step p r x s h t) (pick x (answer more s) (at-latch (latch-word p) x (answer more s) (stand-step p r x s) h) (t .sons))
+    (stand-waits p r x s h t) (go (t .sons) (latch-waits p r x s h))
+  where
+    go : (es : Sons h) → ((a : Tree h) → WaitsFor s (at-latch (latch-word p) x [] (stand-blockers p x) h a) (at-latch (latch-word p) x (answer more s) (stand-step p r x s) h a))
+        → WaitsFor s (pick x [] (at-latch (latch-word p) x [] (stand-blockers p x) h) es) (pick x (answer more s) (at-latch (latch-word p) x (answer more s) (stand-step p r x s) h) es)
+    go [] f = refl
+    go (e ∷ es) f = if-waits (leb x (e .1)) s (at-latch (latch-word p) x [] (stand-blockers p x) h (e .0)) (pick x [] (at-latch (latch-word p) x [] (stand-blockers p x) h) es)
+        (at-latch (latch-word p) x (answer more s) (stand-step p r x s) h (e .0)) (pick x (answer more s) (at-latch (latch-word p) x (answer more s) (stand-step p r x s) h) es) (f (e .0)) (go es f)
+
+at-waits : (p : ℕ) (r : Request) (x : ℕ) (s : State) → WaitsFor s (step-blockers p r s (at x)) (at-step p r x s)
+unfolding step-blockers at-step
+at-waits p r x s = latch-waits p r x s (suc (s .root .height)) (s .root .node)
+
+change-waits : (p : ℕ) (r : Request) (s : State) → WaitsFor s (step-blockers p r s change) (change-step p r s)
+unfolding step-blockers change-step insert-step remove-step finished
+change-waits p r s =
+    let d = descOf (r .first) s in
+    either (WaitsFor s (group-blockers strong p d)) (eqb (r .code) 3) (insert-step p r d s) (remove-step p r d s)
+    (either (WaitsFor s (group-blockers strong p d)) (elem (r .entry) (d .members)) _ _
+    (guard-waits (group-blockers strong p d) 0 p r s _ refl) (guard-waits (group-blockers strong p d) 2 p r s _ refl))
+    (guard-waits (group-blockers strong p d) 0 p r s _
+    (either (λ o. waiting (o .answer) ≡ false) (elem (r .entry) (d .members)) (finished p r (1 ∷ []) (removed-state p r s)) (finished p r (0 ∷ []) (updating-state p r s)) refl refl))
+
+take-waits : (n p : ℕ) (r : Request) (x : ℕ) (s : State) → WaitsFor s (step-blockers p r s (take x)) (take-step n p r x s)
+unfolding step-blockers take-step take-desc last-take goes-on
+take-waits n p r x s =
+    let d = or-none (lowest-from x (stored s)) in
+    guard-waits (group-blockers weak p d) 0 p r s _
+    (either (λ (o : Outcome). waiting (o .answer) ≡ false) (ltb (d .key) (r .second)) _ _ refl
+    (either (λ (o : Outcome). waiting (o .answer) ≡ false) (leb (2 * length (memberships (r .first) (r .second) (stored s))) n) _ _ refl refl))
+
+-- Every step of every party.
+pub step-waits : (n p : ℕ) (r : Request) (s : State) (g : Stage) → WaitsFor s (step-blockers p r s g) (next-step n p r s g)
+unfolding next-step
+step-waits n p r s start = first-waits p r s
+step-waits n p r s (enter x) = enter-waits p r x s
+step-waits n p r s (at x) = at-waits p r x s
+step-waits n p r s change = change-waits p r s
+step-waits n p r s (take x) = take-waits n p r x s
+
+-- ---- the asker is never in its own way
+
+pub blockers-others : (k : Kind) (m : Mode) (p hw hs : ℕ) → elem p (blockers rule k m p hw hs) ≡ false
+unfolding blockers
+blockers-others k m p hw hs = go (count-from 1 width)
+  where
+    skip : (t : ℕ) (l : List ℕ) → elem p l ≡ false → (b : Bool) → eqb t p ≡ b → (c : Bool) → elem p (cond (not b && c) (t ∷ l) l) ≡ false
+    skip t l h true e c = h
+    skip t l h false e true = rw (eqb-no p t (λ q. true≢false (eqb-yes t p (sym q)) e)) h
+    skip t l h false e false = h
+
+    go : (l : List ℕ) → elem p (filter (in-the-way rule k m p hw hs) l) ≡ false
+    go [] = refl
+    go (t ∷ l) = skip t (filter (in-the-way rule k m p hw hs) l) (go l) (eqb t p) refl ((holds hw t && not (rule k weak m)) || (holds hs t && not (rule k strong m)))
+
+pub latch-others : (p : ℕ) (ws : List ℕ) → elem p (latch-blockers p ws) ≡ false
+unfolding latch-blockers
+latch-others p [] = refl
+latch-others p (w ∷ ws) = add w (latch-blockers p ws) (latch-others p ws) (eqb w 0) refl (eqb w (latch-word p)) refl (elem (w - 1) (latch-blockers p ws))
+  where
+    add : (w : ℕ) (l : List ℕ) → elem p l ≡ false → (a : Bool) → eqb w 0 ≡ a → (b : Bool) → eqb w (latch-word p) ≡ b → (c : Bool) → elem p (cond (a || b || c) l ((w - 1) ∷ l)) ≡ false
+    add w l h true e b f c = h
+    add w l h false e true f c = h
+    add w l h false e false f true = h
+    add w l h false e false f false = rw (eqb-no p (w - 1) (other w e f)) h
+      where
+        other : (v : ℕ) → eqb v 0 ≡ false → eqb v (latch-word p) ≡ false → ¬ (p ≡ v - 1)
+        other zero i j q = true≢false {b = true} refl i
+        other (suc v) i j q = true≢false (eqb-yes (suc v) (latch-word p) (omega (arith, q))) j
+
+stand-others : (p x h : ℕ) (t : Tree (suc h)) → elem p (stand-blockers p x h t) ≡ false
+unfolding stand-blockers
+stand-others p x zero t = refl
+stand-others p x (suc h) t = latch-others p _
+
+at-others : (p x h : ℕ) (t : Tree h) → elem p (at-latch (latch-word p) x [] (stand-blockers p x) h t) ≡ false
+unfolding at-latch
+at-others p x zero t = refl
+at-others p x (suc h) t = either (λ l. elem p l ≡ false) (eqb (t .latch) (latch-word p)) (stand-blockers p x h t)
+    (pick x [] (at-latch (latch-word p) x [] (stand-blockers p x) h) (t .sons)) (stand-others p x h t) (go (t .sons) (at-others p x h))
+  where
+    go : (es : Sons h) → ((a : Tree h) → elem p (at-latch (latch-word p) x [] (stand-blockers p x) h a) ≡ false) → elem p (pick x [] (at-latch (latch-word p) x [] (stand-blockers p x) h) es) ≡ false
+    go [] f = refl
+    go (e ∷ es) f = either (λ l. elem p l ≡ false) (leb x (e .1)) (at-latch (latch-word p) x [] (stand-blockers p x) h (e .0))
+        (pick x [] (at-latch (latch-word p) x [] (stand-blockers p x) h) es) (f (e .0)) (go es f)
+
+pub never-the-asker : (p : ℕ) (r : Request) (s : State) (g : Stage) → elem p (step-blockers p r s g) ≡ false
+unfolding step-blockers entry-blockers group-blockers
+never-the-asker p r s start =
+    either (λ l. elem p l ≡ false) (eqb (r .code) 1) (entry-blockers weak p r s) (cond (leb (r .code) 4) (entry-blockers strong p r s) []) (blockers-others _ weak p _ _)
+    (either (λ l. elem p l ≡ false) (leb (r .code) 4) (entry-blockers strong p r s) [] (blockers-others _ strong p _ _) refl)
+never-the-asker p r s (enter x) = latch-others p _
+never-the-asker p r s (at x) = at-others p x (suc (s .root .height)) (s .root .node)
+never-the-asker p r s change = blockers-others _ strong p _ _
+never-the-asker p r s (take x) = blockers-others _ weak p _ _

@@ -1,0 +1,16 @@
+// The machine: every call of document 01 as one executable definition on states, and what is proved of it.
+//
+// Definitions, to be read in this order: Holders (words of holders, who is in the way), Tree, State, Descent (splits, joins, moves), Steps (one definition
+// for each step), Calls (refusals in order, the six calls), Sound ("Sound means", of a state).
+// Promises: Keeping.keeps (every call from a sound state leaves a sound state), Answers and Ledger (demand 2: answers, holders), Waits and Forward (demand 2: a
+// step waits exactly if a lock is in its way, and otherwise goes forward), Demand3 (demand 3 for every list of calls), Cases and Directed (worked examples).
+// Rests on: `serial` for the logical model and the serial-run theorem, `locks` for the bits of holders words.
+ghost use mathlib.Core.Path.{_≡_};
+ghost use Rattle.machine.specs.Holders.{width};
+
+// How many sessions there are.
+pub fn sessions() -> u32
+    ensures { λ r. ⌜ r ≡ width ⌝ }
+{
+    16
+}
