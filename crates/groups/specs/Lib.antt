@@ -1,0 +1,3 @@
+-- The specifications of the crate groups.
+pub mod Descriptor
+pub mod Membership

@@ -1,0 +1,5 @@
+-- The specifications of the crate nodes.
+pub mod Node
+pub mod Ops
+pub mod Live
+pub mod Entries
