@@ -59,3 +59,7 @@ pub mod Told
 pub mod Waits
 pub mod Demand3
 pub mod Forward
+pub mod Ledger
+pub mod Answers
+pub mod Grows
+pub mod Held
