@@ -1,5 +1,4 @@
 -- Strict two-phase locking gives one run by order of commit: over any model and any footprints.
--- Assumes nothing.
 use mathlib.Core.Path.{_≡_, refl, sym, _∙_, ap, subst}
 use mathlib.Core.Bool.{Bool, true, false}
 use mathlib.Core.List.{List, [], _∷_, _++_, map}
