@@ -4,7 +4,9 @@ pub mod State
 pub mod Descent
 pub mod Steps
 pub mod Calls
+pub mod Rows
 pub mod Cases
+pub mod Directed
 pub mod Gaps
 pub mod Keeps
 pub mod View
