@@ -1,0 +1,24 @@
+// Meaning: what the words of a store and its session table mean, as a state of the machine, and when they are sound.
+//
+// It promises (specs/): `Reading.meaning`, total and executable; `Sound.Sound`, a record with a field for each clause of document 01's "Sound means",
+// whose field `state` says that the meaning is a sound state of the machine. It rests on `machine` for states and on the crates of record kinds for
+// what a record's words say.
+ghost use mathlib.Core.Path.{_≡_};
+ghost use Prim.Native.Nat.{_≤_};
+ghost use Rattle.machine.specs.Calls.{records-for};
+
+// How many records a store of so many words has, for m entries.
+pub fn records_for(m: usize, words: usize) -> usize
+    requires { ⌜ m ≤ 1024 ⌝ }
+    ensures { λ r. ⌜ r ≡ records-for m words ⌝ }
+{
+    let used = 16 + 3 * m;
+    if words < used {
+        return 0;
+    }
+    let r = (words - used) / 20;
+    if 4096 < r {
+        return 4096;
+    }
+    r
+}

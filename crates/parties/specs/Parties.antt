@@ -1,0 +1,40 @@
+-- The whole session table: every party stands right, how many are at a node, and every chain of undo records is in order.
+use mathlib.Core.List.{List}
+use mathlib.Core.Bool.{true, cond}
+use Prim.Native.Nat.{ℕ, zero, suc, _+_, _-_}
+use lib.Dec.{eqb}
+use Rattle.sessions.specs.declared.Session.{Session}
+use Rattle.sessions.specs.Sessions.{parties, session-at}
+use Rattle.marks.specs.Trail.{Turn, turn, thenTurn, Trail, ends, thenTrail}
+use Rattle.undo_chains.specs.UndoChains.{undosFrom}
+use Rattle.standing.specs.Standing.{partyOk}
+
+-- the parties from p on, n of them; their pins are counted
+unfoldable pub partiesFrom : List ℕ → List ℕ → ℕ → ℕ → List Session → List ℕ → ℕ → ℕ → Turn (List ℕ)
+partiesFrom s seen m r t tally p zero = turn true tally
+partiesFrom s seen m r t tally p (suc n) =
+    thenTurn (partyOk s seen m r p (session-at t p) tally) (λ k. partiesFrom s seen m r t k (p + 1) n)
+
+unfoldable pub partiesOk : List ℕ → List ℕ → ℕ → ℕ → List Session → List ℕ → Turn (List ℕ)
+partiesOk s seen m r t tally = partiesFrom s seen m r t tally 0 parties
+
+-- one for a party at a node
+unfoldable pub oneAtNode : Session → ℕ
+oneAtNode s = cond (eqb (s .stage) 3) 1 0
+
+-- how many parties are at a node, from p on, n of them
+unfoldable pub standingFrom : List Session → ℕ → ℕ → ℕ
+standingFrom t p zero = 0
+standingFrom t p (suc n) = oneAtNode (session-at t p) + standingFrom t (p + 1) n
+
+unfoldable pub standingAtNodes : List Session → ℕ
+standingAtNodes t = standingFrom t 0 parties
+
+-- the chains of the sessions from p on, n of them
+unfoldable pub undosOf : List ℕ → ℕ → ℕ → List Session → List ℕ → List ℕ → ℕ → ℕ → ℕ → Trail (List ℕ)
+undosOf s m r t seen f left p zero = ends true left seen f
+undosOf s m r t seen f left p (suc n) =
+    thenTrail (undosFrom s m r p seen f (session-at t p .undo) left) (λ v. undosOf s m r t (v .seen) (v .held) (v .left) (p + 1) n)
+
+unfoldable pub allUndos : List ℕ → ℕ → ℕ → List Session → List ℕ → List ℕ → ℕ → Trail (List ℕ)
+allUndos s m r t seen f left = undosOf s m r t seen f left 1 (parties - 1)

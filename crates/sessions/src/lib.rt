@@ -1,0 +1,32 @@
+// Sessions: the record of the session table that each party has.
+//
+// Party 0 is the housekeeper, 1 to 16 are sessions; record p is party p's. A field that is not in use for the request and stage in hand
+// may have any value. Nothing here says which records are sound. It rests on no other crate.
+
+// How many parties there are: the sessions and the housekeeper.
+pub const PARTIES: usize = 17;
+
+pub struct Session {
+    // Not 0: the session is begun. Unused for party 0.
+    pub begun: u32,
+    // The request in hand, 1 to 6, and its arguments as they were put. In use where the stage is not 0, as all below but undo.
+    pub code: u32,
+    pub entry: u32,
+    pub first: u32,
+    pub second: u32,
+    // 0 no request in hand, 1 start, 2 enter the root, 3 at a node, 4 change, 5 take.
+    pub stage: u32,
+    // Stages 2 and 3: the key that the descent (document 01's walk) goes to; tidy's choice.
+    pub target: u32,
+    // Stage 3: the record of the latched node, and its level from below, 1 where its sons are descriptors.
+    pub at: u32,
+    pub level: u32,
+    // Stages 4 and 5, and a locate's second descent: the record of the pinned descriptor of first.
+    pub low: u32,
+    // Stage 5, where second is not first: the record of the pinned descriptor of second.
+    pub high: u32,
+    // Stage 5: the last key that a locate took, 0 for none.
+    pub last: u32,
+    // The newest undo record (document 01's take-back), 0 for none. Unused for party 0.
+    pub undo: u32,
+}

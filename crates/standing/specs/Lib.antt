@@ -1,0 +1,2 @@
+-- The specifications of the crate standing.
+pub mod Standing

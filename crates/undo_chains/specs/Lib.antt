@@ -1,0 +1,2 @@
+-- The specifications of the crate undo_chains.
+pub mod UndoChains
