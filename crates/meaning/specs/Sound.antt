@@ -92,6 +92,8 @@ pub record Hand (s : List ℕ) (p : ℕ) (x : Session) : Type 0 where
   pub at-node : x .stage ≡ 3 → At-node s p x
   pub low : ¬ (x .stage ≡ 0) → pins-first x ≡ true → x .low ≡ record-of (x .first) (leaves-of s)
   pub high : x .stage ≡ 5 → ¬ (x .first ≡ x .second) → x .high ≡ record-of (x .second) (leaves-of s)
+  -- The last key taken is none, or from first on.
+  pub last : x .stage ≡ 5 → (x .last ≡ 0) ⊎ (x .first ≤ x .last)
 
 -- ---- undo records
 

@@ -1,0 +1,2 @@
+-- The specifications of the crate tree_walk.
+pub mod TreeWalk
