@@ -1,45 +1,34 @@
--- Abort is an event of the lock machine: the take-backs, newest first, put every item back, and the session leaves.
-use mathlib.Core.Path.{_≡_, refl, sym, ap, ap₂, _∙_, subst}
-use mathlib.Core.Bool.{Bool, true, false, cond, not, _&&_, _||_}
-use mathlib.Core.List.{List, [], _∷_, _++_, map}
+-- Abort is an event of the lock machine: the undo records, newest first, put every item back, and the session leaves.
+use mathlib.Core.Path.{_≡_, refl, sym, _∙_, subst, ap}
+use mathlib.Core.Bool.{Bool, true, false, cond}
+use mathlib.Core.List.{List, [], _∷_, map}
 use mathlib.Core.Option.{Option, none, some}
-use Prim.Native.Nat.{ℕ, zero, suc, _+_, _-_, _≤_, _<_}
+use Prim.Native.Nat.{suc, _<_, ℕ}
 use native.Mathlib.Decide.{ℕ-discrete}
-use native.Mathlib.Omega.{arith}
-use lib.Dec.{eqb}
-use lib.ListN.{length, getD, set, length-set}
-use Rattle.serial.specs.Serial.{pick, undo, undo-cong}
+use lib.ListN.{length}
+use Rattle.serial.specs.Serial.{pick, undo-cong, undo}
 use Rattle.serial.specs.Model.{Item, Item-discrete}
-use Rattle.serial.specs.Footprints.{store}
 use Rattle.serial.specs.Model as R
+use Rattle.serial.specs.Footprints.{store}
 use Rattle.serial.specs.Locks.{Kind, Mode, weak, strong}
 use Rattle.serial.specs.Locks as L
-use Rattle.serial.specs.LockMachine.{Store, Aborted}
+use Rattle.serial.specs.LockMachine.{Aborted}
 use Rattle.machine.specs.Holders.{holds, elem}
-use Rattle.machine.specs.State.{Entry, Desc, Stage, start, enter, at, change, take, Request, Undo, value, added, taken, State, idle, entryOf, sessionOf, with-free, on-entry, on-session, on-tree, on-desc, group-desc, with-member, without-member, set-hand, pin-desc}
-use Rattle.machine.specs.Steps.{ended, unpin, unlatch, pinned}
-use Rattle.machine.specs.View.{seen, group-in, locate-word, update-word, log-entry, items, holders, view, Same, same-refl, same-items, same-holders, ended-same}
-use Rattle.machine.specs.Calls.{leave, end-hand, undo-all, aborts}
+use Rattle.machine.specs.State.{Entry, Request, Undo, added, taken, State, entryOf, sessionOf, on-entry, on-tree, on-desc, group-desc, with-member, without-member, value}
+use Rattle.machine.specs.Calls.{end-hand, undo-all, aborts}
 use Rattle.machine.specs.Calls as C
-use Rattle.machine.specs.Model.{Up, eqb-yes, eqb-no}
-use Rattle.machine.specs.Keys.{Kept, elem-with, elem-without-other, elem-without-same}
-use Rattle.machine.specs.Entries.{entry-put, entry-other}
-use Rattle.machine.specs.Changes.{put-locate, put-update, was-update, put-update-other, put-group, was-group, put-group-other}
+use Rattle.machine.specs.View.{log-entry, items, holders, view, Same, same-refl, same-items, same-holders, ended-same, entry-same, frame-holders, frame-items}
+use Rattle.machine.specs.Model.{items-set, Up}
+use Rattle.machine.specs.Table.{session-same}
+use Rattle.machine.specs.Keys.{Kept, elem-without-other, elem-without-same, put-group, was-group, put-group-other, put-words-kept, elem-with-same, elem-with-other}
+use Rattle.machine.specs.Entries.{entry-put, entry-other, entry-cases}
 use Rattle.machine.specs.Ends.{leave-ended, leave-items}
 
--- What a take-back leaves alone, and the one item that it puts back.
+-- What undoing a record leaves alone, and the one item that it puts back.
 pub record Undone (b : Undo) (s t : State) : Type 0 where
   pub table-same : t .table ≡ s .table
   pub holders-same : (l : Kind) (n : Mode) (q z : ℕ) → holders t l n q z ≡ holders s l n q z
   pub put-back : (i : Item) → items t i ≡ undo store (log-entry b ∷ []) (items s) i
-
-key-of : Item → ℕ
-key-of (R.value a) = a
-key-of (R.cell a c) = a
-
-entry-of : Item → ℕ
-entry-of (R.value a) = a
-entry-of (R.cell a c) = c
 
 -- ---- an entry's value
 
@@ -57,25 +46,11 @@ value-undone i v s h = record { table-same = refl; holders-same = hold; put-back
     u = C.undo (value (suc i) v) s
 
     u-entry : (z : ℕ) → entryOf z u ≡ entryOf z t
-    u-entry z = Rattle.machine.specs.View.entry-same t u refl z
-
-    t-share : (z : ℕ) → entryOf z t .share ≡ entryOf z s .share
-    t-share z = go (ℕ-discrete (suc i) z)
-      where
-        go : Dec (suc i ≡ z) → entryOf z t .share ≡ entryOf z s .share
-        go (yes e) = subst (λ y. entryOf y t .share ≡ entryOf y s .share) e (ap (λ x. x .share) (entry-put i f s h))
-        go (no n) = ap (λ x. x .share) (entry-other i z f s n)
-
-    t-exclusive : (z : ℕ) → entryOf z t .exclusive ≡ entryOf z s .exclusive
-    t-exclusive z = go (ℕ-discrete (suc i) z)
-      where
-        go : Dec (suc i ≡ z) → entryOf z t .exclusive ≡ entryOf z s .exclusive
-        go (yes e) = subst (λ y. entryOf y t .exclusive ≡ entryOf y s .exclusive) e (ap (λ x. x .exclusive) (entry-put i f s h))
-        go (no n) = ap (λ x. x .exclusive) (entry-other i z f s n)
+    u-entry z = entry-same t u refl z
 
     hold : (l : Kind) (n : Mode) (q z : ℕ) → holders u l n q z ≡ holders s l n q z
-    hold L.entry weak q z = ap (λ x. holds (x .share) q) (u-entry z) ∙ ap (λ w. holds w q) (t-share z)
-    hold L.entry strong q z = ap (λ x. holds (x .exclusive) q) (u-entry z) ∙ ap (λ w. holds w q) (t-exclusive z)
+    hold L.entry weak q z = ap (λ x. holds (x .share) q) (u-entry z) ∙ entry-cases i f s h (λ y x. holds (x .share) q ≡ holds (entryOf y s .share) q) refl (λ y n. refl) z
+    hold L.entry strong q z = ap (λ x. holds (x .exclusive) q) (u-entry z) ∙ entry-cases i f s h (λ y x. holds (x .exclusive) q ≡ holds (entryOf y s .exclusive) q) refl (λ y n. refl) z
     hold L.group weak q z = refl
     hold L.group strong q z = refl
 
@@ -93,62 +68,28 @@ module _ (k e : ℕ) (s : State) (K : Kept k s) (M : List ℕ → List ℕ) wher
   abbrev mt : State
   mt = on-desc k (group-desc M) s
 
-  mt-update : (z : ℕ) → update-word z (seen mt) ≡ update-word z (seen s)
-  mt-update z = go (ℕ-discrete k z)
-    where
-      go : Dec (k ≡ z) → update-word z (seen mt) ≡ update-word z (seen s)
-      go (yes q) = subst (λ y. update-word y (seen mt) ≡ update-word y (seen s)) q (put-update k s K (group-desc M) refl ∙ sym (was-update k s K (group-desc M) refl))
-      go (no n) = put-update-other k s K (group-desc M) refl z n
-
   pub mt-holders : (l : Kind) (n : Mode) (q z : ℕ) → holders mt l n q z ≡ holders s l n q z
-  unfolding on-tree entryOf
-  mt-holders L.entry weak q zero = refl
-  mt-holders L.entry weak q (suc z) = refl
-  mt-holders L.entry strong q zero = refl
-  mt-holders L.entry strong q (suc z) = refl
-  mt-holders L.group weak q z = ap (λ w. holds w q) (put-locate k s K (group-desc M) refl refl refl z)
-  mt-holders L.group strong q z = ap (λ w. holds w q) (mt-update z)
+  unfolding on-tree
+  mt-holders = frame-holders s mt refl (put-words-kept k s K (group-desc M) refl)
 
   pub mt-items : (b : Bool) → elem e (M (K .d .members)) ≡ b → ((x : ℕ) → ¬ (x ≡ e) → elem x (M (K .d .members)) ≡ elem x (K .d .members))
       → (i : Item) → items mt i ≡ pick (Item-discrete ℕ-discrete (R.cell k e) i) (cond b 1 0) (items s i)
-  unfolding on-tree entryOf
-  mt-items b here there i = go i (Item-discrete ℕ-discrete (R.cell k e) i)
-    where
-      go : (y : Item) (d : Dec (R.cell k e ≡ y)) → items mt y ≡ pick d (cond b 1 0) (items s y)
-      go y (yes q) = subst (λ z. items mt z ≡ cond b 1 0) q (ap (λ g. cond (elem e g) 1 0) (put-group k s K (group-desc M) refl) ∙ ap (λ c. cond c 1 0) here)
-      go (R.value zero) (no n) = refl
-      go (R.value (suc z)) (no n) = refl
-      go (R.cell j x) (no n) = at-key (ℕ-discrete k j)
-        where
-          at-key : Dec (k ≡ j) → items mt (R.cell j x) ≡ items s (R.cell j x)
-          at-key (yes q) = subst (λ z. items mt (R.cell z x) ≡ items s (R.cell z x)) q
-              (ap (λ g. cond (elem x g) 1 0) (put-group k s K (group-desc M) refl) ∙ ap (λ c. cond c 1 0) (there x (λ w. n (ap₂ (λ a c. R.cell a c) q (sym w))))
-              ∙ sym (ap (λ g. cond (elem x g) 1 0) (was-group k s K (group-desc M) refl)))
-          at-key (no m) = ap (λ g. cond (elem x g) 1 0) (put-group-other k s K (group-desc M) refl j m)
+  unfolding on-tree
+  mt-items b here there i = items-set k e b s mt (λ z. ap (λ x. x .value) (entry-same s mt refl z)) (ap (elem e) (put-group k s K (group-desc M) refl) ∙ here)
+      (λ x n. ap (elem x) (put-group k s K (group-desc M) refl) ∙ there x n ∙ sym (ap (elem x) (was-group k s K))) (put-group-other k s K (group-desc M) refl) i
+      (Item-discrete ℕ-discrete (R.cell k e) i)
 
 pub added-undone : (e k : ℕ) (s : State) (K : Kept k s) → Up 1 (K .d .members) → Undone (added e k) s (C.undo (added e k) s)
-unfolding C.undo on-tree entryOf
+unfolding C.undo on-tree
 added-undone e k s K u = record {
   table-same = refl;
-  holders-same = λ l n q z. thru l n q z ∙ mt-holders k e s K (without-member e) l n q z;
-  put-back = λ i. thru-items i ∙ mt-items k e s K (without-member e) false (elem-without-same e 1 (K .d .members) u) (λ x n. elem-without-other x e (K .d .members) n) i;
+  holders-same = λ l n q z. frame-holders t (C.undo (added e k) s) refl refl l n q z ∙ mt-holders k e s K (without-member e) l n q z;
+  put-back = λ i. frame-items t (C.undo (added e k) s) refl refl i
+      ∙ mt-items k e s K (without-member e) false (elem-without-same e 1 (K .d .members) u) (λ x n. elem-without-other x e (K .d .members) n) i;
 }
   where
     t : State
     t = on-desc k (group-desc (without-member e)) s
-
-    thru : (l : Kind) (n : Mode) (q z : ℕ) → holders (C.undo (added e k) s) l n q z ≡ holders t l n q z
-    thru L.entry weak q zero = refl
-    thru L.entry weak q (suc z) = refl
-    thru L.entry strong q zero = refl
-    thru L.entry strong q (suc z) = refl
-    thru L.group weak q z = refl
-    thru L.group strong q z = refl
-
-    thru-items : (i : Item) → items (C.undo (added e k) s) i ≡ items t i
-    thru-items (R.value zero) = refl
-    thru-items (R.value (suc z)) = refl
-    thru-items (R.cell j x) = refl
 
 pub taken-undone : (e k : ℕ) (s : State) (K : Kept k s) → Undone (taken e k) s (C.undo (taken e k) s)
 unfolding C.undo on-tree
@@ -156,13 +97,12 @@ taken-undone e k s K = record {
   table-same = refl;
   holders-same = mt-holders k e s K (with-member e);
   put-back = mt-items k e s K (with-member e) true
-      (elem-with e e (K .d .members) ∙ ap (λ b. b || elem e (K .d .members)) (eqb-yes e e refl))
-      (λ x n. elem-with x e (K .d .members) ∙ ap (λ b. b || elem x (K .d .members)) (eqb-no x e n));
+      (elem-with-same e (K .d .members)) (λ x n. elem-with-other x e (K .d .members) n);
 }
 
 -- ---- the chain
 
--- Each take-back can be undone in its turn.
+-- Each undo record can be undone in its turn.
 pub data Chain : List Undo → State → Type 0 where
   stop : {s : State} → Chain [] s
   next : {b : Undo} {bs : List Undo} {s : State} → Undone b s (C.undo b s) → Chain bs (C.undo b s) → Chain (b ∷ bs) s
@@ -188,11 +128,7 @@ unfolding end-hand
 end-hand-same p none s = same-refl s
 end-hand-same p (some r) s = ended-same p r s
 
-same-seat : (a t : State) → t .table ≡ a .table → (q : ℕ) → sessionOf q t ≡ sessionOf q a
-unfolding sessionOf
-same-seat a t e q = ap (λ l. getD l q idle) e
-
--- Abort: the request ends, the take-backs are undone, and the session leaves.
+-- Abort: the request ends, the undo records are undone, and the session leaves.
 pub abort-aborted : (p : ℕ) (s : State) → p < length (end-hand p (sessionOf p s .hand) s .table) → sessionOf p s .begun ≡ true
     → Chain (sessionOf p s .undos) (end-hand p (sessionOf p s .hand) s) → Aborted p (view s) (view (aborts p s))
 unfolding aborts
@@ -201,7 +137,7 @@ abort-aborted p s h w c =
     let e = end-hand-same p (sessionOf p s .hand) s in
     let t = undo-all (sessionOf p s .undos) a in
     let u = chain-undone (sessionOf p s .undos) a c in
-    let seat : (q : ℕ) → sessionOf q t ≡ sessionOf q a = λ q. same-seat a t (u .table-same) q in
+    let seat : (q : ℕ) → sessionOf q t ≡ sessionOf q a = λ q. session-same a t (u .table-same) q in
     let y = leave-ended p t (subst (λ l. p < length l) (sym (u .table-same)) h) (ap (λ x. x .begun) (seat p) ∙ e .begun-same p ∙ w) in
     record {
       ended = record {

@@ -1,15 +1,15 @@
 -- A lock granted when nobody is in the way keeps the holders in agreement.
-use mathlib.Core.Path.{_≡_, refl, sym, ap, _∙_, subst}
-use mathlib.Core.Bool.{Bool, true, false, cond, not, _&&_, _||_}
-use mathlib.Core.List.{List, [], _∷_}
+use mathlib.Core.Path.{_≡_, refl, sym, _∙_, subst, ap}
+use mathlib.Core.Bool.{Bool, true, false, not, _&&_, _||_}
+use mathlib.Core.List.{[], cons≢nil}
 use mathlib.Core.Logic.{_⊎_, inl, inr}
-use Prim.Native.Nat.{ℕ, zero, suc, _+_, _-_, _≤_, _<_}
+use Prim.Native.Nat.{zero, suc, _+_, _≤_, _<_, ℕ}
 use native.Mathlib.Decide.{ℕ-discrete}
 use native.Mathlib.Omega.{arith}
-use lib.Dec.{eqb, eqb→eq}
-use Rattle.serial.specs.Serial.{true≢false, not-true}
-use Rattle.serial.specs.Locks.{Kind, Mode, weak, strong, Table, lock-rule, Holds, Agree}
+use lib.Dec.{eqb}
+use Rattle.serial.specs.Locks.{Kind, Mode, weak, strong, Holds, Agree}
 use Rattle.serial.specs.Locks as L
+use Rattle.machine.specs.Logic.{neither, not-both, not-false, eqb-no}
 use Rattle.machine.specs.Holders.{width, holds, count-from, filter, in-the-way, blockers}
 use Rattle.machine.specs.Steps.{rule}
 
@@ -56,40 +56,19 @@ filter-none f k zero e t a b = absurd (omega (arith, a, b))
 filter-none f k (suc n) e t a b = go (f k) refl (ℕ-discrete k t) (λ q c. filter-none f (suc k) n q t c (omega (arith, b)))
   where
     go : (c : Bool) → f k ≡ c → Dec (k ≡ t) → (filter f (count-from (suc k) n) ≡ [] → suc k ≤ t → f t ≡ false) → f t ≡ false
-    go true q d ih = absurd (cons-nil (rw q at e))
-      where
-        cons-nil : k ∷ filter f (count-from (suc k) n) ≡ [] → ⊥
-        cons-nil z = true≢false {b = true} refl (ap {B = Bool} (λ l. mathlib.Core.Bool.not (Rattle.machine.specs.Steps.is-empty l)) z)
+    go true q d ih = absurd (cons≢nil (rw q at e))
     go false q (yes d) ih = ap f (sym d) ∙ q
     go false q (no d) ih = ih (rw q at e) (omega (arith, a, d))
-
-or-left : (a b : Bool) → (a || b) ≡ false → a ≡ false
-or-left true b e = e
-or-left false b e = refl
-
-or-right : (a b : Bool) → (a || b) ≡ false → b ≡ false
-or-right true b e = absurd (true≢false {b = true} refl e)
-or-right false b e = e
-
-and-held : (a b : Bool) → a ≡ true → (a && not b) ≡ false → b ≡ true
-and-held true true p e = refl
-and-held true false p e = absurd (true≢false {b = true} refl e)
-and-held false b p e = absurd (true≢false p refl)
-
-not-self : (a b : ℕ) (c : Bool) → ¬ (a ≡ b) → (not (eqb a b) && c) ≡ false → c ≡ false
-not-self a b c n e = go (eqb a b) refl e
-  where
-    go : (x : Bool) → eqb a b ≡ x → (not x && c) ≡ false → c ≡ false
-    go true q z = absurd (n (eqb→eq a b (rw q tt)))
-    go false q z = z
 
 -- No blockers: whoever else holds, agrees.
 pub unblocked : (k : Kind) (m : Mode) (p hw hs : ℕ) → blockers rule k m p hw hs ≡ [] → (q : ℕ) → 1 ≤ q → q ≤ width → ¬ (p ≡ q)
     → (holds hw q ≡ true → rule k weak m ≡ true) × (holds hs q ≡ true → rule k strong m ≡ true)
 unfolding blockers
-unblocked k m p hw hs e q a b n =
-    let c : Bool = (holds hw q && not (rule k weak m)) || (holds hs q && not (rule k strong m)) in
-    let f : c ≡ false = not-self q p c (λ z. n (sym z)) (filter-none (in-the-way rule k m p hw hs) 1 16 e q a (omega (arith, b))) in (
-      (λ h. and-held (holds hw q) (rule k weak m) h (or-left (holds hw q && not (rule k weak m)) (holds hs q && not (rule k strong m)) f)),
-      (λ h. and-held (holds hs q) (rule k strong m) h (or-right (holds hw q && not (rule k weak m)) (holds hs q && not (rule k strong m)) f)),
+unblocked k m p hw hs e q a b ne =
+    let c : Bool = holds hw q && not (rule k weak m) in
+    let d : Bool = holds hs q && not (rule k strong m) in
+    let i : not (eqb q p) ≡ true = ap not (eqb-no q p (λ z. ne (sym z))) in
+    let n = neither c d (not-both (not (eqb q p)) (c || d) i (filter-none (in-the-way rule k m p hw hs) 1 16 e q a (omega (arith, b)))) in (
+      (λ h. not-false (rule k weak m) (not-both (holds hw q) (not (rule k weak m)) h (n .0))),
+      (λ h. not-false (rule k strong m) (not-both (holds hs q) (not (rule k strong m)) h (n .1))),
     )

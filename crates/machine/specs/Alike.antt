@@ -1,21 +1,24 @@
 -- Changes in place: a descriptor's words, latches, requests in hand. The tree keeps its shape, and every record its place.
-use mathlib.Core.Path.{_≡_, refl, ap, ap₂, sym, _∙_, subst}
+use mathlib.Core.Path.{_≡_, refl, ap₂, sym, _∙_, subst, ap}
 use mathlib.Core.List.{List, [], _∷_, _++_}
 use mathlib.Core.Option.{Option, none, some}
-use Prim.Native.Nat.{ℕ, zero, suc, _+_, _-_, _≤_, _<_}
+use Prim.Native.Nat.{zero, suc, _+_, _-_, _≤_, ℕ}
 use native.Mathlib.Omega.{arith}
 use lib.Dec.{leb, eqb}
-use lib.ListN.{length, length-append, getD, set}
-use Rattle.machine.specs.Tree.{onp, flat, mapE, sumE, Seg, leaves}
+use lib.ListN.{length, length-append}
+use Rattle.machine.specs.Logic.{either}
 use Rattle.machine.specs.Holders.{latch-word}
-use Rattle.machine.specs.State.{Entry, Desc, Tree, Stage, start, enter, at, change, take, Request, Undo, State, top, idle, sessionOf, on-entry, on-session, on-tree, on-leaf, on-leaves, on-desc, pin-desc, set-hand, in-stage, add-undo}
-use Rattle.machine.specs.Descent.{Sons, node, sons-of, on-latch, unlatched}
+use Rattle.machine.specs.Tree.{onp, flat, mapE, sumE, Seg, leaves}
+use Rattle.machine.specs.State.{Entry, Desc, Tree, Stage, start, enter, change, take, Request, State, top, on-entry, on-session, on-tree, on-leaf, on-leaves, on-desc, pin-desc, set-hand, in-stage, at}
+use Rattle.machine.specs.Descent.{Sons, sons-of, on-latch, unlatched, node}
 use Rattle.machine.specs.Steps.{unpin, unlatch, pinned, ended, goes-on, finished}
-use Rattle.machine.specs.Keeps.{either, under, under-on-lock, under-unlocked, under-on-leaf}
+use Rattle.machine.specs.Sound.{nodes, members-many, records-used, LowestEnds, EndsWell, Shaped, Formed}
+use Rattle.machine.specs.Keeps.{under, under-on-latch, under-unlatched, under-on-leaf}
 use Rattle.machine.specs.Order.{lv}
 use Rattle.machine.specs.Housekeeping.{lvs}
 use Rattle.machine.specs.Keys.{Kept}
-use Rattle.machine.specs.Sound.{total, nodes, members-many, undos-many, records-used, LowestEnds, EndsWell, Shaped, Formed}
+use Rattle.machine.specs.Totals.{total-append, hand-undos}
+use Rattle.machine.specs.Looks.{put-members}
 
 -- ---- sons, one for one
 
@@ -156,10 +159,6 @@ unlatched-alike h t = alike-latch h 0 t
 
 -- ---- members
 
-pub total-append : {A : Type 0} (m : A → ℕ) (a b : List A) → total m (a ++ b) ≡ total m a + total m b
-total-append m [] b = omega arith
-total-append m (x ∷ a) b = omega (arith, total-append m a b)
-
 -- They are read from left to right.
 pub members-under : (h : ℕ) (t : Tree h) → members-many (lv h t) ≡ length (under (λ d. d .members) h t)
 unfolding leaves under
@@ -216,14 +215,7 @@ module _ (f : Desc → Desc) (k : (d : Desc) → f d .key ≡ d .key) where
   unfolding on-tree
   on-desc-used x s K =
       let A = leaf-alike f k x (suc (s .root .height)) (s .root .node) in
-      let m : Desc → ℕ = λ d. length (d .members) in
-      omega (
-        arith,
-        A .nodes-same,
-        A .many,
-        ap members-many (K .put f) ∙ total-append m (K .A) (f (K .d) ∷ K .B),
-        ap members-many (K .was) ∙ total-append m (K .A) (K .d ∷ K .B),
-      )
+      omega (arith, A .nodes-same, A .many, put-members x s K f)
 
 pub unlatch-formed : (p : ℕ) (g : Stage) (s : State) → Formed s → Formed (unlatch p g s)
 unfolding unlatch on-tree
@@ -234,7 +226,7 @@ unlatch-formed p (at x) s F =
     let t = s .root .node in
     let f = on-latch (latch-word p) x unlatched in
     tree-formed f s (latch-alike (latch-word p) x unlatched unlatched-alike h t)
-    (members-same h t (f h t) (under-on-lock (λ d. d .members) (latch-word p) x unlatched (under-unlocked (λ d. d .members)) h t)) F
+    (members-same h t (f h t) (under-on-latch (λ d. d .members) (latch-word p) x unlatched (under-unlatched (λ d. d .members)) h t)) F
 unlatch-formed p change s F = F
 unlatch-formed p (take x) s F = F
 
@@ -247,29 +239,9 @@ unpin-formed (k ∷ ks) s F =
 
 -- ---- the session table
 
-pub total-set : {A : Type 0} (m : A → ℕ) (f : A → A) → ((a : A) → m (f a) ≡ m a) → (z : A) (l : List A) (p : ℕ) → total m (set l p (f (getD l p z))) ≡ total m l
-total-set m f e z [] p = refl
-total-set m f e z (a ∷ l) zero = ap (λ n. n + total m l) (e a)
-total-set m f e z (a ∷ l) (suc p) = ap (λ n. m a + n) (total-set m f e z l p)
-
-pub total-put : {A : Type 0} (m : A → ℕ) (v z : A) (l : List A) (p : ℕ) → p < length l → total m (set l p v) + m (getD l p z) ≡ total m l + m v
-total-put m v z [] p le = absurd (omega (arith, le))
-total-put m v z (a ∷ l) zero le = omega arith
-total-put m v z (a ∷ l) (suc p) le = omega (arith, total-put m v z l p (omega (arith, le)))
-
 pub hand-formed : (p : ℕ) (r : Option Request) (s : State) → Formed s → Formed (set-hand p r s)
-unfolding set-hand on-session sessionOf
-hand-formed p r s F = record {
-  shaped = F .shaped;
-  counted = omega (arith, F .counted, total-set (λ t. length (t .undos)) (λ t. record { begun = t .begun; hand = r; undos = t .undos }) (λ t. refl) idle (s .table) p);
-}
-
--- One more undo record of a party in the table.
-pub undos-added : (p : ℕ) (b : Undo) (s : State) → p < length (s .table) → undos-many (add-undo p b s .table) ≡ suc (undos-many (s .table))
-unfolding add-undo on-session sessionOf
-undos-added p b s le =
-    let t = getD (s .table) p idle in
-    omega (arith, total-put (λ t. length (t .undos)) (record { begun = t .begun; hand = t .hand; undos = b ∷ t .undos }) idle (s .table) p le)
+unfolding set-hand on-session
+hand-formed p r s F = record { shaped = F .shaped; counted = omega (arith, F .counted, hand-undos p r s) }
 
 pub on-entry-formed : (e : ℕ) (f : Entry → Entry) (s : State) → Formed s → Formed (on-entry e f s)
 unfolding on-entry

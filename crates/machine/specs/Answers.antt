@@ -1,40 +1,39 @@
 -- Demand 2, answers: a step that is done answers, writes and changes as the logical model does with this request. No other call changes a value or
 -- a membership but abort, which undoes, and format, which starts anew; nothing but a locate that is done writes the lent list.
-use mathlib.Core.Path.{_≡_, refl, sym, ap, _∙_, subst}
+use mathlib.Core.Path.{_≡_, refl, sym, _∙_, subst, ap}
 use mathlib.Core.Bool.{Bool, true, false, cond, not, _&&_}
 use mathlib.Core.List.{List, [], _∷_, map}
-use mathlib.Core.Option.{Option, none, some}
-use Prim.Native.Nat.{ℕ, zero, suc, _*_, _≤_, _<_}
+use mathlib.Core.Option.{Option, none, some, Option·some-injective}
+use Prim.Native.Nat.{zero, suc, _*_, _≤_, _<_, ℕ}
 use native.Mathlib.Omega.{arith}
-use lib.Dec.{leb, ltb, eqb, leb→le, nleb→lt}
+use lib.Dec.{leb, ltb, eqb}
 use lib.ListN.{length}
 use Rattle.serial.specs.Serial.{true≢false, undo}
 use Rattle.serial.specs.Rising.{rising-ext}
-use Rattle.serial.specs.Model.{Item, Req, Db, Pair, by-key, get, ans, eff, two-words, empty}
+use Rattle.serial.specs.Model.{Item, Req, Pair, by-key, get, ans, eff, two-words, empty, Db}
 use Rattle.serial.specs.Model as R
 use Rattle.serial.specs.Footprints.{Good, store, eff-good, ans-local, eff-local}
 use Rattle.serial.specs.LockMachine.{get-empty}
-use Rattle.machine.specs.Tree.{pick}
+use Rattle.machine.specs.Logic.{eqb-yes, leb-is, leb-not, either}
 use Rattle.machine.specs.Holders.{latch-word, elem}
-use Rattle.machine.specs.State.{Desc, Tree, Stage, start, enter, at, change, take, Request, State, Answer, ok, more, wait, done, refused, Outcome, no-desc, same, or-none, sessionOf, stored, lowest-from, gap-below, descOf, set-hand, in-stage, fresh}
-use Rattle.machine.specs.Descent.{Sons, at-latch}
-use Rattle.machine.specs.Keeps.{either}
-use Rattle.machine.specs.Steps.{answer, ended, goes-on, finished, guarded, read-step, write-step, entry-step, insert-step, remove-step, change-step, memberships, last-take, take-desc, take-step, enter-step, level-step, pin-step, make-step, removable, tidied-state, updating-state, inserted-state, removed-state, located-state, tidy-step, lowest-step, stand-step, at-step, first-step, next-step}
-use Rattle.machine.specs.Descents.{guard-cases}
+use Rattle.machine.specs.Tree.{pick}
+use Rattle.machine.specs.State.{Desc, Tree, Stage, start, enter, take, State, Answer, more, wait, done, refused, Outcome, no-desc, same, or-none, sessionOf, stored, lowest-from, gap-below, descOf, set-hand, in-stage, fresh, Request, ok, at, change}
+use Rattle.machine.specs.Steps.{ended, goes-on, finished, guarded, read-step, write-step, entry-step, insert-step, remove-step, change-step, memberships, last-take, take-desc, take-step, enter-step, level-step, pin-step, make-step, removable, tidied-state, updating-state, inserted-state, removed-state, located-state, tidy-step, lowest-step, stand-step, at-step, first-step, next-step, answer}
 use Rattle.machine.specs.Calls.{Call, format, begin, put, step, commit, abort, call, put-checks, step-checks, begin-checks, commit-checks, abort-checks, format-checks, accepted, begins, commits, aborts, steps, records-for}
 use Rattle.machine.specs.View.{log-entry, items}
-use Rattle.machine.specs.Housekeeping.{lvs}
-use Rattle.machine.specs.Model.{model, model-good, model-is, memberships-are, eqb-yes}
+use Rattle.machine.specs.Model.{model-is, memberships-are, model, model-good}
 use Rattle.machine.specs.Sound.{Sound, Stands, of-hand}
+use Rattle.machine.specs.Descents.{guard-cases, latch-cases}
+use Rattle.machine.specs.Housekeeping.{lvs}
+use Rattle.machine.specs.Checks.{refusing-cases, refusing-numbers}
 use Rattle.machine.specs.Looks.{fit-of}
+use Rattle.machine.specs.Keeping.{keeps}
 use Rattle.machine.specs.Events.{Does, unseen, locks, finishes, unfinished}
 use Rattle.machine.specs.Session.{req-of}
-use Rattle.machine.specs.Moves.{Safe, Moves, quiet, tidied, began, committed, aborted, stepped, formatted, halted, refusing-cases, moves}
-use Rattle.machine.specs.Demand.{fresh-formatted}
-use Rattle.machine.specs.Told.{refusing-numbers}
-use Rattle.machine.specs.Ledger.{is-ok}
+use Rattle.machine.specs.Moves.{Moves, quiet, tidied, began, committed, aborted, stepped, formatted, halted, moves}
 use Rattle.machine.specs.Safety.{safe-of}
-use Rattle.machine.specs.Keeping.{keeps}
+use Rattle.machine.specs.Ledger.{is-ok}
+use Rattle.machine.specs.Demand.{fresh-formatted}
 
 -- ---- the logical part of a state
 
@@ -109,15 +108,9 @@ module _ (P : Outcome → Type 0) (p : ℕ) (r : Request) (s : State) (plain : (
   stand-plain x zero t = lowest-plain x (pick x no-desc same (t .sons))
   stand-plain x (suc h) t = guard-plain _ _ _ (goes-plain _ _)
 
-  latch-plain : (x h : ℕ) (t : Tree h) → P (at-latch (latch-word p) x (answer more s) (stand-step p r x s) h t)
-  unfolding at-latch
-  latch-plain x zero t = plain more s refl
-  latch-plain x (suc h) t = either P (eqb (t .latch) (latch-word p)) (stand-step p r x s h t) _ (stand-plain x h t) (go (t .sons) (latch-plain x h))
-    where
-      go : (es : Sons h) → ((a : Tree h) → P (at-latch (latch-word p) x (answer more s) (stand-step p r x s) h a))
-          → P (pick x (answer more s) (at-latch (latch-word p) x (answer more s) (stand-step p r x s) h) es)
-      go [] f = plain more s refl
-      go (e ∷ es) f = either P (leb x (e .1)) (at-latch (latch-word p) x (answer more s) (stand-step p r x s) h (e .0)) _ (f (e .0)) (go es f)
+  at-plain : (x : ℕ) → P (at-step p r x s)
+  unfolding at-step
+  at-plain x = latch-cases P (latch-word p) x (answer more s) (stand-step p r x s) (suc (s .root .height)) (s .root .node) (plain more s refl) (stand-plain x)
 
   change-plain : P (change-step p r s)
   unfolding change-step insert-step remove-step
@@ -142,16 +135,16 @@ module _ (P : Outcome → Type 0) (p : ℕ) (r : Request) (s : State) (plain : (
 
       go : (b : Bool) → leb (2 * length found) n ≡ b
           → P (cond b (record { answer = done (length found ∷ []); next = t; written = found }) (answer (refused 12 (length found)) (ended p r s)))
-      go true e = fits t (leb→le (2 * length found) n (rw e tt))
-      go false e = short (ended p r s) (nleb→lt (2 * length found) n (rw e tt))
+      go true e = fits t (leb-is (2 * length found) n e)
+      go false e = short (ended p r s) (leb-not (2 * length found) n e)
 
   -- By the stage: only a locate takes descriptors.
   step-cases : (n : ℕ) (g : Stage) → Stands p s r g → (r .code ≡ 5 → (t : State) → 2 * length found ≤ n → P (record { answer = done (length found ∷ []); next = t; written = found }))
       → (r .code ≡ 5 → (t : State) → n < 2 * length found → P (answer (refused 12 (length found)) t)) → P (next-step n p r s g)
-  unfolding next-step at-step
+  unfolding next-step
   step-cases n start h fits short = first-plain
   step-cases n (enter x) h fits short = enter-plain x
-  step-cases n (at x) h fits short = latch-plain x (suc (s .root .height)) (s .root .node)
+  step-cases n (at x) h fits short = at-plain x
   step-cases n change h fits short = change-plain
   step-cases n (take x) h fits short = take-cases n x (fits (h .code-5)) (short (h .code-5))
 
@@ -200,9 +193,6 @@ pub written-fits : (p n : ℕ) (s : State) → Sound s → 2 * length (call (ste
 written-fits p n s S = call-cases (λ o. 2 * length (o .written) ≤ n) p n s S (λ a t h. omega arith) (λ r h c t w. w) (λ r h c t w. omega arith)
 
 -- ---- demand 2, answers
-
-pub some-same : {A : Type 0} {a b : A} → some a ≡ some b → a ≡ b
-some-same e = cc
 
 -- A request q that is done with these numbers.
 pub record Answered (q : Req) (s : State) (o : Outcome) (ns : List ℕ) : Type 0 where
@@ -311,7 +301,7 @@ module _ (s : State) (S : Sound s) (m n : ℕ) (r : Request) (hand : sessionOf (
 
   moves-model : Moves s o (step (suc m) n) → AsModel (req-of r) s o (o .answer)
   moves-model (quiet d u x) = quiet-step u (x .db-kept)
-  moves-model (stepped k l q e d) = does-model (subst (λ z. Does (suc m) (req-of z) s o) (some-same (sym e ∙ hand)) d)
+  moves-model (stepped k l q e d) = does-model (subst (λ z. Does (suc m) (req-of z) s o) (Option·some-injective q r (sym e ∙ hand)) d)
 
 -- A step of a session, whose request in hand is r; n words of list are lent.
 pub answers-as-model : (s : State) → Sound s → (m n : ℕ) (r : Request) → sessionOf (suc m) s .hand ≡ some r

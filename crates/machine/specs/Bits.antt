@@ -1,9 +1,9 @@
 -- Holders words: who comes to hold, who leaves, and nobody else.
-use mathlib.Core.Path.{_≡_, sym, ap, _∙_}
+use mathlib.Core.Path.{_≡_, sym, _∙_, ap}
 use mathlib.Core.Bool.{true}
-use Prim.Native.Nat.{ℕ, zero, suc}
+use Prim.Native.Nat.{zero, suc, ℕ}
 use Rattle.machine.specs.Holders.{holds, held-by}
-pub use Rattle.locks.specs.Bits.{held-same, held-other, left-same, left-other}
+pub use Rattle.locks.specs.Bits.{held-same, held-other, left-same, left-other, left-le, holds-none}
 
 pub held-more : (p q w : ℕ) → Dec (p ≡ q) → holds w q ≡ true → holds (held-by p w) q ≡ true
 held-more zero q w d h = h

@@ -1,14 +1,14 @@
 -- The six calls: the refusals of each in order, and what an accepted call does (document 01, "Refusals", "Steps").
 -- Refusals 1 and 2 are of the words of store and table: a state is sound and has its 17 sessions.
 use mathlib.Core.Bool.{Bool, true, false, cond, not, _&&_, _||_}
-use mathlib.Core.List.{List, [], _∷_, _++_, map}
+use mathlib.Core.List.{List, [], _∷_, map}
 use mathlib.Core.Option.{Option, none, some}
-use Prim.Native.Nat.{ℕ, zero, suc, _+_, _-_, _*_, _/_, min}
+use Prim.Native.Nat.{suc, _+_, _-_, _*_, _/_, min, ℕ}
 use lib.Dec.{leb, ltb, eqb}
 use lib.ListN.{length}
 use Rattle.machine.specs.Holders.{width, left-by}
-use Rattle.machine.specs.State.{Entry, Desc, Tree, Stage, start, enter, Request, Undo, value, added, taken, Session, State, Answer, ok, more, refused, Outcome, top, idle, sessionOf, stored, lowest-from, with-entries, with-free, on-entry, on-session, on-tree, on-leaves, on-desc, hold-desc, group-desc, with-member, without-member, set-hand, fresh}
-use Rattle.machine.specs.Steps.{answer, ended, next-step}
+use Rattle.machine.specs.State.{Entry, Desc, Stage, start, enter, Request, Undo, added, taken, State, Answer, more, refused, Outcome, top, idle, sessionOf, stored, lowest-from, with-entries, with-free, on-entry, on-session, on-tree, on-leaves, on-desc, hold-desc, group-desc, with-member, without-member, set-hand, fresh, value, ok}
+use Rattle.machine.specs.Steps.{ended, next-step, answer}
 
 pub data Call : Type 0 where
   -- M, and how many words the store has.
@@ -104,7 +104,7 @@ leave p s =
     on-session p (λ _. idle)
     (on-tree (on-leaves (hold-desc (left-by p) (left-by p) (left-by p))) (with-entries (map (entry-left p) (s .entries)) s))
 
--- One take-back: the value again; the added one out; the one taken out in again.
+-- One undo record undone: the value again; the added one out; the one taken out in again.
 unfoldable pub undo : Undo → State → State
 undo (value e v) s = with-free (s .free + 1) (on-entry e (λ x. record { value = v; share = x .share; exclusive = x .exclusive }) s)
 undo (added e k) s = with-free (s .free + 2) (on-desc k (group-desc (without-member e)) s)

@@ -1,27 +1,29 @@
 -- A step that changes the tree, but nothing that is read at entries and keys save pins, and then its own request in hand: it keeps what is read at keys,
 -- entries and the session table.
-use mathlib.Core.Path.{_≡_, refl, sym, ap, _∙_, subst}
-use mathlib.Core.Bool.{Bool, true, false, cond}
+use mathlib.Core.Path.{_≡_, refl, sym, _∙_, subst, ap}
+use mathlib.Core.Bool.{true, false}
 use mathlib.Core.List.{List, [], _∷_, map}
 use mathlib.Core.Logic.{_⊎_, inl, inr}
 use mathlib.Core.Option.{Option, none, some, Option·none-ne-some, Option·some-injective}
-use Prim.Native.Nat.{ℕ, zero, suc, _+_, _<_}
+use Prim.Native.Nat.{_+_, _<_, ℕ}
 use native.Mathlib.Decide.{ℕ-discrete}
 use native.Mathlib.Omega.{arith}
-use lib.Dec.{eqb}
-use lib.ListN.{length, getD}
+use lib.ListN.{length}
 use Rattle.serial.specs.Serial.{true≢false}
 use Rattle.serial.specs.Locks.{Kind, Mode}
 use Rattle.machine.specs.Holders.{holds, elem}
-use Rattle.machine.specs.State.{Desc, Stage, start, enter, at, change, take, Request, State, top, idle, sessionOf, on-session, set-hand, in-stage}
+use Rattle.machine.specs.State.{Desc, Stage, start, enter, change, take, Request, State, top, sessionOf, on-session, set-hand, in-stage, at}
 use Rattle.machine.specs.Steps.{pinned, goes-on}
 use Rattle.machine.specs.Calls.{request-checks}
 use Rattle.machine.specs.View.{plain, seen, holders, update-word, Same, same-refl, set-hand-same}
-use Rattle.machine.specs.Housekeeping.{Like, same-like, like-trans, like-unseen, lvs, seen-plain, seen-group}
-use Rattle.machine.specs.Sound.{gap-word, stored-in, pins-in, total, ListedTo, of-hand, times, pins-by, Passes, Changing, Descends, to-change, to-first, to-second, to-choice, Stands, Undoable, cells, Keyed}
+use Rattle.machine.specs.Sound.{gap-word, stored-in, pins-in, total, ListedTo, of-hand, times, pins-by, Passes, Changing, Descends, to-change, to-first, to-choice, Stands, Undoable, cells, Keyed, to-second}
 use Rattle.machine.specs.Effect.{Effect}
-use Rattle.machine.specs.Looks.{with-hand, hand-put, hand-other, hand-many, hand-pins, hand-seat}
-use Rattle.machine.specs.Effects.{checks-kept, Remains, stands-kept, undoable-kept, keyed-after}
+use Rattle.machine.specs.Table.{with-hand, hand-put, hand-other, hand-many, hand-seat, session-same}
+use Rattle.machine.specs.Housekeeping.{Like, same-like, like-trans, like-unseen, lvs, seen-plain, seen-group}
+use Rattle.machine.specs.Totals.{hand-pins}
+use Rattle.machine.specs.Checks.{checks-kept}
+use Rattle.machine.specs.Looks.{stored-map, listed-map, begun-of}
+use Rattle.machine.specs.Effects.{Remains, stands-kept, undoable-kept, keyed-after}
 
 -- ---- the tree
 
@@ -49,25 +51,15 @@ calm-refl p s K = record {
   listed = K .listed;
 }
 
--- What is seen of descriptors tells which keys are stored and what members are listed.
-stored-plain : (k : ℕ) (l : List Desc) → stored-in k (map plain l) ≡ stored-in k l
-unfolding stored-in
-stored-plain k [] = refl
-stored-plain k (d ∷ l) = ap (λ b. cond (eqb (d .key) k) true b) (stored-plain k l)
-
-to-plain : (m : ℕ) (l : List Desc) → ListedTo m l → ListedTo m (map plain l)
-to-plain m [] u = tt
-to-plain m (d ∷ l) u = (u .0, to-plain m l (u .1))
-
 from-plain : (m : ℕ) (l : List Desc) → ListedTo m (map plain l) → ListedTo m l
 from-plain m [] u = tt
 from-plain m (d ∷ l) u = (u .0, from-plain m l (u .1))
 
 pub stored-seen : (k : ℕ) (s t : State) → seen t ≡ seen s → stored-in k (lvs t) ≡ stored-in k (lvs s)
-stored-seen k s t e = sym (stored-plain k (lvs t)) ∙ ap (stored-in k) (sym (seen-plain t) ∙ e ∙ seen-plain s) ∙ stored-plain k (lvs s)
+stored-seen k s t e = sym (stored-map plain (λ d. refl) k (lvs t)) ∙ ap (stored-in k) (sym (seen-plain t) ∙ e ∙ seen-plain s) ∙ stored-map plain (λ d. refl) k (lvs s)
 
 pub listed-seen : (m : ℕ) (s t : State) → seen t ≡ seen s → ListedTo m (lvs s) → ListedTo m (lvs t)
-listed-seen m s t e u = from-plain m (lvs t) (subst (ListedTo m) (sym (seen-plain s) ∙ sym e ∙ seen-plain t) (to-plain m (lvs s) u))
+listed-seen m s t e u = from-plain m (lvs t) (subst (ListedTo m) (sym (seen-plain s) ∙ sym e ∙ seen-plain t) (listed-map plain (λ d. refl) m (lvs s) u))
 
 pub calm-then : (p : ℕ) (s v w : State) → Calm p s v → Same v w → w .table ≡ v .table → w .records ≡ v .records → Calm p s w
 calm-then p s v w C h e f = record {
@@ -108,8 +100,7 @@ module _ (p : ℕ) (s v : State) (r : Request) (h : Option Request) (K : Keyed s
   t-leaves = refl
 
   v-session : (q : ℕ) → sessionOf q v ≡ sessionOf q s
-  unfolding sessionOf
-  v-session q = ap (λ l. getD l q idle) (C .table-same)
+  v-session = session-same s v (C .table-same)
 
   seat : p < length (v .table)
   seat = hand-seat p r v (ap (λ x. x .hand) (v-session p) ∙ e)
@@ -146,15 +137,6 @@ module _ (p : ℕ) (s v : State) (r : Request) (h : Option Request) (K : Keyed s
       go z q (inl w) = w
       go z q (inr w) = keeps (w .0) z q
 
-  begun-now : ¬ (p ≡ 0) → sessionOf p s .begun ≡ true
-  begun-now n = go p n e (λ m b. K .unbegun-hand m b) (sessionOf p s .begun) refl
-    where
-      go : (q : ℕ) → ¬ (q ≡ 0) → sessionOf q s .hand ≡ some r → ((m : ℕ) → sessionOf (suc m) s .begun ≡ false → sessionOf (suc m) s .hand ≡ none)
-          → (b : Bool) → sessionOf q s .begun ≡ b → b ≡ true
-      go q n e f true b = refl
-      go zero n e f false b = absurd (n refl)
-      go (suc m) n e f false b = absurd (Option·none-ne-some r (sym (f m b) ∙ e))
-
   own-undos : Undoable p t (sessionOf p t .undos) (cells t)
   own-undos = subst (λ x. Undoable p t (x .undos) (cells t)) (sym t-session) (go (ℕ-discrete p 0))
     where
@@ -182,7 +164,7 @@ module _ (p : ℕ) (s v : State) (r : Request) (h : Option Request) (K : Keyed s
     pins-match = λ k. t-pins k (pins k);
     holds-begun = λ k m z q. t-like .begun-same p ∙ K .only-begun k m p z (sym (held-same k m p z) ∙ q);
     gaps-begun = λ z q. t-like .begun-same p ∙ K .only-begun-gaps p z (sym (ap (λ w. holds w p) (gap-kept z)) ∙ q);
-    hand-begun = λ n b. absurd (true≢false (begun-now n) (sym (t-like .begun-same p) ∙ b));
+    hand-begun = λ n b. absurd (true≢false (begun-of s (K .unbegun-hand) p r e n) (sym (t-like .begun-same p) ∙ b));
     undos-begun = λ b. t-like .undos-same p ∙ K .unbegun-undos p (sym (t-like .begun-same p) ∙ b);
     zero-unmarked = λ z. t-like .begun-same p ∙ subst (λ q. sessionOf q s .begun ≡ false) (sym z) (K .zero-unmarked);
     checked = λ o q. checks-kept p (o .code) (o .entry) (o .first) (o .second) s t (ap length (t-like .entries-same)) (fine o (sym t-hand ∙ q) .0);

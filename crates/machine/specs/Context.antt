@@ -1,10 +1,9 @@
 -- A tree with a hole: the node at which a party stands, and what lies around it.
 use mathlib.Core.Path.{_≡_}
-use mathlib.Core.List.{List, [], _∷_, _++_}
-use mathlib.Core.Logic.{_⊎_}
-use Prim.Native.Nat.{ℕ, zero, suc, _+_, _≤_, _<_}
-use Rattle.machine.specs.Tree.{Below}
+use mathlib.Core.List.{List, _∷_, _++_}
+use Prim.Native.Nat.{suc, _≤_, ℕ}
 use Rattle.machine.specs.Holders.{latch-word}
+use Rattle.machine.specs.Tree.{Below}
 use Rattle.machine.specs.State.{Tree, State, Outcome}
 use Rattle.machine.specs.Descent.{sons-of, at-latch, on-latch}
 use Rattle.machine.specs.Sound.{Room}

@@ -1,40 +1,36 @@
--- Demand 3 of the machine: its calls, with raw numbers, meet the laws of the serial-run theorem, so every list of them keeps the three sentences.
-use mathlib.Core.Path.{_≡_, refl, sym, ap, ap₂, _∙_, subst}
-use mathlib.Core.Bool.{Bool, true, false, cond, not, _&&_, _||_}
+-- The machine as the serial-run theorem asks for it: calls and answers in raw numbers, and every call as the events that its answer tells.
+use mathlib.Core.Path.{_≡_, refl, sym, _∙_, subst, ap}
+use mathlib.Core.Bool.{Bool, true, false, cond}
 use mathlib.Core.List.{List, [], _∷_, _++_, map}
 use mathlib.Core.Logic.{_⊎_, inl, inr}
 use mathlib.Core.Option.{Option, none, some}
-use Prim.Native.Nat.{ℕ, zero, suc, _+_, _-_, _*_, _≤_, _<_}
+use Prim.Native.Nat.{suc, _*_, _≤_, ℕ}
 use native.Mathlib.Decide.{ℕ-discrete}
 use native.Mathlib.Omega.{arith}
-use lib.Dec.{leb, ltb, eqb, eqb·suc-zero, nleb→lt}
-use lib.ListN.{length, take, drop, getD, replicate}
-use Rattle.serial.specs.Serial.{true≢false, put-cases, put-same, put-other, hstep}
+use lib.Dec.{eqb}
+use lib.ListN.{length, take, drop}
+use lib.Seq.{take-append-seam}
+use Rattle.serial.specs.Serial.{true≢false, put-cases, hstep}
 use Rattle.serial.specs.Serial as S
-use Rattle.serial.specs.Rising.{Tri, less, equal, greater}
-use Rattle.serial.specs.Model.{Req, Ans, Item, two-words, request-of, ℕ-tri}
+use Rattle.serial.specs.Model.{Item, two-words, request-of}
 use Rattle.serial.specs.Model as R
 use Rattle.serial.specs.Footprints.{store}
-use Rattle.serial.specs.Locks.{Kind, Mode, weak, strong, lock-rule, lock-rule-strict}
-use Rattle.serial.specs.Locks as L
-use Rattle.serial.specs.LockMachine.{Store, Acts, Formatted}
+use Rattle.serial.specs.LockMachine.{Acts, Formatted}
 use Rattle.serial.specs.LockMachine as M
-use Rattle.serial.specs.Calls.{Turn, Asked, Told, nothing, tell, tell-ok, tell-done, tell-refused, tell-answer, told, Machine, Run, Demand-3, Knows, Anew, Laws, take-in-hand, finished, fed, answer-of, ends-request}
+use Rattle.serial.specs.Calls.{Turn, Asked, Told, nothing, tell-ok, tell-done, tell-refused, tell-answer, Machine, take-in-hand, finished, fed, answer-of, ends-request}
 use Rattle.serial.specs.Calls as C
-use Rattle.machine.specs.Holders.{width, holds, elem}
-use Rattle.machine.specs.State.{Request, Stage, Session, State, Answer, ok, more, wait, done, refused, Outcome, no-entry, idle, entryOf, sessionOf, fresh}
+use Rattle.machine.specs.Holders.{elem}
+use Rattle.machine.specs.State.{Request, Stage, State, Outcome, sessionOf, fresh, Answer, wait, done, refused, ok, more}
 use Rattle.machine.specs.Steps.{rule}
-use Rattle.machine.specs.Calls.{Call, format, begin, put, step, commit, abort, call, records-for, request-checks, format-checks}
-use Rattle.machine.specs.Tree.{leaves}
+use Rattle.machine.specs.Calls.{records-for, call, Call, format, step, begin, put, commit, abort}
+use Rattle.machine.specs.View.{view, seen-under, group-in, log-entry, items}
+use Rattle.machine.specs.Sound.{Sound}
 use Rattle.machine.specs.Keeps.{under}
-use Rattle.machine.specs.Gaps.{by-tri}
-use Rattle.machine.specs.Locate.{nobody}
-use Rattle.machine.specs.Model.{eqb-yes, eqb-no}
-use Rattle.machine.specs.View.{view, seen-under, group-in, locate-word, update-word, log-entry, items, holders}
-use Rattle.machine.specs.Sound.{Sound, Passes}
-use Rattle.machine.specs.Events.{Does, unseen, locks, finishes, unfinished}
+use Rattle.machine.specs.Checks.{session-code}
+use Rattle.machine.specs.Fresh.{fresh-session, fresh-entry, fresh-held}
+use Rattle.machine.specs.Events.{unseen, locks, finishes, Does}
 use Rattle.machine.specs.Session.{req-of}
-use Rattle.machine.specs.Moves.{Safe, Moves, or-false, not-false, is-session, quiet, tidied, began, committed, aborted, stepped, formatted, silent, halted, moves}
+use Rattle.machine.specs.Moves.{Moves, tidied, began, committed, aborted, stepped, formatted, silent, quiet}
 
 -- ---- the machine as a store of the serial-run theorem
 
@@ -193,10 +189,6 @@ asked-is : (c e f g : ℕ) (st : Stage) → 1 ≤ c → c ≤ 5 → request-of c
 unfolding req-of
 asked-is c e f g st lo hi = code-cases (λ d. request-of d e f g ≡ some (req-of (record { code = d; entry = e; first = f; second = g; stage = st }))) c lo hi refl refl refl refl refl
 
-take-front : (a b : List ℕ) → take (length a) (a ++ b) ≡ a
-take-front [] b = refl
-take-front (x ∷ a) b = ap (λ z. x ∷ z) (take-front a b)
-
 twice : (l : List (ℕ × ℕ)) → length (two-words l) ≡ 2 * length l
 twice [] = refl
 twice (p ∷ l) = omega (arith, twice l)
@@ -212,37 +204,13 @@ answer-is c e f g st d l lo hi = code-cases
     (R.ans (req-of (record { code = b; entry = e; first = f; second = g; stage = st })) d .words ++ l)
     ≡ R.ans (req-of (record { code = b; entry = e; first = f; second = g; stage = st })) d) c lo hi refl refl refl refl
     (ap (λ w. record { number = length (R.located f g d); words = w })
-    (ap (λ n. take n (two-words (R.located f g d) ++ l)) (sym (twice (R.located f g d))) ∙ take-front (two-words (R.located f g d)) l))
+    (ap (λ n. take n (two-words (R.located f g d) ++ l)) (sym (twice (R.located f g d))) ∙ take-append-seam (two-words (R.located f g d)) l))
 
 -- ---- a fresh store
 
-fresh-entry : (m r e : ℕ) → entryOf e (fresh m r) ≡ no-entry
-unfolding entryOf fresh
-fresh-entry m r zero = refl
-fresh-entry m r (suc i) = go m i
-  where
-    go : (n j : ℕ) → getD (replicate n no-entry) j no-entry ≡ no-entry
-    go zero j = refl
-    go (suc n) zero = refl
-    go (suc n) (suc j) = go n j
-
-pub fresh-session : (m r p : ℕ) → sessionOf p (fresh m r) ≡ idle
-unfolding sessionOf fresh
-fresh-session m r p = go 17 p
-  where
-    go : (n j : ℕ) → getD (replicate n idle) j idle ≡ idle
-    go zero j = refl
-    go (suc n) zero = refl
-    go (suc n) (suc j) = go n j
-
-zeros : {m n : ℕ} (t : Tri _<_ m n) → by-tri {A = ℕ} t 0 0 0 ≡ 0
-zeros (less h) = refl
-zeros (equal h) = refl
-zeros (greater h) = refl
-
 pub fresh-formatted : (m r : ℕ) → Formatted (view (fresh m r))
-unfolding seen-under under group-in locate-word update-word fresh
-fresh-formatted m r = record { no-values = item; no-holds = hold; no-log = λ p. ap (λ x. map log-entry (x .undos)) (fresh-session m r p) }
+unfolding seen-under under group-in fresh
+fresh-formatted m r = record { no-values = item; no-holds = fresh-held m r; no-log = λ p. ap (λ x. map log-entry (x .undos)) (fresh-session m r p) }
   where
     item : (i : Item) → items (fresh m r) i ≡ 0
     item (R.value e) = ap (λ x. x .value) (fresh-entry m r e)
@@ -251,12 +219,6 @@ fresh-formatted m r = record { no-values = item; no-holds = hold; no-log = λ p.
         go : (b : Bool) → cond {A = ℕ} (elem e (cond b [] [])) 1 0 ≡ 0
         go true = refl
         go false = refl
-
-    hold : (k : Kind) (n : Mode) (p z : ℕ) → holders (fresh m r) k n p z ≡ false
-    hold L.entry weak p z = ap (λ x. holds (x .share) p) (fresh-entry m r z) ∙ nobody p
-    hold L.entry strong p z = ap (λ x. holds (x .exclusive) p) (fresh-entry m r z) ∙ nobody p
-    hold L.group weak p z = ap (λ w. holds w p) (zeros (ℕ-tri z 0)) ∙ nobody p
-    hold L.group strong p z = ap (λ w. holds w p) (zeros (ℕ-tri z 0)) ∙ nobody p
 
 -- ---- each call is some events
 
@@ -295,16 +257,6 @@ quiet-so s t u v x a = record {
 turned-told : (s t : State) (u : Told) (p : ℕ) (b : Bool) → sessionOf p t .begun ≡ b → ((q : ℕ) → ¬ (p ≡ q) → sessionOf q t .begun ≡ sessionOf q s .begun)
     → ((q : ℕ) → sessionOf q s .begun ≡ u .unfinished q) → (q : ℕ) → sessionOf q t .begun ≡ S.put (u .unfinished) p b q
 turned-told s t u p b now others h = put-cases (λ q z. sessionOf q t .begun ≡ z) (u .unfinished) p b now (λ q n. others q n ∙ h q)
-
-session-code : (m c e f g : ℕ) (s : State) → Passes (request-checks (suc m) c e f g s) → (1 ≤ c) × (c ≤ 5)
-session-code m c e f g s k =
-    let d = or-false (eqb c 0 || ltb 6 c || (eqb c 6 && not (eqb (suc m) 0))) (ltb c 6 && eqb (suc m) 0) (k .0) in
-    let b = or-false (eqb c 0 || ltb 6 c) (eqb c 6 && not (eqb (suc m) 0)) (d .0) in
-    let a = or-false (eqb c 0) (ltb 6 c) (b .0) in
-    let n : ¬ (c ≡ 0) = λ q. true≢false (eqb-yes c 0 q) (a .0) in
-    let w = nleb→lt 7 c (rw (a .1) tt) in
-    let v : ¬ (c ≡ 6) = λ q. true≢false (rw (eqb-yes c 6 q, eqb·suc-zero m) refl) (b .1) in
-    (omega arith, omega arith)
 
 step-told : (m n : ℕ) (r : Request) (s : State) (o : Outcome) (l : List ℕ) (t : Told) → (1 ≤ r .code) × (r .code ≤ 5) → t .hands (suc m) ≡ some (as-put r)
     → ListOf (step (suc m) n) l o → Does (suc m) (req-of r) s o → Told-so s (o .next) t (tell-of (C.step (suc m) []) (o .answer) l t)
@@ -359,7 +311,7 @@ call-told c s o l t σ h w (aborted p u x) = inl (subst (λ a. Told-so s (o .nex
   begun-told = turned-told s (o .next) t p false (x .ended .now) (x .ended .begun-others);
 }))
 call-told c s o l t σ h w (stepped m n r q d) =
-    inl (step-told m n r s o l t (session-code m (r .code) (r .entry) (r .first) (r .second) s (σ .checked (suc m) r q)) (sym (h (suc m)) ∙ ap hand-put q) w d)
+    inl (step-told m n r s o l t (session-code m (r .code) (σ .checked (suc m) r q .0)) (sym (h (suc m)) ∙ ap hand-put q) w d)
 call-told c s o l t σ h w (formatted m words u e) = inr (subst (λ a. Told-new (o .next) (tell-of (C.format m) a l t)) (sym u) (subst (λ z. Told-new z nothing) (sym e) (record {
   nothing-told = refl;
   as-new = fresh-formatted m (records-for m words);

@@ -1,31 +1,34 @@
--- Demand 3 of the machine, closed: its calls meet the laws of the serial-run theorem.
-use mathlib.Core.Path.{_≡_, refl, sym, ap, _∙_, subst}
-use mathlib.Core.Bool.{Bool, true, false, cond, _||_}
-use mathlib.Core.List.{List, [], _∷_, _++_}
+-- Demand 3: the calls of the machine meet the laws of the serial-run theorem, so every list of them keeps its three sentences.
+use mathlib.Core.Path.{_≡_, refl, sym, _∙_, subst, ap}
+use mathlib.Core.Bool.{true, false}
+use mathlib.Core.List.{List, [], _∷_}
 use mathlib.Core.Logic.{_⊎_, inl, inr}
 use mathlib.Core.Option.{Option, none, some}
-use Prim.Native.Nat.{ℕ, zero, suc, _≤_}
+use Prim.Native.Nat.{zero, suc, _≤_, ℕ}
 use native.Mathlib.Omega.{arith}
-use lib.Dec.{eqb}
 use lib.ListN.{length, drop}
 use Rattle.serial.specs.Serial.{true≢false}
 use Rattle.serial.specs.Model.{two-words}
 use Rattle.serial.specs.Locks.{lock-rule, lock-rule-strict}
+use Rattle.serial.specs.LockMachine.{Acts, Formatted}
 use Rattle.serial.specs.Calls.{Turn, Told, nothing, tell, told, Run, Demand-3, Knows, Anew, Laws, demand-3}
 use Rattle.serial.specs.Calls as C
-use Rattle.machine.specs.Holders.{width, elem}
-use Rattle.machine.specs.State.{Request, Stage, State, Answer, ok, more, wait, done, refused, Outcome, sessionOf, fresh}
-use Rattle.machine.specs.Steps.{answer, next-step}
-use Rattle.machine.specs.Calls.{Call, format, begin, put, step, commit, abort, call, refusing, put-checks, step-checks, begin-checks, commit-checks, abort-checks, format-checks, accepted, begins, commits, aborts, steps, records-for}
+use Rattle.machine.specs.Logic.{eqb-yes}
+use Rattle.machine.specs.Holders.{width}
+use Rattle.machine.specs.State.{Request, State, Outcome, sessionOf, fresh, Answer, wait, done, refused, ok, more}
+use Rattle.machine.specs.Steps.{next-step, answer}
+use Rattle.machine.specs.Calls.{put-checks, step-checks, begin-checks, commit-checks, abort-checks, format-checks, accepted, begins, commits, aborts, steps, records-for, call, Call, format, abort, begin, put, step, commit}
 use Rattle.machine.specs.View.{view}
 use Rattle.machine.specs.Sound.{Sound}
+use Rattle.machine.specs.Checks.{refusing-cases}
 use Rattle.machine.specs.Looks.{begun-party}
-use Rattle.machine.specs.Moves.{Safe, moves, refusing-cases, abort-accepted}
-use Rattle.machine.specs.Safety.{safe-of}
-use Rattle.machine.specs.Keeping.{keeps}
+use Rattle.machine.specs.Fresh.{fresh-session}
 use Rattle.machine.specs.Ending.{fresh-sound}
+use Rattle.machine.specs.Keeping.{keeps}
+use Rattle.machine.specs.Moves.{abort-accepted, moves}
+use Rattle.machine.specs.Safety.{safe-of}
 use Rattle.machine.specs.Waits.{waiting, WaitsFor, step-blockers, step-waits}
-use Rattle.machine.specs.Demand.{Lent, call-of, Tells, list-after, Performs, machine, as-told, tell-of, tells-told, told-alike, ListOf, Told-so, Told-new, call-told, fresh-formatted, fresh-session}
+use Rattle.machine.specs.Demand.{Lent, call-of, Tells, list-after, Performs, machine, tell-of, tells-told, told-alike, ListOf, Told-so, Told-new, call-told, fresh-formatted, hand-put, as-told}
 use Rattle.machine.specs.Told.{call-hands}
 
 -- ---- a wait names somebody
@@ -67,7 +70,7 @@ told-of : (a : Answer) → Named a → (b : C.Answer) × Tells a b
 told-of ok n = (C.ok, refl)
 told-of more n = (C.more, refl)
 told-of (wait []) n = absurd n
-told-of (wait (p ∷ ps)) n = (C.wait p, (p, rw (Rattle.machine.specs.Model.eqb-yes p p refl) refl, refl))
+told-of (wait (p ∷ ps)) n = (C.wait p, (p, rw (eqb-yes p p refl) refl, refl))
 told-of (done ns) n = (C.done ns, refl)
 told-of (refused i k) n = (C.refused i k, refl)
 
@@ -110,7 +113,7 @@ module _ (k : Turn) (x y : Lent) (t : Told) (d : Performs x k y) (w : Knows mach
   knows-next : Knows machine (tell k t) y
   knows-next = subst (λ z. Knows machine z y) (sym telling) (record {
     sound = subst Sound (sym (d .state-is)) (keeps c (x .state) (w .sound));
-    hand-told = λ p. ap (λ z. Rattle.machine.specs.Demand.hand-put (sessionOf p z .hand)) (d .state-is) ∙ call-hands (x .state) (w .sound) t (k .list) (w .hand-told) c p;
+    hand-told = λ p. ap (λ z. hand-put (sessionOf p z .hand)) (d .state-is) ∙ call-hands (x .state) (w .sound) t (k .list) (w .hand-told) c p;
     begun-told = λ p. ap (λ z. sessionOf p z .begun) (d .state-is) ∙ begun-after events-told p;
   })
 
@@ -120,12 +123,12 @@ module _ (k : Turn) (x y : Lent) (t : Told) (d : Performs x k y) (w : Knows mach
       go : Told-so (x .state) (o .next) t u ⊎ Told-new (o .next) u → C.Moves machine lock-rule t (tell k t) x y ⊎ Anew machine (tell k t) y
       go (inl m) = inl (record {
         events = m .events;
-        moved = subst (λ z. Rattle.serial.specs.LockMachine.Acts lock-rule (view (x .state)) (m .events) (view z)) (sym (d .state-is)) (m .moved);
+        moved = subst (λ z. Acts lock-rule (view (x .state)) (m .events) (view z)) (sym (d .state-is)) (m .moved);
         as-told = ap (λ z. z .past) telling ∙ m .past-is;
       })
       go (inr m) = inr (record {
         nothing-told = ap (λ z. z .past) (telling ∙ m .nothing-told);
-        as-new = subst (λ z. Rattle.serial.specs.LockMachine.Formatted (view z)) (sym (d .state-is)) (m .as-new);
+        as-new = subst (λ z. Formatted (view z)) (sym (d .state-is)) (m .as-new);
       })
 
 abort-ok : (s : ℕ) (k : Turn) (x y : Lent) → k .call ≡ C.abort s → Performs x k y → Sound (x .state) → sessionOf s (x .state) .begun ≡ true → k .answer ≡ C.ok
@@ -153,6 +156,6 @@ pub machine-demand-3 : (m r words : ℕ) → 1 ≤ m → m ≤ 1024 → 8 ≤ r 
 machine-demand-3 m r words a b c d ks y run = demand-3 machine lock-rule lock-rule-strict machine-laws (fresh-lent m r words) y ks
     (record {
       sound = fresh-sound m r a b c d;
-      hand-told = λ p. ap (λ z. Rattle.machine.specs.Demand.hand-put (z .hand)) (fresh-session m r p);
+      hand-told = λ p. ap (λ z. hand-put (z .hand)) (fresh-session m r p);
       begun-told = λ p. ap (λ z. z .begun) (fresh-session m r p);
     }) (fresh-formatted m r) run

@@ -1,36 +1,36 @@
 -- The steps of a descent keep what is read at keys, entries and the session table: entering the root, a level down, pinning a descriptor, making one, and
 -- tidy's removal of one.
-use mathlib.Core.Path.{_≡_, refl, sym, ap, _∙_, subst}
-use mathlib.Core.Bool.{Bool, true, false, cond, not, _&&_, _||_}
+use mathlib.Core.Path.{_≡_, refl, sym, _∙_, subst, ap}
+use mathlib.Core.Bool.{Bool, true, false, cond, not}
 use mathlib.Core.List.{List, [], _∷_, _++_, map}
 use mathlib.Core.Logic.{_⊎_, inl, inr}
 use mathlib.Core.Option.{none, some}
-use Prim.Native.Nat.{ℕ, suc, _+_, _-_, _≤_, _<_}
+use Prim.Native.Nat.{suc, _+_, _-_, _≤_, _<_, ℕ}
 use native.Mathlib.Decide.{ℕ-discrete}
 use native.Mathlib.Omega.{arith}
-use lib.Dec.{ltb, eqb, nleb→lt}
-use lib.ListN.{length, getD}
+use lib.Dec.{eqb}
+use lib.ListN.{length}
 use Rattle.serial.specs.Serial.{true≢false}
-use Rattle.machine.specs.Gaps.{made-gaps, dropped-gaps, gaps}
-use Rattle.machine.specs.Gaps as G
-use Rattle.machine.specs.Tree.{pick}
+use Rattle.machine.specs.Logic.{eqb-yes, eqb-no, either}
 use Rattle.machine.specs.Holders.{latch-word}
-use Rattle.machine.specs.State.{Desc, Tree, Root, Stage, enter, at, take, Request, State, Answer, ok, more, wait, done, refused, Outcome, top, idle, no-desc, same, sessionOf, stored, gap-below, with-root, with-free, on-tree, on-desc, pin-desc, set-hand}
-use Rattle.machine.specs.Descent.{Sons, on-latch, unlatched, put-in, taken-out, entered, split-root}
-use Rattle.machine.specs.Keeps.{either, under, leaves-under, under-root, under-on-lock, under-unlocked, under-descended, under-drop, under-entered, under-split-root}
-use Rattle.machine.specs.Steps.{answer, pinned, unpin, unlatch, ended, goes-on, finished, arrived, root-left, root-splits, whole-root, halved-root, descended, level-state, pinned-state, made, on-lowest, made-state, removable, tidied-state}
-use Rattle.machine.specs.Calls.{bad-code, request-checks}
+use Rattle.machine.specs.Tree.{pick}
+use Rattle.machine.specs.State.{Desc, Tree, Root, Stage, enter, take, Request, State, Answer, more, wait, done, refused, Outcome, top, no-desc, same, sessionOf, gap-below, with-root, with-free, on-tree, on-desc, pin-desc, set-hand, at, ok, stored}
+use Rattle.machine.specs.Descent.{Sons, on-latch, put-in, taken-out, entered, split-root}
+use Rattle.machine.specs.Steps.{pinned, unpin, unlatch, ended, goes-on, finished, arrived, root-left, root-splits, whole-root, halved-root, descended, level-state, pinned-state, made, on-lowest, made-state, removable, tidied-state, answer}
+use Rattle.machine.specs.Calls.{request-checks}
+use Rattle.machine.specs.Gaps.{made-gaps, dropped-gaps, gaps}
 use Rattle.machine.specs.View.{plain, seen, update-word, pin-same}
-use Rattle.machine.specs.Order.{In, found-cases}
-use Rattle.machine.specs.Groups.{words, rises-in, rising-words, tidy-words}
-use Rattle.machine.specs.Lowest.{Placed, made-at, taken-at}
-use Rattle.machine.specs.Housekeeping.{lvs, seen-plain, seen-words, Ordered, StoodAt, made-list, make-like, Goes, removable-goes, taken-list, tidy-like}
-use Rattle.machine.specs.Model.{eqb-yes, eqb-no}
-use Rattle.machine.specs.Keys.{update-at}
-use Rattle.machine.specs.Sound.{gap-word, stored-in, pins-in, UpTo, ListedTo, times, Passes, Descends, to-change, to-first, to-second, to-choice, Stands, Keyed, Sound, keyed-of}
+use Rattle.machine.specs.Sound.{gap-word, stored-in, pins-in, UpTo, ListedTo, times, Passes, Descends, to-change, to-first, to-choice, Stands, Keyed, Sound, keyed-of, to-second}
 use Rattle.machine.specs.Context.{Focus}
-use Rattle.machine.specs.Looks.{stored-range, pins-at, sound-ordered, ordered-rises, kept-of, put-pins, put-pins-other, kept-pins, checked-first, checked-second, checked-order}
-use Rattle.machine.specs.Effects.{tidy-zero}
+use Rattle.machine.specs.Table.{session-same, unlatch-root}
+use Rattle.machine.specs.Keeps.{under, under-root, under-on-latch, under-descended, under-drop, under-entered, under-split-root, leaves-kept}
+use Rattle.machine.specs.Order.{found-cases, In}
+use Rattle.machine.specs.Groups.{words, rising-words}
+use Rattle.machine.specs.Lowest.{Placed, made-at, taken-at}
+use Rattle.machine.specs.Housekeeping.{lvs, seen-plain, seen-words, Ordered, StoodAt, made-list, make-like, Goes, removable-goes, taken-list, tidy-like, tree-leaves, unlatch-leaves, goes-tidy}
+use Rattle.machine.specs.Keys.{shown-update}
+use Rattle.machine.specs.Checks.{checked-first, checked-second, checked-order, tidy-zero, keeper-code}
+use Rattle.machine.specs.Looks.{pins-at, sound-ordered, ordered-rises, kept-of, put-pins, put-pins-other, kept-pins, stored-most}
 use Rattle.machine.specs.Calm.{Calm, calm-refl, calm-then, goes-keyed, none-keyed}
 
 -- ---- states that differ in nodes alone
@@ -42,14 +42,12 @@ record Still (s v : State) : Type 0 where
   leaves-same : lvs v ≡ lvs s
 
 still-calm : (p : ℕ) (s v w : State) → Calm p s v → Still v w → Calm p s w
-unfolding sessionOf
 still-calm p s v w C S =
-    let sessions : (q : ℕ) → getD (w .table) q idle ≡ getD (v .table) q idle = λ q. ap (λ l. getD l q idle) (S .table-same) in
     calm-then p s v w C (record {
       entries-same = S .entries-same;
       seen-same = seen-plain w ∙ ap (map plain) (S .leaves-same) ∙ sym (seen-plain v);
-      begun-same = λ q. ap (λ t. t .begun) (sessions q);
-      undos-same = λ q. ap (λ t. t .undos) (sessions q);
+      begun-same = λ q. ap (λ t. t .begun) (session-same v w (S .table-same) q);
+      undos-same = λ q. ap (λ t. t .undos) (session-same v w (S .table-same) q);
     }) (S .table-same) (S .records-same)
 
 still-tree : (f : (h : ℕ) → Tree h → Tree h) (s : State) → ((h : ℕ) (t : Tree h) → under (λ d. d ∷ []) h (f h t) ≡ under (λ d. d ∷ []) h t) → Still s (on-tree f s)
@@ -58,12 +56,18 @@ still-tree f s e = record {
   entries-same = refl;
   table-same = refl;
   records-same = refl;
-  leaves-same = let h = suc (s .root .height) in let t = s .root .node in leaves-under h (f h t) ∙ e h t ∙ sym (leaves-under h t);
+  leaves-same = tree-leaves f s e;
 }
 
 still-unlatch : (p x : ℕ) (s : State) → Still s (unlatch p (at x) s)
-unfolding unlatch
-still-unlatch p x s = still-tree (on-latch (latch-word p) x unlatched) s (under-on-lock (λ d. d ∷ []) (latch-word p) x unlatched (under-unlocked (λ d. d ∷ [])))
+still-unlatch p x s =
+    let e = unlatch-root p (at x) s in
+    record {
+      entries-same = ap (λ t. t .entries) e;
+      table-same = ap (λ t. t .table) e;
+      records-same = ap (λ t. t .records) e;
+      leaves-same = unlatch-leaves p (at x) s;
+    }
 
 still-free : (n : ℕ) (s : State) → Still s (with-free n s)
 still-free n s = record { entries-same = refl; table-same = refl; records-same = refl; leaves-same = refl }
@@ -81,7 +85,7 @@ still-root r n s e = record {
   entries-same = refl;
   table-same = refl;
   records-same = refl;
-  leaves-same = leaves-under (suc (r .height)) (r .node) ∙ e ∙ sym (leaves-under (suc (s .root .height)) (s .root .node));
+  leaves-same = leaves-kept (suc (s .root .height)) (s .root .node) (suc (r .height)) (r .node) e;
 }
 
 -- ---- one level down
@@ -114,15 +118,11 @@ pub level-keyed : (p : ℕ) (r : Request) (x : ℕ) (s : State) → Sound s → 
 level-keyed p r x s S e q h es t =
     let v = on-tree (on-latch (latch-word p) x (descended p x)) s in
     still-keyed p r (at x) s (level-state p x s h es t) S e
-    (still-trans (still-tree (on-latch (latch-word p) x (descended p x)) s (under-on-lock (λ d. d ∷ []) (latch-word p) x (descended p x) (under-descended (λ d. d ∷ []) p x)))
+    (still-trans (still-tree (on-latch (latch-word p) x (descended p x)) s (under-on-latch (λ d. d ∷ []) (latch-word p) x (descended p x) (under-descended (λ d. d ∷ []) p x)))
     (still-free (level-state p x s h es t .free) v))
     (ap (pinned r) q) (subst (Stands p s r) q (S .standing p r e))
 
 -- ---- a session's descent arrives
-
-or-no : (a b : Bool) → (a || b) ≡ false → (a ≡ false) × (b ≡ false)
-or-no true b e = absurd (true≢false {b = true} refl e)
-or-no false b e = (refl, e)
 
 -- One more pin at x.
 abbrev one-at : ℕ → ℕ → ℕ
@@ -163,13 +163,10 @@ module _ (m : ℕ) (r : Request) (s : State) (P : Passes (request-checks (suc m)
       go (no n) = rw (eqb-no (r .first) (r .second) n, eqb-no x (r .first) (λ z. n (sym z ∙ q)), q) (omega arith)
   arrived-pins x k (to-choice C) = absurd (omega (arith, tidy-zero (suc m) (r .code) (P .0) (C .code-6)))
 
-  first-proper : 3 ≤ r .code → r .code ≤ 5 → (1 ≤ r .first) × (r .first < top)
-  first-proper = checked-first (suc m) (r .code) (r .entry) (r .first) (r .second) s P
-
   -- A session descends to a proper key.
   pub proper-key : (x : ℕ) → Descends (suc m) s r x → (1 ≤ x) × (x < top)
-  proper-key x (to-change C q) = subst (λ k. (1 ≤ k) × (k < top)) (sym q) (first-proper (C .code-3-4 .0) (omega (arith, C .code-3-4 .1)))
-  proper-key x (to-first c q) = subst (λ k. (1 ≤ k) × (k < top)) (sym q) (first-proper (omega (arith, c)) (omega (arith, c)))
+  proper-key x (to-change C q) = subst (λ k. (1 ≤ k) × (k < top)) (sym q) (checked-first (suc m) (r .code) (r .entry) (r .first) (r .second) s P (C .code-3-4 .0) (omega (arith, C .code-3-4 .1)))
+  proper-key x (to-first c q) = subst (λ k. (1 ≤ k) × (k < top)) (sym q) (checked-first (suc m) (r .code) (r .entry) (r .first) (r .second) s P (omega (arith, c)) (omega (arith, c)))
   proper-key x (to-second c q) = subst (λ k. (1 ≤ k) × (k < top)) (sym q) (checked-second (suc m) (r .code) (r .entry) (r .first) (r .second) s P c)
   proper-key x (to-choice C) = absurd (omega (arith, tidy-zero (suc m) (r .code) (P .0) (C .code-6)))
 
@@ -357,21 +354,18 @@ module _ (p x : ℕ) (s : State) (u : Tree 1) (o : Ordered s) (F : StoodAt p x s
   pruned-stored = placed-stored x (suc top) gone (lvs (pruned p x s)) (lvs s) e pruned-placed
 
   pruned-gaps : (z : ℕ) → gap-word z (seen (pruned p x s)) ≡ gap-word z (seen s)
-  unfolding gap-word stored Ordered
+  unfolding gap-word stored
   pruned-gaps z =
       let P = pruned-placed in
       let rises = rising-words 0 (suc top) (lvs s) (ordered-rises s o) in
-      let rule : G.Tidy 0 x (words (lvs s)) = subst (λ c. G.Tidy 0 x (words c)) (sym (P .is-with))
-      (tidy-words 0 x 0 (suc top) gone e (P .C) (P .D) (P .low) (T .no-update)
-      (T .same-locate ∙ ap (gap-below x 0) (P .is-with)) (T .same-gap ∙ ap (gap-below x 0) (P .is-with))) in
+      let rule = goes-tidy x gone (lvs s) (lvs (pruned p x s)) e P T in
       ap (λ l. gaps 0 l z) (seen-words (pruned p x s) ∙ taken-list x (suc top) gone (lvs s) (lvs (pruned p x s)) e P) ∙ dropped-gaps 0 x (words (lvs s)) rises rule z
       ∙ sym (ap (λ l. gaps 0 l z) (seen-words s))
 
   pruned-update : update-word x (seen s) ≡ 0
-  unfolding update-word
   pruned-update =
       let P = pruned-placed in
-      ap (λ l. G.updaters l x) (seen-words s ∙ ap words (P .is-with)) ∙ update-at x 0 gone e (P .C) (P .D) (P .low) ∙ T .no-update
+      shown-update {t = s} (record { A = P .C; d = gone; B = P .D; key = e; low = P .low; leaves = P .is-with }) ∙ T .no-update
 
   pruned-pins : (k : ℕ) → pins-in k (lvs (pruned p x s)) ≡ pins-in k (lvs s)
   pruned-pins k = go (ℕ-discrete x k)
@@ -404,18 +398,6 @@ module _ (p x : ℕ) (s : State) (u : Tree 1) (o : Ordered s) (F : StoodAt p x s
       was-stored : stored-in x (lvs s) ≡ true
       was-stored = pruned-stored x ∙ ap (λ b. cond b true (stored-in x (lvs (pruned p x s)))) (eqb-yes x x refl)
 
--- A request of the housekeeper is a tidy.
-pub keeper-code : (c : ℕ) → bad-code 0 c ≡ false → c ≡ 6
-keeper-code c h =
-    let a = or-no (eqb c 0 || ltb 6 c || (eqb c 6 && false)) (ltb c 6 && true) h in
-    let b = or-no (eqb c 0 || ltb 6 c) (eqb c 6 && false) (a .0) in
-    let d = or-no (eqb c 0) (ltb 6 c) (b .0) in
-    omega (arith, nleb→lt 7 c (rw (d .1) tt), nleb→lt (suc c) 6 (rw (both (ltb c 6) (a .1)) tt))
-  where
-    both : (b : Bool) → (b && true) ≡ false → b ≡ false
-    both true z = z
-    both false z = refl
-
 -- The housekeeper descends to a stored key, and pins nothing.
 pub keeper-stored : (s : State) (r : Request) (x : ℕ) → r .code ≡ 6 → Descends 0 s r x → stored-in x (lvs s) ≡ true
 keeper-stored s r x c (to-change C q) = absurd (omega (arith, c, C .code-3-4 .1))
@@ -435,8 +417,7 @@ tidy-keyed r ns x s S e q u F k t =
     let o = sound-ordered S in
     let c = keeper-code (r .code) (S .checked 0 r e .0) in
     let h = keeper-stored s r x c (subst (Stands 0 s r) q (S .standing 0 r e)) in
-    let le = stored-range x 0 4294967296 (lvs s) (rises-in 0 4294967296 (lvs s) (ordered-rises s o)) h .1 in
-    let G = stood 0 x s 0 u o (omega (arith, le)) F in
+    let G = stood 0 x s 0 u o (stored-most s o x h) F in
     let T = removable-goes (gap-below x 0 (stored s)) (pick x no-desc same (u .sons)) t in
     let v = pruned 0 x s in
     let w = tidied-state 0 x s in

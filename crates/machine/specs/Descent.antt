@@ -1,12 +1,11 @@
--- The walk (document 01, "Steps"): splits, joins and moves at a node, the short-locked node of a party, and each step of a walk.
-use mathlib.Core.Bool.{Bool, true, false, cond, not, _&&_, _||_}
+-- What a descent does to the tree (document 01, "Steps"): splits, joins and moves at a node, the latched node of a party, the root.
+use mathlib.Core.Bool.{Bool, false, cond}
 use mathlib.Core.List.{List, [], _∷_, _++_, map}
-use mathlib.Core.Option.{Option, none, some}
-use Prim.Native.Nat.{ℕ, zero, suc, _+_, _-_}
-use lib.Dec.{leb, ltb, eqb}
+use Prim.Native.Nat.{zero, suc, ℕ}
+use lib.Dec.{leb, eqb}
 use lib.ListN.{length, getD, take, drop}
-use Rattle.machine.specs.Tree.{Node, T, onp, pick, flat, mapE, leaves, leafAt}
-use Rattle.machine.specs.State.{Desc, Tree, Root, top, pin-desc}
+use Rattle.machine.specs.Tree.{Node, onp, pick}
+use Rattle.machine.specs.State.{Desc, Tree, Root, top}
 
 abbrev pub Sons : ℕ → Type 0
 Sons h = List (Tree h × ℕ)
@@ -16,7 +15,7 @@ node w es = record { latch = w; sons = es }
 
 -- ---- at a node, the sons in view
 
--- A full node in two, four and four; its fourth boundary goes up. The half on the path to x gets the short-lock word w.
+-- A full node in two, four and four; its fourth boundary goes up. The half on the path to x gets the latch word w.
 unfoldable pub halves : ℕ → ℕ → (h : ℕ) → Tree (suc h) → ℕ → Sons (suc h)
 halves w x h s u =
     let b = getD (map (λ p. p .1) (s .sons)) 3 0 in
@@ -93,7 +92,7 @@ put-in n es = onp (n .key) (λ d u. cond (leb (n .key) (d .key)) ((n, n .key) �
 unfoldable pub taken-out : ℕ → Sons 0 → Sons 0
 taken-out x es = let u = bound-of 0 es in on-last (λ _ _. u) (onp x (λ _ _. []) es)
 
--- ---- the node on the path to x that has the short-lock word w
+-- ---- the node on the path to x that has the latch word w
 
 -- What g answers there.
 unfoldable pub at-latch : {B : Type 0} → ℕ → ℕ → B → ((h : ℕ) → Tree (suc h) → B) → (h : ℕ) → Tree h → B
@@ -108,7 +107,7 @@ on-latch w x f (suc h) t =
     let below : Tree (suc h) = record { latch = t .latch; sons = onp x (λ a b. (on-latch w x f h a, b) ∷ []) (t .sons) } in
     cond (eqb (t .latch) w) here below
 
--- The node unlocked.
+-- The node unlatched.
 unfoldable pub unlatched : (h : ℕ) → Tree (suc h) → Tree (suc h)
 unlatched h t = node 0 (t .sons)
 
@@ -129,7 +128,7 @@ abbrev pub drop-lone : (h : ℕ) → Tree (suc h) → Root
 drop-lone zero t = record { height = zero; node = t }
 drop-lone (suc h) t = lone-son h (t .sons) t
 
--- The root entered by a party of short-lock word w on its way to x: locked, or split under a new root.
+-- The root entered by a party of latch word w on its way to x: latched, or split under a new root.
 abbrev pub entered : ℕ → Root → Root
 entered w r = record { height = r .height; node = node w (r .node .sons) }
 

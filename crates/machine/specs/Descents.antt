@@ -1,17 +1,32 @@
--- Steps of a walk that make and remove no descriptor, waits and refusals leave values, memberships, holders of every entry and key, and take-backs.
-use mathlib.Core.Path.{_≡_, refl, ap, ap₂, sym, _∙_}
-use mathlib.Core.Bool.{Bool, true, false, cond, not, _&&_}
-use mathlib.Core.List.{List, [], _∷_, _++_, map}
-use mathlib.Core.Option.{Option, none, some}
-use Prim.Native.Nat.{ℕ, zero, suc, _+_, _-_}
+-- Guarded steps by cases; and the steps of a descent that make and remove no descriptor, waits and refusals: they leave values, memberships, holders of every
+-- entry and key, and undo records.
+use mathlib.Core.Path.{_≡_, _∙_}
+use mathlib.Core.Bool.{cond}
+use mathlib.Core.List.{List, [], _∷_}
+use mathlib.Core.Option.{some}
+use Prim.Native.Nat.{suc, _+_, _-_, zero, ℕ}
 use lib.Dec.{leb, eqb}
+use Rattle.machine.specs.Logic.{either}
+use Rattle.machine.specs.Holders.{latch-word}
 use Rattle.machine.specs.Tree.{pick}
-use Rattle.machine.specs.Holders.{latch-word, latch-blockers}
-use Rattle.machine.specs.State.{Desc, Tree, Root, Stage, at, Request, State, Answer, more, wait, done, refused, Outcome, with-root, with-free, on-tree, on-desc, pin-desc, set-hand, in-stage}
-use Rattle.machine.specs.Descent.{Sons, at-latch, on-latch, pick-pair, joins, lone, drop-lone, entered, split-root}
-use Rattle.machine.specs.Keeps.{either, under, under-descended, under-drop, under-entered, under-split-root}
-use Rattle.machine.specs.Steps.{answer, unlatch, ended, goes-on, finished, guarded, arrived, small, fills, enter-step, taking-part, descended, level-step, pin-step, stepped}
-use Rattle.machine.specs.View.{plains, seen, seen-under, Same, same-refl, same-trans, set-hand-same, free-same, root-same, pin-same, lock-same, unlatch-same, ended-same}
+use Rattle.machine.specs.State.{Tree, Stage, Request, State, wait, refused, Outcome, with-root, on-tree, on-desc, pin-desc, in-stage, at}
+use Rattle.machine.specs.Descent.{Sons, on-latch, entered, split-root, at-latch}
+use Rattle.machine.specs.Steps.{answer, unlatch, ended, goes-on, finished, guarded, arrived, enter-step, descended, level-step, pin-step, root-left, root-gain, root-splits, root-need, whole-root, halved-root, root-blockers, level-blockers, level-need, level-state, level-gain}
+use Rattle.machine.specs.View.{plains, seen, seen-under, Same, same-refl, same-trans, set-hand-same, free-same, root-same, pin-same, latch-same, unlatch-same, ended-same}
+use Rattle.machine.specs.Keeps.{under-descended, under-drop, under-entered, under-split-root}
+
+-- What the son on the path answers, or, if there is none, z.
+pub pick-cases : {A B : Type 0} (P : B → Type 0) (x : ℕ) (z : B) (g : A → B) (es : List (A × ℕ)) → P z → ((a : A) → P (g a)) → P (pick x z g es)
+pick-cases P x z g [] h f = h
+pick-cases P x z g (e ∷ es) h f = either P (leb x (e .1)) (g (e .0)) (pick x z g es) (f (e .0)) (pick-cases P x z g es h f)
+
+-- What a party's latched node answers, or, if there is none, z.
+pub latch-cases : {Z : Type 0} (P : Z → Type 0) (w x : ℕ) (z : Z) (g : (k : ℕ) → Tree (suc k) → Z) (h : ℕ) (t : Tree h) → P z → ((k : ℕ) (u : Tree (suc k)) → P (g k u))
+    → P (at-latch w x z g h t)
+unfolding at-latch
+latch-cases P w x z g zero t a f = a
+latch-cases P w x z g (suc h) t a f = either P (eqb (t .latch) w) (g h t) (pick x z (at-latch w x z g h) (t .sons)) (f h t)
+    (pick-cases P x z (at-latch w x z g h) (t .sons) a (λ u. latch-cases P w x z g h u a f))
 
 -- A guarded step waits, is refused, or is done.
 pub guard-cases : (P : Outcome → Type 0) (bs : List ℕ) (need p : ℕ) (r : Request) (s : State) (o : Outcome)
@@ -36,30 +51,24 @@ finished-same p r ns s t h = same-trans h (ended-same p r t)
 pub enter-same : (p : ℕ) (r : Request) (x : ℕ) (s : State) → Same s (enter-step p r x s .next)
 unfolding enter-step seen-under
 enter-same p r x s =
-    let old = s .root in
-    let new = drop-lone (old .height) (old .node) in
-    let gain : ℕ = cond (lone (old .height) (old .node)) 1 0 in
-    let splits = fills p (new .height) (new .node) in
+    let new = root-left s in
     let whole = with-root (entered (latch-word p) new) s in
     let split = with-root (split-root (latch-word p) x new) s in
-    let there : seen-under new ≡ seen s = under-drop plains (old .height) (old .node) in
-    guard-same (latch-blockers p (old .node .latch ∷ new .node .latch ∷ [])) (cond splits (2 - gain) 0) p r s
-    (goes-on p r (at x) (cond splits (with-free (s .free + gain - 2) split) (with-free (s .free + gain) whole)))
-    (goes-same p r (at x) s (cond splits (with-free (s .free + gain - 2) split) (with-free (s .free + gain) whole))
-    (either (Same s) splits (with-free (s .free + gain - 2) split) (with-free (s .free + gain) whole)
-    (same-trans (root-same (split-root (latch-word p) x new) s (under-split-root plains (latch-word p) x new ∙ there)) (free-same (s .free + gain - 2) split))
-    (same-trans (root-same (entered (latch-word p) new) s (under-entered plains (latch-word p) new ∙ there)) (free-same (s .free + gain) whole))))
+    let there : seen-under new ≡ seen s = under-drop plains (s .root .height) (s .root .node) in
+    guard-same (root-blockers p s) (root-need p s) p r s (goes-on p r (at x) (cond (root-splits p s) (halved-root p x s) (whole-root p s)))
+    (goes-same p r (at x) s (cond (root-splits p s) (halved-root p x s) (whole-root p s))
+    (either (Same s) (root-splits p s) (halved-root p x s) (whole-root p s)
+    (same-trans (root-same (split-root (latch-word p) x new) s (under-split-root plains (latch-word p) x new ∙ there)) (free-same (s .free + root-gain s - 2) split))
+    (same-trans (root-same (entered (latch-word p) new) s (under-entered plains (latch-word p) new ∙ there)) (free-same (s .free + root-gain s) whole))))
 
 -- (ii)
 pub level-same : (p : ℕ) (r : Request) (x : ℕ) (s : State) (h : ℕ) (es : Sons (suc h)) (t : Tree (suc h)) → Same s (level-step p r x s h es t .next)
 unfolding level-step
 level-same p r x s h es t =
-    let gain : ℕ = cond (small p h t && pick-pair x false (joins x h) es) 1 0 in
-    let need : ℕ = cond (fills p h t) 1 0 in
     let u = on-tree (on-latch (latch-word p) x (descended p x)) s in
-    guard-same (latch-blockers p (taking-part p x h t es)) need p r s (goes-on p r (at x) (with-free (s .free + gain - need) u))
-    (goes-same p r (at x) s (with-free (s .free + gain - need) u)
-    (same-trans (lock-same (latch-word p) x (descended p x) s (under-descended plains p x)) (free-same (s .free + gain - need) u)))
+    guard-same (level-blockers p x h es t) (level-need p h t) p r s (goes-on p r (at x) (level-state p x s h es t))
+    (goes-same p r (at x) s (level-state p x s h es t)
+    (same-trans (latch-same (latch-word p) x (descended p x) s (under-descended plains p x)) (free-same (s .free + level-gain p x h es t - level-need p h t) u)))
 
 -- (iii), where the descriptor is stored
 pub pin-step-same : (p : ℕ) (r : Request) (x : ℕ) (s : State) → Same s (pin-step p r x s .next)

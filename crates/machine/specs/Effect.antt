@@ -2,7 +2,7 @@
 -- the session table.
 use mathlib.Core.Path.{_≡_}
 use mathlib.Core.Bool.{true, false}
-use mathlib.Core.List.{List, []}
+use mathlib.Core.List.{[]}
 use mathlib.Core.Logic.{_⊎_}
 use mathlib.Core.Option.{none, some}
 use Prim.Native.Nat.{ℕ}
@@ -14,8 +14,8 @@ use Rattle.machine.specs.State.{Request, State, top, sessionOf}
 use Rattle.machine.specs.Steps.{rule}
 use Rattle.machine.specs.Calls.{request-checks}
 use Rattle.machine.specs.View.{holders, group-in, update-word, seen}
-use Rattle.machine.specs.Housekeeping.{lvs}
 use Rattle.machine.specs.Sound.{gap-word, stored-in, pins-in, ListedTo, total, pins-by, Passes, Stands, Undoable, cells}
+use Rattle.machine.specs.Housekeeping.{lvs}
 
 pub record Effect (p : ℕ) (s t : State) : Type 0 where
   pub many : length (t .entries) ≡ length (s .entries)

@@ -1,36 +1,27 @@
 -- A call that leaves the others alone (Effect) and pays what it owes of its own (Own) keeps the part of soundness that is read at keys, entries and the
 -- session table.
-use mathlib.Core.Path.{_≡_, refl, sym, ap, _∙_, subst}
-use mathlib.Core.Bool.{Bool, true, false, cond, _&&_, _||_}
+use mathlib.Core.Path.{_≡_, refl, sym, _∙_, subst, ap}
+use mathlib.Core.Bool.{Bool, true, false, cond}
 use mathlib.Core.List.{List, [], _∷_}
 use mathlib.Core.Logic.{_⊎_, inl, inr}
 use mathlib.Core.Option.{none, some}
-use Prim.Native.Nat.{ℕ, zero, suc, _-_, _≤_}
+use Prim.Native.Nat.{zero, suc, _-_, _≤_, ℕ}
 use native.Mathlib.Decide.{ℕ-discrete}
 use native.Mathlib.Omega.{arith}
-use lib.Dec.{leb, ltb, eqb}
+use lib.Dec.{eqb}
 use lib.ListN.{length}
 use Rattle.serial.specs.Serial.{true≢false}
 use Rattle.serial.specs.Locks.{Kind, Mode, weak, strong}
 use Rattle.serial.specs.Locks as L
 use Rattle.machine.specs.Holders.{holds}
-use Rattle.machine.specs.State.{Stage, start, enter, at, change, take, Request, Undo, value, added, taken, State, sessionOf}
+use Rattle.machine.specs.State.{Stage, start, enter, change, take, Request, Undo, value, added, taken, State, sessionOf, at}
 use Rattle.machine.specs.Calls.{bad-code, request-checks}
 use Rattle.machine.specs.View.{holders, update-word, seen}
-use Rattle.machine.specs.Housekeeping.{lvs}
-use Rattle.machine.specs.Model.{eqb-no}
-use Rattle.machine.specs.Locate.{nobody}
-use Rattle.machine.specs.Sound.{gap-word, stored-in, Passes, Changing, Choice, Descends, to-change, to-first, to-second, to-choice, Stands, Cells, cells, set-cell, Holding, Undoable, Keyed}
+use Rattle.machine.specs.Sound.{gap-word, stored-in, Passes, Changing, Choice, Descends, to-change, to-first, to-choice, Stands, Cells, cells, set-cell, Holding, Undoable, Keyed, to-second}
 use Rattle.machine.specs.Effect.{Effect, Own}
-
--- A tidy is the housekeeper's.
-pub tidy-zero : (p c : ℕ) → bad-code p c ≡ false → c ≡ 6 → p ≡ 0
-tidy-zero zero c b e = refl
-tidy-zero (suc m) c b e = absurd (true≢false {b = true} refl (rw (eqb-no (suc m) 0 (λ z. omega (arith, z))) at (subst (λ z. bad-code (suc m) z ≡ false) e b)))
-
--- Checks read the entries' number alone.
-pub checks-kept : (p c e f g : ℕ) (s t : State) → length (t .entries) ≡ length (s .entries) → Passes (request-checks p c e f g s) → Passes (request-checks p c e f g t)
-checks-kept p c e f g s t l h = (h .0, (ap (λ n. leb c 4 && (eqb e 0 || ltb n e)) l ∙ h .1 .0, h .1 .1))
+use Rattle.machine.specs.Bits.{holds-none}
+use Rattle.machine.specs.Housekeeping.{lvs}
+use Rattle.machine.specs.Checks.{tidy-zero, checks-kept}
 
 -- ---- what lets party q go on
 
@@ -111,7 +102,7 @@ effect-remains p q s t E n = record {
 
     updated : (z : ℕ) → holders s L.group strong q z ≡ true → (stored-in z (lvs t) ≡ true) ⊎ ((p ≡ 0) × (update-word z (seen s) ≡ 0)) → stored-in z (lvs t) ≡ true
     updated z u (inl h) = h
-    updated z u (inr h) = absurd (true≢false u (ap (λ w. holds w q) (h .1) ∙ nobody q))
+    updated z u (inr h) = absurd (true≢false u (ap (λ w. holds w q) (h .1) ∙ holds-none q))
 
 -- ---- the whole
 

@@ -1,42 +1,36 @@
 -- Soundness is kept where a request ends, goes on to a stage without a latch, or is put, where a session begins, and by format.
-use mathlib.Core.Path.{_≡_, refl, sym, ap, _∙_, subst}
-use mathlib.Core.Bool.{Bool, true, false, cond, not, _||_}
+use mathlib.Core.Path.{_≡_, refl, sym, _∙_, subst, ap}
+use mathlib.Core.Bool.{Bool, true, false, cond, _||_}
 use mathlib.Core.List.{List, [], _∷_}
 use mathlib.Core.Logic.{inl}
 use mathlib.Core.Option.{Option, none, some, Option·some-injective, Option·none-ne-some}
-use Prim.Native.Nat.{ℕ, zero, suc, _+_, _-_, _≤_, _<_}
+use Prim.Native.Nat.{suc, _+_, _-_, _≤_, _<_, ℕ}
 use native.Mathlib.Decide.{ℕ-discrete}
 use native.Mathlib.Omega.{arith}
-use lib.Dec.{leb, ltb, eqb, eqb→eq, leb→le, nltb→le, eqb·zero-suc}
-use lib.ListN.{length, getD, set, length-set, replicate, length-replicate}
+use lib.Dec.{ltb, eqb, nltb→le, eqb·zero-suc}
+use lib.ListN.{length, set, length-set, length-replicate}
 use Rattle.serial.specs.Serial.{true≢false, not-true}
-use Rattle.serial.specs.Locks.{Kind, Mode, weak, strong}
-use Rattle.serial.specs.Locks as L
-use Rattle.serial.specs.Rising.{Tri, less, equal, greater}
-use Rattle.serial.specs.Model.{ℕ-tri}
-use Rattle.machine.specs.Gaps.{by-tri}
+use Rattle.serial.specs.Locks.{Kind, Mode}
+use Rattle.machine.specs.Logic.{eqb-yes, eqb-no, neither, not-false, eqb-not, eqb-is}
 use Rattle.machine.specs.Tree.{leaves}
-use Rattle.machine.specs.Locate.{nobody}
-use Rattle.machine.specs.Holders.{width, holds, latch-word}
-use Rattle.machine.specs.State.{Desc, Stage, start, enter, at, change, take, Request, Session, State, ok, top, no-entry, entryOf, idle, sessionOf, stored, fresh, lowest-from, with-root, with-table, on-session, on-tree, on-desc, pin-desc, set-hand, in-stage}
-use Rattle.machine.specs.Calls.{call, format, begin, put, begin-checks, put-checks, format-checks, records-for, request-checks, has-begun, is-some, in-hand, no-party, no-session, first-stage, tidy-from, accepted, begins}
-use Rattle.machine.specs.Descent.{on-latch, unlatched}
+use Rattle.machine.specs.State.{Desc, Stage, start, enter, Request, Session, State, top, no-entry, idle, sessionOf, fresh, lowest-from, with-table, on-session, on-desc, pin-desc, set-hand, in-stage, at, stored, ok}
 use Rattle.machine.specs.Steps.{answer, pinned, unpin, unlatch, ended}
-use Rattle.machine.specs.View.{holders, group-in, locate-word, update-word, seen, seen-under, same-trans, unlatch-same, unpin-same}
-use Rattle.machine.specs.Housekeeping.{Ordered, lvs}
-use Rattle.machine.specs.Sound.{gap-word, stored-in, pins-in, total, nodes, Shaped, of-hand, times, pins-by, latch-count, stands, Passes, to-first, to-choice, Stands, cells, Undoable, Sound, Formed, Latches, Keyed, formed-of, latches-of, keyed-of, sound-from}
+use Rattle.machine.specs.Calls.{call, format, begin, put, begin-checks, put-checks, format-checks, records-for, request-checks, has-begun, in-hand, no-party, no-session, first-stage, tidy-from, accepted, begins}
+use Rattle.machine.specs.View.{holders, group-in, released-same, frame-holders}
+use Rattle.machine.specs.Sound.{stored-in, pins-in, total, nodes, Shaped, of-hand, times, pins-by, latch-count, stands, Passes, to-first, to-choice, Stands, cells, Undoable, Sound, Formed, Latches, Keyed, formed-of, latches-of, keyed-of, sound-from}
 use Rattle.machine.specs.Effect.{Effect, Own}
-use Rattle.machine.specs.Entries.{get-set, get-set-other}
-use Rattle.machine.specs.Effects.{Remains, stands-kept, undoable-kept, keyed-after}
-use Rattle.machine.specs.Looks
-use Rattle.machine.specs.Looks.{with-hand, hand-put, hand-seat, total-set, total-least, frame-holders, shaped-ordered, pinned-stored, ordered-put, kept-at, kept-pins, put-pins, put-pins-other}
-use Rattle.machine.specs.Calm.{calm-refl, calm-then, none-keyed}
-use Rattle.machine.specs.Latch.{hand-stands, hand-latches, ended-latches}
-use Rattle.machine.specs.Alike.{unlatch-formed, ended-formed}
-use Rattle.machine.specs.Keeps.{under, leaves-under, under-on-lock, under-unlocked}
+use Rattle.machine.specs.Table.{with-hand, hand-seat, session-put, session-other, released, released-root, released-table, ended-own}
+use Rattle.machine.specs.Housekeeping.{Ordered, lvs, unlatch-leaves}
 use Rattle.machine.specs.Keys.{Kept}
-use Rattle.machine.specs.Moves.{refusing-cases}
-use Rattle.machine.specs.Model.{eqb-yes, eqb-no}
+use Rattle.machine.specs.Totals.{total-set, total-least, total-none}
+use Rattle.machine.specs.Checks.{refusing-cases, party-number, session-number, party-seat, session-begun, session-unbegun, empty-hand}
+use Rattle.machine.specs.Looks.{shaped-ordered, pinned-stored, ordered-put, kept-at, kept-pins, put-pins, put-pins-other, begun-of, unbegun-hand}
+use Rattle.machine.specs.Nearest.{lowest-stored}
+use Rattle.machine.specs.Fresh.{fresh-session, fresh-held, fresh-gap}
+use Rattle.machine.specs.Alike.{unlatch-formed, ended-formed}
+use Rattle.machine.specs.Latch.{hand-stands, hand-latches, ended-latches}
+use Rattle.machine.specs.Effects.{Remains, stands-kept, undoable-kept, keyed-after}
+use Rattle.machine.specs.Calm.{calm-refl, calm-then, none-keyed}
 
 -- ---- a session record alone
 
@@ -55,12 +49,12 @@ module _ (p : ℕ) (x : Session) (s : State) (S : Sound s) (h : p < length (s .t
   seated = with-table (set (s .table) p x) s
 
   mine : sessionOf p seated ≡ x
-  unfolding sessionOf
-  mine = get-set (s .table) p x idle h
+  unfolding on-session
+  mine = session-put p (λ _. x) s h
 
   theirs : (q : ℕ) → ¬ (p ≡ q) → sessionOf q seated ≡ sessionOf q s
-  unfolding sessionOf
-  theirs q n = get-set-other (s .table) p q x idle n
+  unfolding on-session
+  theirs q n = session-other p q (λ _. x) s n
 
   holders-same : (k : Kind) (m : Mode) (q z : ℕ) → holders seated k m q z ≡ holders s k m q z
   holders-same = frame-holders s seated refl refl
@@ -161,16 +155,11 @@ hand-sound : (p : ℕ) (r : Request) (s : State) → Sound s → p < length (s .
 unfolding set-hand on-session
 hand-sound p r s S h was F = seat-sound p (with-hand (some r) (sessionOf p s)) s S h (fits-sits p r s S F) was (F .unlatched)
 
--- Who has a request in hand is begun, or the housekeeper.
-hand-begun : (p : ℕ) (r : Request) (s : State) → Sound s → sessionOf p s .hand ≡ some r → ¬ (p ≡ 0) → sessionOf p s .begun ≡ true
-hand-begun zero r s S e n = absurd (n refl)
-hand-begun (suc m) r s S e n = Looks.hand-begun S m r e
-
 pub restage-sound : (p : ℕ) (r : Request) (g : Stage) (s : State) → Sound s → sessionOf p s .hand ≡ some r → stands (r .stage) ≡ 0 → stands g ≡ 0
     → ((k : ℕ) → times k (pinned (in-stage g r) g) ≡ times k (pinned r (r .stage))) → Stands p s (in-stage g r) g → Sound (set-hand p (some (in-stage g r)) s)
 restage-sound p r g s S e was is pins st =
     hand-sound p (in-stage g r) s S (hand-seat p r s e) (ap hand-stands e ∙ was) (record {
-      begun = hand-begun p r s S e;
+      begun = begun-of s (S .unbegun-hand) p r e;
       unlatched = is;
       pins-same = λ k. ap (of-hand 0 (λ r. times k (pinned r (r .stage)))) e ∙ sym (pins k);
       checked = S .checked p r e;
@@ -179,26 +168,12 @@ restage-sound p r g s S e was is pins st =
 
 -- ---- begin
 
-or-false : (a b : Bool) → (a || b) ≡ false → (a ≡ false) × (b ≡ false)
-or-false true b e = absurd (true≢false {b = true} refl e)
-or-false false b e = (refl, e)
-
-pub party-seat : (p : ℕ) (s : State) → Sound s → no-party p ≡ false → p < length (s .table)
-party-seat p s S e = let q = nltb→le width p (rw e tt) in let n = S .seats in omega arith
-
-not-zero : (p : ℕ) → eqb p 0 ≡ false → ¬ (p ≡ 0)
-not-zero p e z = true≢false (eqb-yes p 0 z) e
-
--- A session that has begun.
-pub session-begun : (p : ℕ) (s : State) → no-session p ≡ false → has-begun p s ≡ true → sessionOf p s .begun ≡ true
-session-begun p s a b = sym (ap (λ z. z || sessionOf p s .begun) (or-false (eqb p 0) (no-party p) a .0)) ∙ b
-
 pub begin-sound : (p : ℕ) (s : State) → Sound s → no-session p ≡ false → has-begun p s ≡ false → Sound (begins p s)
 unfolding begins on-session
-begin-sound p s S a b = seat-sound p x s S (party-seat p s S (or-false (eqb p 0) (no-party p) a .1)) (record {
+begin-sound p s S a b = seat-sound p x s S (party-seat p s (S .seats) (session-number p a .1)) (record {
   undos-same = refl;
   begun-more = λ e. refl;
-  zero-unmarked = λ e. absurd (proper e);
+  zero-unmarked = λ e. absurd (session-number p a .0 e);
   hand-begun = λ n e. idle-hand;
   pins-same = λ k. refl;
   checked = λ r e. absurd (nothing r e);
@@ -208,18 +183,8 @@ begin-sound p s S a b = seat-sound p x s S (party-seat p s S (or-false (eqb p 0)
     x : Session
     x = record { begun = true; hand = sessionOf p s .hand; undos = sessionOf p s .undos }
 
-    proper : ¬ (p ≡ 0)
-    proper = not-zero p (or-false (eqb p 0) (no-party p) a .0)
-
-    unmarked : sessionOf p s .begun ≡ false
-    unmarked = or-false (eqb p 0) (sessionOf p s .begun) b .1
-
-    none-of : (q : ℕ) → ¬ (q ≡ 0) → sessionOf q s .begun ≡ false → sessionOf q s .hand ≡ none
-    none-of zero n e = absurd (n refl)
-    none-of (suc m) n e = S .unbegun-hand m e
-
     idle-hand : sessionOf p s .hand ≡ none
-    idle-hand = none-of p proper unmarked
+    idle-hand = unbegun-hand S p (session-number p a .0) (session-unbegun p s b)
 
     unlatched : hand-stands (sessionOf p s .hand) ≡ 0
     unlatched = ap hand-stands idle-hand
@@ -228,23 +193,6 @@ begin-sound p s S a b = seat-sound p x s S (party-seat p s S (or-false (eqb p 0)
     nothing r e = Option·none-ne-some r (sym idle-hand ∙ e)
 
 -- ---- put
-
--- The lowest stored descriptor from a key on is stored.
-pub lowest-stored : (k : ℕ) (l : List Desc) (d : Desc) → lowest-from k l ≡ some d → (k ≤ d .key) × (stored-in (d .key) l ≡ true)
-unfolding lowest-from stored-in
-lowest-stored k [] d e = absurd (Option·none-ne-some d e)
-lowest-stored k (x ∷ l) d e = go (leb k (x .key)) refl e (lowest-stored k l d)
-  where
-    either-way : (b c : Bool) → c ≡ true → cond b true c ≡ true
-    either-way true c e = refl
-    either-way false c e = e
-
-    go : (o : Bool) → leb k (x .key) ≡ o → cond o (some x) (lowest-from k l) ≡ some d → (lowest-from k l ≡ some d → (k ≤ d .key) × (stored-in (d .key) l ≡ true))
-        → (k ≤ d .key) × (cond (eqb (x .key) (d .key)) true (stored-in (d .key) l) ≡ true)
-    go true q e ih =
-        let z = ap (λ y. y .key) (Option·some-injective x d e) in
-        (subst (λ n. k ≤ n) z (leb→le k (x .key) (rw q tt)), ap (λ b. cond b true (stored-in (d .key) l)) (eqb-yes (x .key) (d .key) z))
-    go false q e ih = (ih e .0, either-way (eqb (x .key) (d .key)) (stored-in (d .key) l) (ih e .1))
 
 module _ (p c e f g : ℕ) (s : State) where
   abbrev first-request : Stage → Request
@@ -260,26 +208,16 @@ module _ (p c e f g : ℕ) (s : State) where
   unfolding first-stage pinned stored
   first-fits = go (eqb c 5) refl (eqb c 6) refl
     where
-      not-5 : eqb c 5 ≡ false → ¬ (c ≡ 5)
-      not-5 q z = true≢false (eqb-yes c 5 z) q
-
       chosen : eqb c 5 ≡ false → c ≡ 6 → (o : Option Desc) → lowest-from (suc f) (lvs s) ≡ o → First (tidy-from o)
-      chosen q z none w = record { unlatched = refl; unpinned = λ k. refl; standing = not-5 q }
+      chosen q z none w = record { unlatched = refl; unpinned = λ k. refl; standing = eqb-not c 5 q }
       chosen q z (some d) w =
           let m = lowest-stored (suc f) (lvs s) d w in
           record { unlatched = refl; unpinned = λ k. rw q refl; standing = to-choice (record { code-6 = z; above = m .0; stored = m .1 }) }
 
       go : (a : Bool) → eqb c 5 ≡ a → (b : Bool) → eqb c 6 ≡ b → First (cond a (enter f) (cond b (tidy-from (lowest-from (suc f) (lvs s))) start))
-      go true q b w = record { unlatched = refl; unpinned = λ k. rw (q, eqb-yes f f refl) refl; standing = to-first (eqb→eq c 5 (rw q tt)) refl }
-      go false q true w = chosen q (eqb→eq c 6 (rw w tt)) (lowest-from (suc f) (lvs s)) refl
-      go false q false w = record { unlatched = refl; unpinned = λ k. refl; standing = not-5 q }
-
-pub empty-hand : (p : ℕ) (s : State) → in-hand p s ≡ false → sessionOf p s .hand ≡ none
-empty-hand p s e = go (sessionOf p s .hand) e
-  where
-    go : (o : Option Request) → is-some o ≡ false → o ≡ none
-    go none e = refl
-    go (some r) e = absurd (true≢false {b = true} refl e)
+      go true q b w = record { unlatched = refl; unpinned = λ k. rw (q, eqb-yes f f refl) refl; standing = to-first (eqb-is c 5 q) refl }
+      go false q true w = chosen q (eqb-is c 6 w) (lowest-from (suc f) (lvs s)) refl
+      go false q false w = record { unlatched = refl; unpinned = λ k. refl; standing = eqb-not c 5 q }
 
 pub put-sound : (p c e f g : ℕ) (s : State) → Sound s → no-party p ≡ false → has-begun p s ≡ true → in-hand p s ≡ false → Passes (request-checks p c e f g s)
     → Sound (accepted p c e f g s)
@@ -287,8 +225,8 @@ unfolding accepted
 put-sound p c e f g s S party b free checks =
     let F = first-fits p c e f g s in
     let o = empty-hand p s free in
-    hand-sound p (first-request p c e f g s (first-stage c f s)) s S (party-seat p s S party) (ap hand-stands o) (record {
-      begun = λ n. sym (ap (λ z. z || sessionOf p s .begun) (eqb-no p 0 n)) ∙ b;
+    hand-sound p (first-request p c e f g s (first-stage c f s)) s S (party-seat p s (S .seats) (party-number p party)) (ap hand-stands o) (record {
+      begun = λ n. session-begun p s n b;
       unlatched = F .unlatched;
       pins-same = λ k. ap (of-hand 0 (λ r. times k (pinned r (r .stage)))) o ∙ sym (F .unpinned k);
       checked = checks;
@@ -326,134 +264,65 @@ unpin-pins (j ∷ js) s o h k = omega (arith, unpin-pins js t (ordered-put j (pi
     one : (i : ℕ) → pins-in i (lvs t) + times i (j ∷ []) ≡ pins-in i (lvs s)
     one = unpin-one j s (kept-at j s o (pinned-stored j (lvs s) some-pin)) some-pin
 
--- Only the root changes.
-unpin-root : (ks : List ℕ) (s : State) → unpin ks s ≡ with-root (unpin ks s .root) s
-unfolding unpin on-tree
-unpin-root [] s = refl
-unpin-root (k ∷ ks) s = unpin-root ks (on-desc k (pin-desc (λ n. n - 1)) s)
-
-unlatch-root : (p : ℕ) (g : Stage) (s : State) → unlatch p g s ≡ with-root (unlatch p g s .root) s
-unfolding unlatch on-tree
-unlatch-root p start s = refl
-unlatch-root p (enter x) s = refl
-unlatch-root p (at x) s = refl
-unlatch-root p change s = refl
-unlatch-root p (take x) s = refl
-
-unlatch-leaves : (p : ℕ) (g : Stage) (s : State) → lvs (unlatch p g s) ≡ lvs s
-unfolding unlatch on-tree
-unlatch-leaves p start s = refl
-unlatch-leaves p (enter x) s = refl
-unlatch-leaves p (at x) s =
-    let h = suc (s .root .height) in
-    let t = s .root .node in
-    leaves-under h (on-latch (latch-word p) x unlatched h t) ∙ under-on-lock (λ d. d ∷ []) (latch-word p) x unlatched (under-unlocked (λ d. d ∷ [])) h t ∙ sym (leaves-under h t)
-unlatch-leaves p change s = refl
-unlatch-leaves p (take x) s = refl
-
-module _ (p : ℕ) (r : Request) (s : State) where
+module _ (p : ℕ) (r : Request) (s : State) (S : Sound s) (e : sessionOf p s .hand ≡ some r) where
   abbrev keys : List ℕ
   keys = pinned r (r .stage)
 
-  abbrev released : State
-  released = unlatch p (r .stage) s
+  abbrev free : State
+  free = unlatch p (r .stage) s
 
-  abbrev unpinned : State
-  unpinned = unpin keys released
-
-  ended-rest : unpinned ≡ with-root (unpinned .root) s
-  ended-rest = unpin-root keys released ∙ ap (with-root (unpinned .root)) (unlatch-root p (r .stage) s)
-
-module _ (p : ℕ) (r : Request) (s : State) (S : Sound s) (e : sessionOf p s .hand ≡ some r) where
-  by-hand : (k : ℕ) → pins-by k (sessionOf p s) ≡ times k (keys p r s)
+  by-hand : (k : ℕ) → pins-by k (sessionOf p s) ≡ times k keys
   by-hand k = ap (of-hand 0 (λ r. times k (pinned r (r .stage)))) e
 
-  ended-pins : (k : ℕ) → pins-in k (lvs (unpinned p r s)) + times k (keys p r s) ≡ pins-in k (lvs s)
+  ended-pins : (k : ℕ) → pins-in k (lvs (released p r s)) + times k keys ≡ pins-in k (lvs s)
   unfolding Ordered sessionOf
   ended-pins k =
-      let o : Ordered (released p r s) = shaped-ordered (suc (released p r s .root .height)) 1 0 top (released p r s .root .node) (unlatch-formed p (r .stage) s (formed-of S) .shaped) in
-      let enough : (i : ℕ) → times i (keys p r s) ≤ pins-in i (lvs (released p r s)) = λ i. subst (λ l. times i (keys p r s) ≤ pins-in i l) (sym (unlatch-leaves p (r .stage) s))
+      let o : Ordered free = shaped-ordered (suc (free .root .height)) 1 0 top (free .root .node) (unlatch-formed p (r .stage) s (formed-of S) .shaped) in
+      let enough : (i : ℕ) → times i keys ≤ pins-in i (lvs free) = λ i. subst (λ l. times i keys ≤ pins-in i l) (sym (unlatch-leaves p (r .stage) s))
       (omega (arith, by-hand i, S .pins-match i, total-least (pins-by i) (s .table) p idle (hand-seat p r s e))) in
-      omega (arith, unpin-pins (keys p r s) (released p r s) o enough k, ap (pins-in k) (unlatch-leaves p (r .stage) s))
+      omega (arith, unpin-pins keys free o enough k, ap (pins-in k) (unlatch-leaves p (r .stage) s))
 
   ended-keyed : Keyed (ended p r s)
   unfolding ended
-  ended-keyed = none-keyed p s (unpinned p r s) r (keyed-of S) e
-      (calm-then p s s (unpinned p r s) (calm-refl p s (keyed-of S)) (same-trans (unlatch-same p (r .stage) s) (unpin-same (keys p r s) (released p r s))) (ap (λ y. y .table) (ended-rest p r s)) (ap (λ y. y .records) (ended-rest p r s)))
+  ended-keyed = none-keyed p s (released p r s) r (keyed-of S) e
+      (calm-then p s s (released p r s) (calm-refl p s (keyed-of S)) (released-same p r s) (released-table p r s) (ap (λ y. y .records) (released-root p r s)))
       ended-pins
 
 pub ended-sound : (p : ℕ) (r : Request) (s : State) → Sound s → sessionOf p s .hand ≡ some r → Sound (ended p r s)
 ended-sound p r s S e = sound-from (ended-formed p r s (formed-of S)) (ended-latches p r s (latches-of S) e) (ended-keyed p r s S e)
 
 pub ended-hand : (p : ℕ) (r : Request) (s : State) → sessionOf p s .hand ≡ some r → sessionOf p (ended p r s) .hand ≡ none
-unfolding ended
-ended-hand p r s e =
-    let v = unpin (pinned r (r .stage)) (unlatch p (r .stage) s) in
-    ap (λ y. y .hand) (hand-put p none v (subst (λ l. p < length l) (sym (ap (λ y. y .table) (ended-rest p r s))) (hand-seat p r s e)))
+ended-hand p r s e = ap (λ y. y .hand) (ended-own p r s (hand-seat p r s e))
 
 -- ---- format
 
-get-same : {A : Type 0} (n i : ℕ) (a : A) → getD (replicate n a) i a ≡ a
-get-same zero i a = refl
-get-same (suc n) zero a = refl
-get-same (suc n) (suc i) a = get-same n i a
-
-total-none : (F : Session → ℕ) → F idle ≡ 0 → (n : ℕ) → total F (replicate n idle) ≡ 0
-total-none F e zero = refl
-total-none F e (suc n) = omega (arith, e, total-none F e n)
-
-none-at : {a b : ℕ} (t : Tri _<_ a b) → by-tri {A = ℕ} t 0 0 0 ≡ 0
-none-at (less h) = refl
-none-at (equal h) = refl
-none-at (greater h) = refl
-
 module _ (m r : ℕ) where
-  fresh-session : (p : ℕ) → sessionOf p (fresh m r) ≡ idle
-  unfolding fresh sessionOf
-  fresh-session p = get-same (suc width) p idle
-
-  fresh-entry : (z : ℕ) → entryOf z (fresh m r) ≡ no-entry
-  unfolding fresh entryOf
-  fresh-entry zero = refl
-  fresh-entry (suc i) = get-same m i no-entry
-
-  fresh-held : (k : Kind) (n : Mode) (p z : ℕ) → holders (fresh m r) k n p z ≡ false
-  unfolding fresh locate-word update-word seen-under under
-  fresh-held L.entry weak p z = ap (λ y. holds (y .share) p) (fresh-entry z) ∙ nobody p
-  fresh-held L.entry strong p z = ap (λ y. holds (y .exclusive) p) (fresh-entry z) ∙ nobody p
-  fresh-held L.group weak p z = ap (λ w. holds w p) (none-at (ℕ-tri z 0)) ∙ nobody p
-  fresh-held L.group strong p z = ap (λ w. holds w p) (none-at (ℕ-tri z 0)) ∙ nobody p
-
-  fresh-gap : (p z : ℕ) → holds (gap-word z (seen (fresh m r))) p ≡ false
-  unfolding fresh gap-word seen-under under
-  fresh-gap p z = ap (λ w. holds w p) (none-at (ℕ-tri z 0)) ∙ nobody p
-
   no-hand : {A : Type 0} (p : ℕ) (q : Request) → sessionOf p (fresh m r) .hand ≡ some q → A
-  no-hand p q e = absurd (Option·none-ne-some q (sym (ap (λ y. y .hand) (fresh-session p)) ∙ e))
+  no-hand p q e = absurd (Option·none-ne-some q (sym (ap (λ y. y .hand) (fresh-session m r p)) ∙ e))
 
   pub fresh-sound : 1 ≤ m → m ≤ 1024 → 8 ≤ r → r ≤ 4096 → Sound (fresh m r)
   unfolding fresh leaves stored-in group-in pins-in nodes Shaped latch-count
   fresh-sound a b c d = record {
     sizes = (omega (arith, length-replicate m no-entry), omega (arith, length-replicate m no-entry), c, d);
     seats = refl;
-    counted = omega (arith, total-none (λ y. length (y .undos)) refl 17);
+    counted = omega (arith, total-none (λ y. length (y .undos)) idle refl 17);
     shaped = (omega arith, omega arith, tt, ((omega arith, omega arith), refl));
     zero-stored = refl;
     zero-empty = refl;
     top-free = refl;
     listed = (tt, tt);
-    only-begun = λ k n p z e. absurd (true≢false e (fresh-held k n p z));
-    only-begun-gaps = λ p z e. absurd (true≢false e (fresh-gap p z));
-    agree = λ k n o p q z e f. absurd (true≢false e (fresh-held k n p z));
-    unbegun-hand = λ p e. ap (λ y. y .hand) (fresh-session (suc p));
-    unbegun-undos = λ p e. ap (λ y. y .undos) (fresh-session p);
-    zero-unmarked = ap (λ y. y .begun) (fresh-session 0);
-    pins-match = λ k. no-pins (eqb 0 k) ∙ sym (total-none (pins-by k) refl 17);
-    latches-match = λ p. ap (λ b. cond {A = ℕ} b 1 0 + 0) (eqb·zero-suc p) ∙ sym (ap (λ y. hand-stands (y .hand)) (fresh-session p));
+    only-begun = λ k n p z e. absurd (true≢false e (fresh-held m r k n p z));
+    only-begun-gaps = λ p z e. absurd (true≢false e (fresh-gap m r p z));
+    agree = λ k n o p q z e f. absurd (true≢false e (fresh-held m r k n p z));
+    unbegun-hand = λ p e. ap (λ y. y .hand) (fresh-session m r (suc p));
+    unbegun-undos = λ p e. ap (λ y. y .undos) (fresh-session m r p);
+    zero-unmarked = ap (λ y. y .begun) (fresh-session m r 0);
+    pins-match = λ k. no-pins (eqb 0 k) ∙ sym (total-none (pins-by k) idle refl 17);
+    latches-match = λ p. ap (λ b. cond {A = ℕ} b 1 0 + 0) (eqb·zero-suc p) ∙ sym (ap (λ y. hand-stands (y .hand)) (fresh-session m r p));
     placed = λ p q x e f. no-hand p q e;
     checked = λ p q e. no-hand p q e;
     standing = λ p q e. no-hand p q e;
-    undoable = λ p. subst (λ y. Undoable p (fresh m r) (y .undos) (cells (fresh m r))) (sym (fresh-session p)) tt;
+    undoable = λ p. subst (λ y. Undoable p (fresh m r) (y .undos) (cells (fresh m r))) (sym (fresh-session m r p)) tt;
   }
     where
       no-pins : (o : Bool) → cond {A = ℕ} o 0 0 ≡ 0
@@ -461,10 +330,6 @@ module _ (m r : ℕ) where
       no-pins false = refl
 
 -- ---- the calls
-
-pub not-false : (a : Bool) → not a ≡ false → a ≡ true
-not-false true e = refl
-not-false false e = absurd (true≢false {b = true} refl e)
 
 pub begin-keeps : (p : ℕ) (s : State) → Sound s → Sound (call (begin p) s .next)
 unfolding call
@@ -482,6 +347,6 @@ format-keeps m words s S = refusing-cases (λ o. Sound (o .next)) (format-checks
   where
     started : (eqb m 0 || ltb 1024 m || ltb (records-for m words) 8) ≡ false → Sound (fresh m (records-for m words))
     started e =
-        let a = or-false (eqb m 0 || ltb 1024 m) (ltb (records-for m words) 8) e in
-        let b = or-false (eqb m 0) (ltb 1024 m) (a .0) in
-        fresh-sound m (records-for m words) (let z = not-zero m (b .0) in omega arith) (nltb→le 1024 m (rw (b .1) tt)) (nltb→le (records-for m words) 8 (rw (a .1) tt)) (omega arith)
+        let a = neither (eqb m 0 || ltb 1024 m) (ltb (records-for m words) 8) e in
+        let b = neither (eqb m 0) (ltb 1024 m) (a .0) in
+        fresh-sound m (records-for m words) (let z = eqb-not m 0 (b .0) in omega arith) (nltb→le 1024 m (rw (b .1) tt)) (nltb→le (records-for m words) 8 (rw (a .1) tt)) (omega arith)

@@ -1,148 +1,107 @@
--- Begin, put and commit are events of the lock machine.
-use mathlib.Core.Path.{_≡_, refl, sym, ap, ap₂, _∙_, subst}
-use mathlib.Core.Bool.{Bool, true, false, cond, not, _&&_, _||_}
-use mathlib.Core.List.{List, [], _∷_, _++_, map, map-append}
-use mathlib.Core.Option.{Option, none, some}
-use Prim.Native.Nat.{ℕ, zero, suc, _+_, _-_, _*_, _/_, _≤_, _<_}
-use native.Mathlib.Decide.{ℕ-discrete}
+-- Begin and commit are events of the lock machine; and what a session that leaves takes off.
+use mathlib.Core.Path.{_≡_, refl, sym, ap₂, _∙_, ap}
+use mathlib.Core.Bool.{true, false, cond}
+use mathlib.Core.List.{List, [], _∷_, _++_, map}
+use Prim.Native.Nat.{zero, suc, _+_, _<_, ℕ}
 use native.Mathlib.Omega.{arith}
-use lib.Dec.{eqb}
-use lib.ListN.{length, getD, set}
+use lib.ListN.{length, getD, List·getD-map}
+use Rattle.serial.specs.Rising.{Tri, less, equal, greater}
 use Rattle.serial.specs.Model.{Item, ℕ-tri}
 use Rattle.serial.specs.Model as R
-use Rattle.serial.specs.Rising.{Tri, less, equal, greater}
 use Rattle.serial.specs.Locks.{Kind, Mode, weak, strong}
 use Rattle.serial.specs.Locks as L
-use Rattle.serial.specs.LockMachine.{Store, Stays, Opened, Ended, Committed, Unseen}
-use Rattle.machine.specs.Gaps.{by-tri, locators, updaters}
-use Rattle.machine.specs.Gaps as G
+use Rattle.serial.specs.LockMachine.{Store, Opened, Ended, Committed}
+use Rattle.machine.specs.Holders.{holds, left-by, elem}
 use Rattle.machine.specs.Tree.{mapE, flat, leaves}
-use Rattle.machine.specs.Holders.{width, bitOf, without, holds, left-by, elem}
-use Rattle.machine.specs.Bits.{left-same, left-other}
-use Rattle.machine.specs.State.{Entry, Desc, Tree, Request, Session, State, no-entry, idle, entryOf, sessionOf, with-entries, with-free, on-session, on-tree, on-leaves, hold-desc, set-hand}
-use Rattle.machine.specs.View.{holder-words, plain, seen, group-in, locate-word, update-word, log-entry, items, holders, view, Same, same-unseen, same-items, same-holders, free-same, set-hand-same}
+use Rattle.machine.specs.State.{Tree, Session, State, no-entry, idle, entryOf, sessionOf, with-free, on-session, on-tree, on-leaves, hold-desc, Desc}
+use Rattle.machine.specs.Calls.{entry-left, leave, begins, commits}
+use Rattle.machine.specs.Gaps.{by-tri, reads, reads-locate, reads-update}
+use Rattle.machine.specs.Gaps as G
+use Rattle.machine.specs.View.{seen, group-in, locate-word, update-word, log-entry, items, holders, view, Same, same-items, same-holders, free-same, holder-words, frame-holders, frame-items}
+use Rattle.machine.specs.Bits.{left-same, left-other, left-le}
+use Rattle.machine.specs.Table.{session-put, session-other, session-kept, leave-own, leave-other}
+use Rattle.machine.specs.Keeps.{flat-same}
 use Rattle.machine.specs.Order.{lv}
-use Rattle.machine.specs.Groups.{words}
+use Rattle.machine.specs.Groups.{words, group-map, map-flat}
 use Rattle.machine.specs.Housekeeping.{lvs, seen-words, seen-group}
-use Rattle.machine.specs.Calls.{entry-left, leave, begins, commits, accepted}
-use Rattle.machine.specs.Entries.{get-set, get-set-other}
-
--- ---- a request put is not seen
-
-pub put-unseen : (p : ℕ) (r : Option Request) (s : State) → Unseen (view s) (view (set-hand p r s))
-put-unseen p r s = same-unseen s (set-hand p r s) (set-hand-same p r s)
 
 -- ---- begin
 
 pub begin-opened : (p : ℕ) (s : State) → p < length (s .table) → sessionOf p s .begun ≡ false → Opened p (view s) (view (begins p s))
-unfolding begins on-session sessionOf entryOf
+unfolding begins on-session
 begin-opened p s h w =
     let f : Session → Session = λ t. record { begun = true; hand = t .hand; undos = t .undos } in
     record {
       was = w;
-      now = ap (λ x. x .begun) (get-set (s .table) p (f (getD (s .table) p idle)) idle h);
-      begun-others = λ t n. ap (λ x. x .begun) (get-set-other (s .table) p t (f (getD (s .table) p idle)) idle n);
-      stays = λ t. record {
-        holds-kept = λ k m z. kept t k m z;
-        log-kept = ap (map log-entry) (Rattle.machine.specs.View.put-session (λ x. x .undos) f (λ x. refl) (s .table) p t);
-      };
-      db-kept = item;
+      now = ap (λ x. x .begun) (session-put p f s h);
+      begun-others = λ t n. ap (λ x. x .begun) (session-other p t f s n);
+      stays = λ t. record { holds-kept = λ k m z. frame-holders s (begins p s) refl refl k m t z; log-kept = ap (map log-entry) (session-kept (λ x. x .undos) p f s (λ x. refl) t) };
+      db-kept = frame-items s (begins p s) refl refl;
     }
-  where
-    kept : (t : ℕ) (k : Kind) (m : Mode) (z : ℕ) → holders (begins p s) k m t z ≡ holders s k m t z
-    kept t L.entry weak zero = refl
-    kept t L.entry weak (suc z) = refl
-    kept t L.entry strong zero = refl
-    kept t L.entry strong (suc z) = refl
-    kept t L.group weak z = refl
-    kept t L.group strong z = refl
-
-    item : (i : Item) → items (begins p s) i ≡ items s i
-    item (R.value zero) = refl
-    item (R.value (suc e)) = refl
-    item (R.cell k e) = refl
 
 -- ---- leaving
 
-without-zero : (k : ℕ) → without 0 k ≡ 0
-unfolding without
-without-zero zero = refl
-without-zero (suc k) = ap (λ n. n * 2 + 0) (without-zero k)
-
 pub zero-left : (p : ℕ) → left-by p 0 ≡ 0
-zero-left zero = refl
-zero-left (suc k) = without-zero k
+zero-left p = omega (arith, left-le p 0)
 
 abbrev pub off : ℕ → Desc → Desc
 off p d = hold-desc (left-by p) (left-by p) (left-by p) d
 
-leaves-off : (f : Desc → Desc) (h : ℕ) (t : Tree h) → lv h (on-leaves f h t) ≡ map f (lv h t)
+-- Every leaf changed by f.
+leaves-map : (f : Desc → Desc) (h : ℕ) (t : Tree h) → lv h (on-leaves f h t) ≡ map f (lv h t)
 unfolding leaves on-leaves
-leaves-off f zero t = refl
-leaves-off f (suc h) t = go (t .sons) (leaves-off f h)
+leaves-map f zero t = refl
+leaves-map f (suc h) t = flat-mapE (leaves Desc ℕ h) (on-leaves f h) (t .sons) ∙ flat-same (λ a. lv h (on-leaves f h a)) (λ a. map f (lv h a)) (leaves-map f h) (t .sons) ∙ map-flat f (lv h) (t .sons)
   where
-    go : (es : List (Tree h × ℕ)) → ((a : Tree h) → lv h (on-leaves f h a) ≡ map f (lv h a)) → flat (leaves Desc ℕ h) (mapE (on-leaves f h) es) ≡ map f (flat (leaves Desc ℕ h) es)
-    go [] e = refl
-    go (p ∷ es) e = ap₂ (λ a b. a ++ b) (e (p .0)) (go es e) ∙ sym (map-append f (leaves Desc ℕ h (p .0)) (flat (leaves Desc ℕ h) es))
+    flat-mapE : {A B C : Type 0} (g : B → List C) (k : A → B) (es : List (A × ℕ)) → flat g (mapE k es) ≡ flat (λ a. g (k a)) es
+    flat-mapE g k [] = refl
+    flat-mapE g k (e ∷ es) = ap (λ l. g (k (e .0)) ++ l) (flat-mapE g k es)
 
-by-tri-left : (p : ℕ) {m n : ℕ} (t : Tri _<_ m n) (a b c : ℕ) → by-tri t (left-by p a) (left-by p b) (left-by p c) ≡ left-by p (by-tri t a b c)
-by-tri-left p (less h) a b c = refl
-by-tri-left p (equal h) a b c = refl
-by-tri-left p (greater h) a b c = refl
-
-locate-off : (p g : ℕ) (l : List Desc) (j : ℕ) → locators (left-by p g) (words (map (off p) l)) j ≡ left-by p (locators g (words l) j)
-locate-off p g [] j = refl
-locate-off p g (d ∷ l) j = ap (λ w. by-tri (ℕ-tri j (d .key)) (left-by p g) (left-by p (d .locate)) w) (locate-off p (d .gap) l j)
-    ∙ by-tri-left p (ℕ-tri j (d .key)) g (d .locate) (locators (d .gap) (words l) j)
-
-update-off : (p : ℕ) (l : List Desc) (j : ℕ) → updaters (words (map (off p) l)) j ≡ left-by p (updaters (words l) j)
-update-off p [] j = sym (zero-left p)
-update-off p (d ∷ l) j = ap₂ (λ z w. by-tri (ℕ-tri j (d .key)) z (left-by p (d .update)) w) (sym (zero-left p)) (update-off p l j)
-    ∙ by-tri-left p (ℕ-tri j (d .key)) 0 (d .update) (updaters (words l) j)
-
-group-off : (p : ℕ) (l : List Desc) (j : ℕ) → group-in j (map (off p) l) ≡ group-in j l
-unfolding group-in
-group-off p [] j = refl
-group-off p (d ∷ l) j = ap (λ w. cond (eqb (d .key) j) (d .members) w) (group-off p l j)
-
-get-map : (p i : ℕ) (l : List Entry) → getD (map (entry-left p) l) i (entry-left p no-entry) ≡ entry-left p (getD l i no-entry)
-get-map p i [] = refl
-get-map p zero (x ∷ l) = refl
-get-map p (suc i) (x ∷ l) = get-map p i l
+-- A holder off in every word is off where the words are read.
+pub reads-off : (p : ℕ) (α : G.Desc → ℕ) (γ : ℕ → ℕ) → ((d : Desc) → α (holder-words (off p d)) ≡ left-by p (α (holder-words d))) → ((g : ℕ) → γ (left-by p g) ≡ left-by p (γ g))
+    → (g : ℕ) (l : List Desc) (j : ℕ) → reads α γ (left-by p g) (words (map (off p) l)) j ≡ left-by p (reads α γ g (words l) j)
+reads-off p α γ a c g [] j = c g
+reads-off p α γ a c g (d ∷ l) j = go (ℕ-tri j (d .key)) (reads-off p α γ a c (d .gap) l j)
+  where
+    go : (t : Tri _<_ j (d .key)) → reads α γ (left-by p (d .gap)) (words (map (off p) l)) j ≡ left-by p (reads α γ (d .gap) (words l) j)
+        → by-tri t (γ (left-by p g)) (α (holder-words (off p d))) (reads α γ (left-by p (d .gap)) (words (map (off p) l)) j) ≡ left-by p (by-tri t (γ g) (α (holder-words d)) (reads α γ (d .gap) (words l) j))
+    go (less h) ih = c g
+    go (equal h) ih = a d
+    go (greater h) ih = ih
 
 none-left : (p : ℕ) → entry-left p no-entry ≡ no-entry
 none-left p = ap₂ (λ a b. record { value = 0; share = a; exclusive = b }) (zero-left p) (zero-left p)
 
-left-session : (p : ℕ) (s : State) → p < length (s .table) → sessionOf p (leave p s) ≡ idle
-unfolding leave on-session on-tree sessionOf
-left-session p s h = get-set (s .table) p idle idle h
-
-left-sessions : (p : ℕ) (s : State) (t : ℕ) → ¬ (p ≡ t) → sessionOf t (leave p s) ≡ sessionOf t s
-unfolding leave on-session on-tree sessionOf
-left-sessions p s t n = get-set-other (s .table) p t idle idle n
-
 module _ (p : ℕ) (s : State) where
-  leave-lvs : lvs (leave p s) ≡ map (off p) (lvs s)
+  pub leave-lvs : lvs (leave p s) ≡ map (off p) (lvs s)
   unfolding leave on-session on-tree
-  leave-lvs = leaves-off (off p) (suc (s .root .height)) (s .root .node)
+  leave-lvs = leaves-map (off p) (suc (s .root .height)) (s .root .node)
 
   pub leave-entry : (z : ℕ) → entryOf z (leave p s) ≡ entry-left p (entryOf z s)
   unfolding leave on-session on-tree entryOf
   leave-entry zero = sym (none-left p)
-  leave-entry (suc i) = ap (getD (map (entry-left p) (s .entries)) i) (sym (none-left p)) ∙ get-map p i (s .entries)
+  leave-entry (suc i) = ap (getD (map (entry-left p) (s .entries)) i) (sym (none-left p)) ∙ List·getD-map (entry-left p) (s .entries) i no-entry
+
+  pub leave-reads : (α : G.Desc → ℕ) (γ : ℕ → ℕ) → ((d : Desc) → α (holder-words (off p d)) ≡ left-by p (α (holder-words d))) → ((g : ℕ) → γ (left-by p g) ≡ left-by p (γ g))
+      → (k : ℕ) → reads α γ 0 (words (seen (leave p s))) k ≡ left-by p (reads α γ 0 (words (seen s)) k)
+  leave-reads α γ a c k = ap (λ w. reads α γ 0 w k) (seen-words (leave p s) ∙ ap words leave-lvs) ∙ ap (λ g. reads α γ g (words (map (off p) (lvs s))) k) (sym (zero-left p))
+      ∙ reads-off p α γ a c 0 (lvs s) k ∙ sym (ap (λ w. left-by p (reads α γ 0 w k)) (seen-words s))
 
   leave-locate : (k : ℕ) → locate-word k (seen (leave p s)) ≡ left-by p (locate-word k (seen s))
   unfolding locate-word
-  leave-locate k = ap (λ w. locators 0 w k) (seen-words (leave p s) ∙ ap words leave-lvs) ∙ ap (λ g. locators g (words (map (off p) (lvs s))) k) (sym (zero-left p))
-      ∙ locate-off p 0 (lvs s) k ∙ sym (ap (λ w. left-by p (locators 0 w k)) (seen-words s))
+  leave-locate k = reads-locate 0 (words (seen (leave p s))) k ∙ leave-reads (λ x. x .locate) (λ w. w) (λ d. refl) (λ g. refl) k ∙ sym (ap (left-by p) (reads-locate 0 (words (seen s)) k))
 
   leave-update : (k : ℕ) → update-word k (seen (leave p s)) ≡ left-by p (update-word k (seen s))
   unfolding update-word
-  leave-update k = ap (λ w. updaters w k) (seen-words (leave p s) ∙ ap words leave-lvs) ∙ update-off p (lvs s) k ∙ sym (ap (λ w. left-by p (updaters w k)) (seen-words s))
+  leave-update k = reads-update 0 (words (seen (leave p s))) k ∙ leave-reads (λ x. x .update) (λ w. 0) (λ d. refl) (λ g. sym (zero-left p)) k
+      ∙ sym (ap (left-by p) (reads-update 0 (words (seen s)) k))
+
+  pub leave-group : (k : ℕ) → group-in k (lvs (leave p s)) ≡ group-in k (lvs s)
+  leave-group k = ap (group-in k) leave-lvs ∙ group-map (off p) (λ d. refl) (λ d. refl) k (lvs s)
 
   pub leave-items : (i : Item) → items (leave p s) i ≡ items s i
   leave-items (R.value e) = ap (λ x. x .value) (leave-entry e)
-  leave-items (R.cell k e) = ap (λ g. cond (elem e g) 1 0) (seen-group k (leave p s) ∙ ap (group-in k) leave-lvs ∙ group-off p (lvs s) k ∙ sym (seen-group k s))
+  leave-items (R.cell k e) = ap (λ g. cond (elem e g) 1 0) (seen-group k (leave p s) ∙ leave-group k ∙ sym (seen-group k s))
 
   leave-off : (k : Kind) (m : Mode) (z : ℕ) → holders (leave p s) k m p z ≡ false
   leave-off L.entry weak z = ap (λ x. holds (x .share) p) (leave-entry z) ∙ left-same p (entryOf z s .share)
@@ -167,10 +126,10 @@ module _ (p : ℕ) (s : State) where
   }
     where
       gone : sessionOf p (leave p s) ≡ idle
-      gone = left-session p s h
+      gone = leave-own p s h
 
       stay : (t : ℕ) → ¬ (p ≡ t) → sessionOf t (leave p s) ≡ sessionOf t s
-      stay t n = left-sessions p s t n
+      stay t n = leave-other p t s n
 
 -- A state that looks the same may end instead.
 pub ended-from : (p : ℕ) (s t : State) (y : Store) → Same s t → Ended p (view t) y → Ended p (view s) y
@@ -186,7 +145,7 @@ ended-from p s t y h e = record {
   begun-others = λ q n. e .begun-others q n ∙ h .begun-same q;
 }
 
--- Commit: the take-back records become free, and the session leaves.
+-- Commit: the undo records become free, and the session leaves.
 pub commit-committed : (p : ℕ) (s : State) → p < length (s .table) → sessionOf p s .begun ≡ true → Committed p (view s) (view (commits p s))
 unfolding commits
 commit-committed p s h w =

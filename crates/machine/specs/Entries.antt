@@ -1,30 +1,26 @@
 -- Entry locks, reads and writes are events of the lock machine.
-use mathlib.Core.Path.{_≡_, refl, sym, ap, ap₂, _∙_, subst}
-use mathlib.Core.Bool.{Bool, true, false, cond, not, _&&_, _||_}
-use mathlib.Core.List.{List, [], _∷_, _++_, map}
+use mathlib.Core.Path.{_≡_, refl, sym, _∙_, subst, ap}
+use mathlib.Core.Bool.{true}
+use mathlib.Core.List.{[]}
 use mathlib.Core.Logic.{_⊎_, inl, inr}
-use mathlib.Core.Option.{Option, none, some}
-use Prim.Native.Nat.{ℕ, zero, suc, _+_, _-_, _≤_, _<_}
+use Prim.Native.Nat.{zero, suc, _≤_, _<_, ℕ}
 use native.Mathlib.Decide.{ℕ-discrete}
-use native.Mathlib.Omega.{arith}
-use lib.ListN.{length, getD, set}
-use Rattle.serial.specs.Serial.{pick, pick-yes, pick-no, true≢false}
-use Rattle.serial.specs.Model.{Item, Req, Ans, Db, get, eff, ans, just}
-use Rattle.serial.specs.Footprints.{store}
+use lib.ListN.{length, getD}
+use lib.Seq.{getD-set-same, getD-set-other}
+use Rattle.serial.specs.Model.{Item}
 use Rattle.serial.specs.Model as R
-use Rattle.serial.specs.Locks.{Kind, Mode, weak, strong, Holds, Agree, Needs, undo-of}
+use Rattle.serial.specs.Locks.{Kind, Mode, weak, strong, Agree}
 use Rattle.serial.specs.Locks as L
-use Rattle.serial.specs.LockMachine.{Store, Stays, Locked, Finished}
-use Rattle.machine.specs.Holders.{width, holds, held-by, blockers}
+use Rattle.serial.specs.LockMachine.{Locked}
+use Rattle.machine.specs.Holders.{width, holds, blockers}
+use Rattle.machine.specs.State.{Entry, State, no-entry, entryOf, sessionOf, on-entry}
+use Rattle.machine.specs.Steps.{rule, share-by, exclude-by}
+use Rattle.machine.specs.View.{items, holders, view}
+use Rattle.machine.specs.Model.{Listed}
 use Rattle.machine.specs.Bits.{held-same, held-other, held-more}
-use Rattle.machine.specs.State.{Entry, Desc, Stage, Request, Undo, Session, State, no-entry, idle, entryOf, sessionOf, with-entries, with-free, on-entry, on-session, add-undo}
-use Rattle.machine.specs.State as State
-use Rattle.machine.specs.Steps.{rule, share-by, exclude-by, entry-blockers, ended, written}
-use Rattle.machine.specs.View.{seen, seen-under, group-in, locate-word, update-word, log-entry, items, holders, view, Same, same-trans, entry-same, same-items, same-holders, free-same, ended-same}
-use Rattle.machine.specs.Agreement.{Grown, grown-agree, unblocked}
-use Rattle.machine.specs.Housekeeping.{Ordered, lvs}
 use Rattle.machine.specs.Groups.{Rises}
-use Rattle.machine.specs.Model.{Listed, model, model-good, model-is}
+use Rattle.machine.specs.Housekeeping.{Ordered, lvs}
+use Rattle.machine.specs.Agreement.{grown-agree, unblocked}
 
 -- What the events ask of a state.
 pub record Fit (s : State) : Type 0 where
@@ -35,28 +31,25 @@ pub record Fit (s : State) : Type 0 where
   pub few : (k : Kind) (m : Mode) (p z : ℕ) → holders s k m p z ≡ true → (1 ≤ p) × (p ≤ width)
   pub seats : length (s .table) ≡ suc width
 
--- ---- lists
-
-pub get-set : {A : Type 0} (l : List A) (i : ℕ) (x z : A) → i < length l → getD (set l i x) i z ≡ x
-get-set [] i x z h = absurd (omega (arith, h))
-get-set (y ∷ l) zero x z h = refl
-get-set (y ∷ l) (suc i) x z h = get-set l i x z (omega (arith, h))
-
-pub get-set-other : {A : Type 0} (l : List A) (i j : ℕ) (x z : A) → ¬ (i ≡ j) → getD (set l i x) j z ≡ getD l j z
-get-set-other [] i j x z n = refl
-get-set-other (y ∷ l) zero zero x z n = absurd (n refl)
-get-set-other (y ∷ l) zero (suc j) x z n = refl
-get-set-other (y ∷ l) (suc i) zero x z n = refl
-get-set-other (y ∷ l) (suc i) (suc j) x z n = get-set-other l i j x z (λ e. n (ap suc e))
+-- ---- one entry changed
 
 pub entry-put : (i : ℕ) (f : Entry → Entry) (s : State) → i < length (s .entries) → entryOf (suc i) (on-entry (suc i) f s) ≡ f (entryOf (suc i) s)
 unfolding entryOf on-entry
-entry-put i f s h = get-set (s .entries) i (f (getD (s .entries) i no-entry)) no-entry h
+entry-put i f s h = getD-set-same (s .entries) i (f (getD (s .entries) i no-entry)) no-entry h
 
 pub entry-other : (i z : ℕ) (f : Entry → Entry) (s : State) → ¬ (suc i ≡ z) → entryOf z (on-entry (suc i) f s) ≡ entryOf z s
 unfolding entryOf on-entry
 entry-other i zero f s n = refl
-entry-other i (suc j) f s n = get-set-other (s .entries) i j (f (getD (s .entries) i no-entry)) no-entry (λ e. n (ap suc e))
+entry-other i (suc j) f s n = getD-set-other (s .entries) i j (f (getD (s .entries) i no-entry)) no-entry (λ e. n (ap suc (sym e)))
+
+-- What holds of the changed entry, and of every other as it was, holds of each.
+pub entry-cases : (i : ℕ) (f : Entry → Entry) (s : State) → i < length (s .entries) → (P : ℕ → Entry → Type 0) → P (suc i) (f (entryOf (suc i) s))
+    → ((z : ℕ) → ¬ (suc i ≡ z) → P z (entryOf z s)) → (z : ℕ) → P z (entryOf z (on-entry (suc i) f s))
+entry-cases i f s h P a b z = at (ℕ-discrete (suc i) z)
+  where
+    at : Dec (suc i ≡ z) → P z (entryOf z (on-entry (suc i) f s))
+    at (yes e) = subst (λ y. P y (entryOf y (on-entry (suc i) f s))) e (subst (P (suc i)) (sym (entry-put i f s h)) a)
+    at (no n) = subst (P z) (sym (entry-other i z f s n)) (b z n)
 
 -- ---- an entry's words by mode
 
@@ -99,63 +92,56 @@ grant-value : (m : Mode) (p : ℕ) (e : Entry) → grant m p e .value ≡ e .val
 grant-value weak p e = refl
 grant-value strong p e = refl
 
+-- Functions of an entry that differ in the value alone leave the same holders.
+pub entry-words : (i : ℕ) (f g : Entry → Entry) (s : State) → i < length (s .entries) → ((n : Mode) (e : Entry) → word n (f e) ≡ word n (g e))
+    → (l : Kind) (n : Mode) (q z : ℕ) → holders (on-entry (suc i) f s) l n q z ≡ holders (on-entry (suc i) g s) l n q z
+unfolding on-entry
+entry-words i f g s h w L.entry n q z = holders-word (on-entry (suc i) f s) n q z
+    ∙ entry-cases i f s h (λ y x. holds (word n x) q ≡ holds (word n (entryOf y (on-entry (suc i) g s))) q)
+    (ap (λ x. holds x q) (w n (entryOf (suc i) s) ∙ sym (ap (word n) (entry-put i g s h)))) (λ y e. sym (ap (λ x. holds (word n x) q) (entry-other i y g s e))) z
+    ∙ sym (holders-word (on-entry (suc i) g s) n q z)
+entry-words i f g s h w L.group weak q z = refl
+entry-words i f g s h w L.group strong q z = refl
+
+pub exclude-words : (p v : ℕ) (n : Mode) (e : Entry) → word n (exclude-by p v e) ≡ word n (grant strong p e)
+exclude-words p v weak e = refl
+exclude-words p v strong e = refl
+
 -- ---- the lock of entry i + 1 in mode m for session p
 
 module _ (m : Mode) (p i : ℕ) (s : State) (r : i < length (s .entries)) where
   abbrev pub locked-state : State
   locked-state = on-entry (suc i) (grant m p) s
 
-  here : (z : ℕ) → suc i ≡ z → entryOf z locked-state ≡ grant m p (entryOf z s)
-  here z e = subst (λ y. entryOf y locked-state ≡ grant m p (entryOf y s)) e (entry-put i (grant m p) s r)
-
   lock-old : (l : Kind) (n : Mode) (q z : ℕ) → holders s l n q z ≡ true → holders locked-state l n q z ≡ true
   unfolding on-entry
-  lock-old L.entry n q z h = holders-word locked-state n q z ∙ at (ℕ-discrete (suc i) z)
-    where
-      was : holds (word n (entryOf z s)) q ≡ true
-      was = sym (holders-word s n q z) ∙ h
-
-      at : Dec (suc i ≡ z) → holds (word n (entryOf z locked-state)) q ≡ true
-      at (yes e) = ap (λ x. holds (word n x) q) (here z e) ∙ grant-more m n p q (entryOf z s) was
-      at (no e) = ap (λ x. holds (word n x) q) (entry-other i z (grant m p) s e) ∙ was
+  lock-old L.entry n q z h = holders-word locked-state n q z
+      ∙ entry-cases i (grant m p) s r (λ y x. holds (word n (entryOf y s)) q ≡ true → holds (word n x) q ≡ true) (grant-more m n p q (entryOf (suc i) s)) (λ y e b. b) z (sym (holders-word s n q z) ∙ h)
   lock-old L.group weak q z h = h
   lock-old L.group strong q z h = h
 
   pub lock-others : (l : Kind) (n : Mode) (q z : ℕ) → ¬ (p ≡ q) → holders locked-state l n q z ≡ holders s l n q z
   unfolding on-entry
-  lock-others L.entry n q z ne = holders-word locked-state n q z ∙ at (ℕ-discrete (suc i) z) ∙ sym (holders-word s n q z)
-    where
-      at : Dec (suc i ≡ z) → holds (word n (entryOf z locked-state)) q ≡ holds (word n (entryOf z s)) q
-      at (yes e) = ap (λ x. holds (word n x) q) (here z e) ∙ grant-other m n p q (entryOf z s) ne
-      at (no e) = ap (λ x. holds (word n x) q) (entry-other i z (grant m p) s e)
+  lock-others L.entry n q z ne = holders-word locked-state n q z
+      ∙ entry-cases i (grant m p) s r (λ y x. holds (word n x) q ≡ holds (word n (entryOf y s)) q) (grant-other m n p q (entryOf (suc i) s) ne) (λ y e. refl) z ∙ sym (holders-word s n q z)
   lock-others L.group weak q z ne = refl
   lock-others L.group strong q z ne = refl
 
-  lock-new : (l : Kind) (n : Mode) (q z : ℕ) → holders locked-state l n q z ≡ true
-      → (holders s l n q z ≡ true) ⊎ ((p ≡ q) × (L.entry ≡ l) × (m ≡ n) × (suc i ≡ z))
+  lock-new : (l : Kind) (n : Mode) (q z : ℕ) → holders locked-state l n q z ≡ true → (holders s l n q z ≡ true) ⊎ ((p ≡ q) × (L.entry ≡ l) × (m ≡ n) × (suc i ≡ z))
   unfolding on-entry
-  lock-new L.entry n q z h = at (ℕ-discrete (suc i) z)
+  lock-new L.entry n q z h =
+      entry-cases i (grant m p) s r (λ y x. holds (word n x) q ≡ true → (holders s L.entry n q y ≡ true) ⊎ ((p ≡ q) × (L.entry ≡ L.entry) × (m ≡ n) × (suc i ≡ y)))
+      (λ b. sort (grant-new m n p q (entryOf (suc i) s) b (ℕ-discrete p q))) (λ y e b. inl (holders-word s n q y ∙ b)) z (sym (holders-word locked-state n q z) ∙ h)
     where
-      now : holds (word n (entryOf z locked-state)) q ≡ true
-      now = sym (holders-word locked-state n q z) ∙ h
-
-      sort : (suc i ≡ z) → (holds (word n (entryOf z s)) q ≡ true) ⊎ ((p ≡ q) × (m ≡ n)) → (holders s L.entry n q z ≡ true) ⊎ ((p ≡ q) × (L.entry ≡ L.entry) × (m ≡ n) × (suc i ≡ z))
-      sort e (inl y) = inl (holders-word s n q z ∙ y)
-      sort e (inr y) = inr (y .0, refl, y .1, e)
-
-      at : Dec (suc i ≡ z) → (holders s L.entry n q z ≡ true) ⊎ ((p ≡ q) × (L.entry ≡ L.entry) × (m ≡ n) × (suc i ≡ z))
-      at (yes e) = sort e (grant-new m n p q (entryOf z s) (sym (ap (λ x. holds (word n x) q) (here z e)) ∙ now) (ℕ-discrete p q))
-      at (no e) = inl (holders-word s n q z ∙ sym (ap (λ x. holds (word n x) q) (entry-other i z (grant m p) s e)) ∙ now)
+      sort : (holds (word n (entryOf (suc i) s)) q ≡ true) ⊎ ((p ≡ q) × (m ≡ n)) → (holders s L.entry n q (suc i) ≡ true) ⊎ ((p ≡ q) × (L.entry ≡ L.entry) × (m ≡ n) × (suc i ≡ suc i))
+      sort (inl y) = inl (holders-word s n q (suc i) ∙ y)
+      sort (inr y) = inr (y .0, refl, y .1, refl)
   lock-new L.group weak q z h = inl h
   lock-new L.group strong q z h = inl h
 
   pub lock-items : (x : Item) → items locked-state x ≡ items s x
   unfolding on-entry
-  lock-items (R.value z) = at (ℕ-discrete (suc i) z)
-    where
-      at : Dec (suc i ≡ z) → entryOf z locked-state .value ≡ entryOf z s .value
-      at (yes e) = ap (λ x. x .value) (here z e) ∙ grant-value m p (entryOf z s)
-      at (no e) = ap (λ x. x .value) (entry-other i z (grant m p) s e)
+  lock-items (R.value z) = entry-cases i (grant m p) s r (λ y x. x .value ≡ entryOf y s .value) (grant-value m p (entryOf (suc i) s)) (λ y e. refl) z
   lock-items (R.cell k e) = refl
 
   module _ (F : Fit s) (free : blockers rule L.entry m p (entryOf (suc i) s .share) (entryOf (suc i) s .exclusive) ≡ []) where

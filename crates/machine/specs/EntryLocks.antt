@@ -1,43 +1,25 @@
 -- The states that a read, a write and the entry's lock of an insert or a remove leave, the request still in hand: what is read at keys, entries and the
 -- session table is sound, and so are shape and count.
-use mathlib.Core.Path.{_≡_, refl, sym, ap, _∙_, subst}
+use mathlib.Core.Path.{_≡_, refl, sym, _∙_, subst, ap}
 use mathlib.Core.Bool.{true}
 use mathlib.Core.List.{[]}
 use mathlib.Core.Option.{some}
-use Prim.Native.Nat.{ℕ, zero, suc, _+_, _-_, _≤_, _<_}
-use native.Mathlib.Decide.{ℕ-discrete}
+use Prim.Native.Nat.{zero, suc, _+_, _-_, _≤_, _<_, ℕ}
 use native.Mathlib.Omega.{arith}
 use lib.ListN.{length}
 use Rattle.serial.specs.Locks.{Kind, Mode, weak, strong}
 use Rattle.serial.specs.Locks as L
 use Rattle.machine.specs.Holders.{holds, blockers}
-use Rattle.machine.specs.State.{Entry, Request, value, State, entryOf, sessionOf, with-free, on-entry, on-session, add-undo}
+use Rattle.machine.specs.State.{Request, State, entryOf, sessionOf, with-free, on-entry, on-session, add-undo, value}
 use Rattle.machine.specs.Steps.{rule, share-by, exclude-by, entry-blockers, shared-state, written, excluded-state}
-use Rattle.machine.specs.View.{holders}
-use Rattle.machine.specs.Entries.{entry-put, entry-other, word, holders-word, grant, granted, entry-locked}
+use Rattle.machine.specs.View.{holders, frame-holders}
 use Rattle.machine.specs.Sound.{records-used, cells, Sound, Formed, Keyed, formed-of}
-use Rattle.machine.specs.Looks.{frame-holders, hand-seat, hand-begun, fit-of, checked-entry}
+use Rattle.machine.specs.Table.{hand-seat}
+use Rattle.machine.specs.Checks.{checked-entry}
+use Rattle.machine.specs.Looks.{hand-begun, fit-of}
 use Rattle.machine.specs.Alike.{on-entry-formed}
 use Rattle.machine.specs.Locking.{Grants, locked-grants, grants-like, Locks, undoable-more, only-keyed, undo-locks, undo-keyed, undo-formed, entry-locks}
-
--- ---- entries
-
--- Functions of an entry that differ in the value alone leave the same holders.
-entry-words : (i : ℕ) (f g : Entry → Entry) (s : State) → i < length (s .entries) → ((n : Mode) (e : Entry) → word n (f e) ≡ word n (g e))
-    → (l : Kind) (n : Mode) (q z : ℕ) → holders (on-entry (suc i) f s) l n q z ≡ holders (on-entry (suc i) g s) l n q z
-unfolding on-entry
-entry-words i f g s h w L.entry n q z = holders-word (on-entry (suc i) f s) n q z ∙ ap (λ x. holds x q) (at (ℕ-discrete (suc i) z)) ∙ sym (holders-word (on-entry (suc i) g s) n q z)
-  where
-    at : Dec (suc i ≡ z) → word n (entryOf z (on-entry (suc i) f s)) ≡ word n (entryOf z (on-entry (suc i) g s))
-    at (yes e) = subst (λ y. word n (entryOf y (on-entry (suc i) f s)) ≡ word n (entryOf y (on-entry (suc i) g s))) e
-        (ap (word n) (entry-put i f s h) ∙ w n (entryOf (suc i) s) ∙ sym (ap (word n) (entry-put i g s h)))
-    at (no e) = ap (word n) (entry-other i z f s e ∙ sym (entry-other i z g s e))
-entry-words i f g s h w L.group weak q z = refl
-entry-words i f g s h w L.group strong q z = refl
-
-exclude-words : (p v : ℕ) (n : Mode) (e : Entry) → word n (exclude-by p v e) ≡ word n (grant strong p e)
-exclude-words p v weak e = refl
-exclude-words p v strong e = refl
+use Rattle.machine.specs.Entries.{entry-put, grant, granted, entry-locked, entry-words, exclude-words}
 
 module _ (m : ℕ) (r : Request) (s : State) (S : Sound s) (hand : sessionOf (suc m) s .hand ≡ some r) where
   abbrev p : ℕ

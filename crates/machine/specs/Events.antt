@@ -1,32 +1,30 @@
 -- Each step of a session's request is an event of the lock machine, or a lock and a finished request, or nothing that it sees.
-use mathlib.Core.Path.{_≡_, refl, sym, ap, ap₂, _∙_, subst}
-use mathlib.Core.Bool.{Bool, true, false, cond, not, _&&_, _||_}
+use mathlib.Core.Path.{_≡_, refl, sym, _∙_, ap}
+use mathlib.Core.Bool.{Bool, true, false, _||_}
 use mathlib.Core.List.{List, [], _∷_, _++_, map}
-use mathlib.Core.Logic.{_⊎_, inl, inr}
-use mathlib.Core.Option.{Option, none, some}
-use Prim.Native.Nat.{ℕ, zero, suc, _+_, _-_, _≤_, _<_}
+use Prim.Native.Nat.{suc, _-_, _≤_, _<_, ℕ}
 use native.Mathlib.Decide.{ℕ-discrete}
 use native.Mathlib.Omega.{arith}
 use lib.Dec.{leb}
-use lib.ListN.{length, getD, set}
-use Rattle.serial.specs.Serial.{pick, pick-yes, pick-no, true≢false}
-use Rattle.serial.specs.Model.{Item, Req, Ans, Db, get, eff, ans, just, two-words}
-use Rattle.serial.specs.Footprints.{store}
+use lib.ListN.{length}
+use Rattle.serial.specs.Serial.{pick, pick-yes, pick-no}
+use Rattle.serial.specs.Model.{Item, Req, Ans, get, eff, ans, just, two-words, Db}
 use Rattle.serial.specs.Model as R
 use Rattle.serial.specs.Locks.{Kind, Mode, weak, strong, Needs, undo-of}
 use Rattle.serial.specs.Locks as L
-use Rattle.serial.specs.LockMachine.{Store, Stays, Locked, Finished, Unseen}
-use Rattle.machine.specs.Holders.{width, holds, held-by, blockers}
-use Rattle.machine.specs.State.{Entry, Stage, enter, Request, Undo, Session, State, Answer, ok, more, wait, done, refused, Outcome, idle, entryOf, sessionOf, with-free, on-entry, on-session, add-undo}
+use Rattle.serial.specs.LockMachine.{Locked, Finished, Unseen}
+use Rattle.machine.specs.Logic.{either}
+use Rattle.machine.specs.Holders.{width, holds, blockers}
+use Rattle.machine.specs.State.{Stage, enter, Request, Undo, State, Answer, wait, done, refused, Outcome, entryOf, sessionOf, with-free, on-entry, on-session, add-undo, ok, more}
 use Rattle.machine.specs.State as State
-use Rattle.machine.specs.Keeps.{either}
-use Rattle.machine.specs.Steps.{rule, answer, share-by, exclude-by, entry-blockers, ended, goes-on, finished, guarded, read-step, written, write-step, entry-step}
-use Rattle.machine.specs.View.{seen, log-entry, items, holders, view, Same, same-refl, same-trans, same-unseen, same-items, same-holders, free-same, ended-same, put-session, set-hand-same}
-use Rattle.machine.specs.Descents.{goes-same, finished-same}
-use Rattle.machine.specs.Housekeeping.{lvs}
+use Rattle.machine.specs.Steps.{rule, share-by, exclude-by, entry-blockers, ended, goes-on, finished, guarded, read-step, write-step, entry-step, written, answer}
+use Rattle.machine.specs.View.{log-entry, items, holders, view, Same, same-refl, same-unseen, same-items, same-holders, ended-same, entry-same, frame-holders}
+use Rattle.machine.specs.Model.{Listed, model-is, model, model-good}
+use Rattle.machine.specs.Table.{undo-put, undo-other, session-kept, with-undo}
+use Rattle.machine.specs.Descents.{goes-same}
 use Rattle.machine.specs.Groups.{Rises}
-use Rattle.machine.specs.Model.{Listed, model, model-good, model-is}
-use Rattle.machine.specs.Entries.{Fit, get-set, get-set-other, entry-put, entry-other, grant, granted, locked-state, lock-items, lock-others, entry-locked}
+use Rattle.machine.specs.Housekeeping.{lvs, Ordered}
+use Rattle.machine.specs.Entries.{Fit, entry-put, entry-other, grant, granted, locked-state, lock-items, lock-others, entry-locked, entry-cases, entry-words, exclude-words}
 
 -- The answer finishes no request.
 abbrev pub unfinished : Answer → Bool
@@ -90,10 +88,6 @@ asked c e f g st = record { code = c; entry = e; first = f; second = g; stage = 
 or-true : (a b : Bool) → a ≡ true → (a || b) ≡ true
 or-true a b e = rw e refl
 
-or-true-r : (a b : Bool) → b ≡ true → (a || b) ≡ true
-or-true-r true b e = refl
-or-true-r false b e = e
-
 -- The state after an entry's lock is fit again, but for its table.
 module _ (m : Mode) (k i : ℕ) (s : State) (F : Fit s) (r : i < length (s .entries)) (b : sessionOf (suc k) s .begun ≡ true) (le : suc k ≤ width)
     (free : blockers rule L.entry m (suc k) (entryOf (suc i) s .share) (entryOf (suc i) s .exclusive) ≡ []) where
@@ -101,7 +95,7 @@ module _ (m : Mode) (k i : ℕ) (s : State) (F : Fit s) (r : i < length (s .entr
   t = locked-state m (suc k) i s r
 
   pub locked-fit : Fit t
-  unfolding on-entry Rattle.machine.specs.Housekeeping.Ordered
+  unfolding on-entry Ordered
   locked-fit = record {
     ordered = F .ordered;
     rises = F .rises;
@@ -156,79 +150,37 @@ entry-step-does k i c f g st q s F h b = guard-does (suc k) q (blockers rule L.e
 
 -- ---- write
 
--- The entry as the lock leaves it, with another value.
-abbrev pub valued : ℕ → Entry → Entry
-valued v e = record { value = v; share = e .share; exclusive = e .exclusive }
-
-pub undos-put : (p : ℕ) (b : Undo) (s : State) → p < length (s .table) → sessionOf p (add-undo p b s) .undos ≡ b ∷ sessionOf p s .undos
-unfolding add-undo on-session sessionOf
-undos-put p b s h = ap (λ x. x .undos) (get-set (s .table) p (record { begun = getD (s .table) p idle .begun; hand = getD (s .table) p idle .hand; undos = b ∷ getD (s .table) p idle .undos }) idle h)
-
-pub undos-others : (p q : ℕ) (b : Undo) (s : State) → ¬ (p ≡ q) → sessionOf q (add-undo p b s) .undos ≡ sessionOf q s .undos
-unfolding add-undo on-session sessionOf
-undos-others p q b s n = ap (λ x. x .undos) (get-set-other (s .table) p q (record { begun = getD (s .table) p idle .begun; hand = getD (s .table) p idle .hand; undos = b ∷ getD (s .table) p idle .undos }) idle n)
-
-pub undos-begun : (p q : ℕ) (b : Undo) (s : State) → sessionOf q (add-undo p b s) .begun ≡ sessionOf q s .begun
-unfolding add-undo on-session sessionOf
-undos-begun p q b s = put-session (λ x. x .begun) (λ t. record { begun = t .begun; hand = t .hand; undos = b ∷ t .undos }) (λ x. refl) (s .table) p q
-
 module _ (k i v : ℕ) (s : State) (F : Fit s) (h : i < length (s .entries)) (le : suc k ≤ width) where
   abbrev wt : State
   wt = on-entry (suc i) (grant strong (suc k)) s
 
+  abbrev old-value : Undo
+  old-value = State.value (suc i) (entryOf (suc i) s .value)
+
+  abbrev from : State
+  from = with-free (s .free - 1) (on-entry (suc i) (exclude-by (suc k) v) s)
+
   abbrev wu : State
-  wu = add-undo (suc k) (State.value (suc i) (entryOf (suc i) s .value)) (with-free (s .free - 1) (on-entry (suc i) (exclude-by (suc k) v) s))
-
-  wu-entry : (z : ℕ) → entryOf z wu ≡ pick (ℕ-discrete (suc i) z) (valued v (entryOf z wt)) (entryOf z wt)
-  unfolding add-undo on-session
-  wu-entry z = at (ℕ-discrete (suc i) z)
-    where
-      there : entryOf z wu ≡ entryOf z (on-entry (suc i) (exclude-by (suc k) v) s)
-      there = Rattle.machine.specs.View.entry-same (on-entry (suc i) (exclude-by (suc k) v) s) wu refl z
-
-      at : (d : Dec (suc i ≡ z)) → entryOf z wu ≡ pick d (valued v (entryOf z wt)) (entryOf z wt)
-      at (yes e) = there ∙ subst (λ y. entryOf y (on-entry (suc i) (exclude-by (suc k) v) s) ≡ valued v (entryOf y wt)) e
-          (entry-put i (exclude-by (suc k) v) s h ∙ sym (ap (valued v) (entry-put i (grant strong (suc k)) s h)))
-      at (no n) = there ∙ entry-other i z (exclude-by (suc k) v) s n ∙ sym (entry-other i z (grant strong (suc k)) s n)
-
-  wu-share : (z : ℕ) → entryOf z wu .share ≡ entryOf z wt .share
-  wu-share z = ap (λ x. x .share) (wu-entry z) ∙ at (ℕ-discrete (suc i) z)
-    where
-      at : (d : Dec (suc i ≡ z)) → pick d (valued v (entryOf z wt)) (entryOf z wt) .share ≡ entryOf z wt .share
-      at (yes e) = refl
-      at (no n) = refl
-
-  wu-exclusive : (z : ℕ) → entryOf z wu .exclusive ≡ entryOf z wt .exclusive
-  wu-exclusive z = ap (λ x. x .exclusive) (wu-entry z) ∙ at (ℕ-discrete (suc i) z)
-    where
-      at : (d : Dec (suc i ≡ z)) → pick d (valued v (entryOf z wt)) (entryOf z wt) .exclusive ≡ entryOf z wt .exclusive
-      at (yes e) = refl
-      at (no n) = refl
+  wu = add-undo (suc k) old-value from
 
   wu-value : (z : ℕ) → entryOf z wu .value ≡ pick (ℕ-discrete (suc i) z) v (entryOf z wt .value)
-  wu-value z = ap (λ x. x .value) (wu-entry z) ∙ at (ℕ-discrete (suc i) z)
-    where
-      at : (d : Dec (suc i ≡ z)) → pick d (valued v (entryOf z wt)) (entryOf z wt) .value ≡ pick d v (entryOf z wt .value)
-      at (yes e) = refl
-      at (no n) = refl
-
-  wu-seen : seen wu ≡ seen wt
-  unfolding add-undo on-session on-entry
-  wu-seen = refl
+  unfolding add-undo on-session
+  wu-value z = ap (λ x. x .value) (entry-same (on-entry (suc i) (exclude-by (suc k) v) s) wu refl z)
+      ∙ entry-cases i (exclude-by (suc k) v) s h (λ y x. x .value ≡ pick (ℕ-discrete (suc i) y) v (entryOf y wt .value))
+      (sym (pick-yes (ℕ-discrete (suc i) (suc i)) v (entryOf (suc i) wt .value) refl))
+      (λ y n. sym (pick-no (ℕ-discrete (suc i) y) v (entryOf y wt .value) n ∙ ap (λ x. x .value) (entry-other i y (grant strong (suc k)) s n))) z
 
   wu-holders : (l : Kind) (n : Mode) (q z : ℕ) → holders wu l n q z ≡ holders wt l n q z
-  wu-holders L.entry weak q z = ap (λ w. holds w q) (wu-share z)
-  wu-holders L.entry strong q z = ap (λ w. holds w q) (wu-exclusive z)
-  wu-holders L.group weak q z = ap (λ x. holds (Rattle.machine.specs.View.locate-word z x) q) wu-seen
-  wu-holders L.group strong q z = ap (λ x. holds (Rattle.machine.specs.View.update-word z x) q) wu-seen
+  unfolding add-undo on-session
+  wu-holders l n q z = frame-holders (on-entry (suc i) (exclude-by (suc k) v) s) wu refl refl l n q z ∙ entry-words i (exclude-by (suc k) v) (grant strong (suc k)) s h (exclude-words (suc k) v) l n q z
 
   wu-items : (x : Item) → items wu x ≡ get (eff (R.write (suc i) v) (model wt)) x
-  unfolding Rattle.machine.specs.View.seen-under on-entry add-undo on-session
+  unfolding on-entry add-undo on-session
   wu-items (R.value z) = wu-value z
   wu-items (R.cell j e) = sym (model-is 0 4294967296 wt (F .rises) (R.cell j e))
 
   pub write-finished : (u : State) → Same wu u → Fit wt → sessionOf (suc k) wt .begun ≡ true → Finished (suc k) (R.write (suc i) v) (just 0) (view wt) (view u)
-  unfolding on-entry sessionOf
+  unfolding on-entry sessionOf add-undo
   write-finished u e G b = record {
     was = b;
     needs = ap (λ x. holds (x .exclusive) (suc k)) (entry-put i (grant strong (suc k)) s h) ∙ granted strong k (entryOf (suc i) s);
@@ -237,11 +189,11 @@ module _ (k i v : ℕ) (s : State) (F : Fit s) (h : i < length (s .entries)) (le
     is-model = model-is 0 4294967296 wt (G .rises);
     answer = refl;
     change = λ x. same-items wu u e x ∙ wu-items x;
-    log-now = ap (map log-entry) (e .undos-same (suc k) ∙ undos-put (suc k) (State.value (suc i) (entryOf (suc i) s .value)) (with-free (s .free - 1) (on-entry (suc i) (exclude-by (suc k) v) s)) (let q = F .seats in omega arith))
+    log-now = ap (map log-entry) (e .undos-same (suc k) ∙ ap (λ x. x .undos) (undo-put (suc k) old-value from (let q = F .seats in omega arith)))
         ∙ ap (λ y. (R.value (suc i), y) ∷ map log-entry (sessionOf (suc k) wt .undos)) (sym (lock-items strong (suc k) i s h (R.value (suc i))));
-    log-others = λ q n. ap (map log-entry) (e .undos-same q ∙ undos-others (suc k) q (State.value (suc i) (entryOf (suc i) s .value)) (with-free (s .free - 1) (on-entry (suc i) (exclude-by (suc k) v) s)) n);
+    log-others = λ q n. ap (map log-entry) (e .undos-same q ∙ ap (λ x. x .undos) (undo-other (suc k) q old-value from n));
     holds-same = λ l n q z. same-holders wu u e l n q z ∙ wu-holders l n q z;
-    begun-same = λ q. e .begun-same q ∙ undos-begun (suc k) q (State.value (suc i) (entryOf (suc i) s .value)) (with-free (s .free - 1) (on-entry (suc i) (exclude-by (suc k) v) s));
+    begun-same = λ q. e .begun-same q ∙ session-kept (λ x. x .begun) (suc k) (with-undo old-value) from (λ x. refl) q;
   }
 
 pub write-does : (k i c f g : ℕ) (st : Stage) (s : State) → Fit s → i < length (s .entries) → sessionOf (suc k) s .begun ≡ true → suc k ≤ width

@@ -1,12 +1,13 @@
 -- Splits, joins and moves at a node, and descriptors put in and taken out at a lowest node: bounds, fanout and how many nodes there are.
-use mathlib.Core.Path.{_≡_, refl, ap, sym, _∙_, subst}
+use mathlib.Core.Path.{_≡_, refl, sym, _∙_, subst, ap}
 use mathlib.Core.Bool.{Bool, true, false, cond}
 use mathlib.Core.List.{List, [], _∷_, _++_, append-nil, map}
-use Prim.Native.Nat.{ℕ, zero, suc, _+_, _≤_, _<_}
+use Prim.Native.Nat.{zero, suc, _+_, _≤_, _<_, ℕ}
 use native.Mathlib.Omega.{arith}
-use lib.Dec.{leb, leb→le, nleb→lt}
+use lib.Dec.{leb}
 use lib.ListN.{length, length-append, getD, take, drop, take-append-drop, length-drop}
-use Rattle.machine.specs.Tree.{onp, pick, sumE, sumE-append, Seg, seg-append, seg-cut, Below, Hit, hit, onp-hit, pick-hit, leb-yes, leb-no, Cmp, low, high, cmp}
+use Rattle.machine.specs.Logic.{leb-yes, leb-no, leb-is, leb-not}
+use Rattle.machine.specs.Tree.{onp, pick, sumE, sumE-append, Seg, seg-append, seg-cut, Below, Hit, hit, onp-hit, pick-hit, Cmp, low, high, cmp}
 use Rattle.machine.specs.State.{Desc, Tree, no-desc, same}
 use Rattle.machine.specs.Descent.{Sons, node, halves, down-to, on-last, last-of, but-last, bound-of, joined, moved-right, moved-left, on-pair, pick-pair, sons-of, joins, mended, put-in, taken-out}
 use Rattle.machine.specs.Sound.{nodes, LowestEnds, EndsWell, Shaped}
@@ -276,13 +277,13 @@ module _ (w x h : ℕ) (p q : Tree (suc h) × ℕ) where
     where
       left : sons-of (p .0) ≡ 3 → (j : Bool) → leb (sons-of (q .0)) 5 ≡ j
           → Seg (Shaped (suc h) 3) lo (suc (q .1)) (cond j (joined w h (p .0) (q .0) (q .1)) (moved-left w h (p .0) (q .0) (q .1)))
-      left n true e = joined-seg w h lo (p .1) (q .1) (p .0) (q .0) S R (omega (arith, n, leb→le (sons-of (q .0)) 5 (rw e tt)))
-      left n false e = left-seg w h lo (p .1) (q .1) (p .0) (q .0) S R (omega (arith, nleb→lt (sons-of (q .0)) 5 (rw e tt))) (omega (arith, n))
+      left n true e = joined-seg w h lo (p .1) (q .1) (p .0) (q .0) S R (omega (arith, n, leb-is (sons-of (q .0)) 5 e))
+      left n false e = left-seg w h lo (p .1) (q .1) (p .0) (q .0) S R (omega (arith, leb-not (sons-of (q .0)) 5 e)) (omega (arith, n))
 
       right : sons-of (q .0) ≡ 3 → (j : Bool) → leb (sons-of (p .0)) 5 ≡ j
           → Seg (Shaped (suc h) 3) lo (suc (q .1)) (cond j (joined w h (p .0) (q .0) (q .1)) (moved-right w h (p .0) (q .0) (q .1)))
-      right n true e = joined-seg w h lo (p .1) (q .1) (p .0) (q .0) S R (omega (arith, n, leb→le (sons-of (p .0)) 5 (rw e tt)))
-      right n false e = right-seg w h lo (p .1) (q .1) (p .0) (q .0) S R (omega (arith, nleb→lt (sons-of (p .0)) 5 (rw e tt))) (omega (arith, n))
+      right n true e = joined-seg w h lo (p .1) (q .1) (p .0) (q .0) S R (omega (arith, n, leb-is (sons-of (p .0)) 5 e))
+      right n false e = right-seg w h lo (p .1) (q .1) (p .0) (q .0) S R (omega (arith, leb-not (sons-of (p .0)) 5 e)) (omega (arith, n))
 
       go : (c : Bool) → sons-of (cond c (p .0) (q .0)) ≡ 3
           → Seg (Shaped (suc h) 3) lo (suc (q .1)) (cond (leb (cond c (sons-of (q .0)) (sons-of (p .0))) 5) (joined w h (p .0) (q .0) (q .1))
@@ -329,6 +330,46 @@ pub record PairHit {A : Type 0} (Q : ℕ → ℕ → A → Type 0) (x lo e : ℕ
   pub one : (z : A) → pick x z same es ≡ of-pair x p q
 
 module _ {A : Type 0} (Q : ℕ → ℕ → A → Type 0) (f : (lo u : ℕ) (a : A) → Q lo u a → lo ≤ suc u) (x : ℕ) where
+  pair-here : (lo e : ℕ) (p q : A × ℕ) (es : List (A × ℕ)) → Seg Q lo e (p ∷ q ∷ es) → lo ≤ x → x ≤ q .1 → PairHit Q x lo e (p ∷ q ∷ es)
+  pair-here lo e p q es s a k = record {
+    pre = [];
+    p = p;
+    q = q;
+    post = es;
+    eq = refl;
+    below = tt;
+    upto = k;
+    m = lo;
+    from = a;
+    spre = refl;
+    left = s .0;
+    right = s .1 .0;
+    spost = s .1 .1;
+    done = λ g. rw (leb-yes x (q .1) k) refl;
+    asked = λ z g. rw (leb-yes x (q .1) k) refl;
+    one = λ z. rw (leb-yes x (q .1) k) refl;
+  }
+
+  pair-later : (lo e : ℕ) (p q : A × ℕ) (es : List (A × ℕ)) → Seg Q lo e (p ∷ q ∷ es) → q .1 < x → p .1 < x → PairHit Q x (suc (p .1)) e (q ∷ es) → PairHit Q x lo e (p ∷ q ∷ es)
+  pair-later lo e p q es s k under H = record {
+    pre = p ∷ H .pre;
+    p = H .p;
+    q = H .q;
+    post = H .post;
+    eq = ap (λ l. p ∷ l) (H .eq);
+    below = (under, H .below);
+    upto = H .upto;
+    m = H .m;
+    from = H .from;
+    spre = (s .0, H .spre);
+    left = H .left;
+    right = H .right;
+    spost = H .spost;
+    done = λ g. rw (leb-no x (q .1) k) (ap (λ l. p ∷ l) (H .done g));
+    asked = λ z g. rw (leb-no x (q .1) k) (H .asked z g);
+    one = λ z. rw (leb-no x (p .1) under) (H .one z);
+  }
+
   pub pair-hit : (lo e : ℕ) (es : List (A × ℕ)) → 2 ≤ length es → Seg Q lo e es → lo ≤ x → x < e → PairHit Q x lo e es
   pair-hit lo e [] n s a b = absurd (omega (arith, n))
   pair-hit lo e (p ∷ []) n s a b = absurd (omega (arith, n))
@@ -339,45 +380,10 @@ module _ {A : Type 0} (Q : ℕ → ℕ → A → Type 0) (f : (lo u : ℕ) (a : 
       more (c ∷ fs) r k = omega arith
 
       go : Cmp x (q .1) → (suc (p .1) ≤ x → 2 ≤ length (q ∷ es) → PairHit Q x (suc (p .1)) e (q ∷ es)) → PairHit Q x lo e (p ∷ q ∷ es)
-      go (low k) r = record {
-        pre = [];
-        p = p;
-        q = q;
-        post = es;
-        eq = refl;
-        below = tt;
-        upto = k;
-        m = lo;
-        from = a;
-        spre = refl;
-        left = s .0;
-        right = s .1 .0;
-        spost = s .1 .1;
-        done = λ g. rw (leb-yes x (q .1) k) refl;
-        asked = λ z g. rw (leb-yes x (q .1) k) refl;
-        one = λ z. rw (leb-yes x (q .1) k) refl;
-      }
+      go (low k) r = pair-here lo e p q es s a k
       go (high k) r =
           let under : p .1 < x = omega (arith, k, f (suc (p .1)) (q .1) (q .0) (s .1 .0)) in
-          let H = r (omega (arith, under)) (more es (s .1 .1) k) in
-          record {
-            pre = p ∷ H .pre;
-            p = H .p;
-            q = H .q;
-            post = H .post;
-            eq = ap (λ l. p ∷ l) (H .eq);
-            below = (under, H .below);
-            upto = H .upto;
-            m = H .m;
-            from = H .from;
-            spre = (s .0, H .spre);
-            left = H .left;
-            right = H .right;
-            spost = H .spost;
-            done = λ g. rw (leb-no x (q .1) k) (ap (λ l. p ∷ l) (H .done g));
-            asked = λ z g. rw (leb-no x (q .1) k) (H .asked z g);
-            one = λ z. rw (leb-no x (p .1) under) (H .one z);
-          }
+          pair-later lo e p q es s k under (r (omega (arith, under)) (more es (s .1 .1) k))
 
 -- ---- descriptors put in and taken out
 
@@ -444,14 +450,14 @@ module _ (x least lo hi : ℕ) (u : Tree 1) (S : Shaped 1 least lo hi u) (from :
         where
           go : (post : Sons 0) → LowestEnds ((H .a, H .u) ∷ post) → LowestEnds ((n, H .u) ∷ post)
           go [] l = tt
-          go (q ∷ post) l = absurd (omega (arith, l .0, nleb→lt x (H .a .key) (rw e tt), H .upto))
+          go (q ∷ post) l = absurd (omega (arith, l .0, leb-not x (H .a .key) e, H .upto))
 
       fresh-seg : ¬ (H .a .key ≡ x) → (c : Bool) → leb x (H .a .key) ≡ c → Seg (Shaped 0 3) (H .m) (suc hi) (fresh c ++ H .post)
       unfolding Shaped
       fresh-seg new true e =
-          ((omega (arith, H .from, key-is), omega (arith, key-is)), ((omega (arith, new, leb→le x (H .a .key) (rw e tt)), H .here .1), H .spost))
+          ((omega (arith, H .from, key-is), omega (arith, key-is)), ((omega (arith, new, leb-is x (H .a .key) e), H .here .1), H .spost))
       fresh-seg new false e =
-          ((H .here .0, omega arith), ((omega (arith, key-is, nleb→lt x (H .a .key) (rw e tt)), omega (arith, key-is, H .upto)), H .spost))
+          ((H .here .0, omega arith), ((omega (arith, key-is, leb-not x (H .a .key) e), omega (arith, key-is, H .upto)), H .spost))
 
       fresh-shaped : (w : ℕ) → ¬ (H .a .key ≡ x) → sons-of u ≤ 7 → (c : Bool) → leb x (H .a .key) ≡ c → Shaped 1 least lo hi (node w (H .pre ++ (fresh c ++ H .post)))
       unfolding Shaped

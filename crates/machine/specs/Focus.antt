@@ -1,18 +1,17 @@
 -- The node at which a party stands, and the laws of a tree with a hole: what is in the hole is taken out, and another node put back.
-use mathlib.Core.Path.{_≡_, refl, ap, sym, _∙_, subst}
+use mathlib.Core.Path.{_≡_, refl, sym, _∙_, subst, ap}
 use mathlib.Core.Bool.{cond}
 use mathlib.Core.List.{List, [], _∷_, _++_, append-assoc, append-nil}
 use mathlib.Core.Logic.{_⊎_, inl, inr}
-use Prim.Native.Nat.{ℕ, zero, suc, _+_, _≤_}
+use Prim.Native.Nat.{zero, suc, _+_, _≤_, ℕ}
 use native.Mathlib.Omega.{arith}
 use lib.Dec.{eqb}
-use lib.ListN.{length, length-append}
-use Rattle.machine.specs.Tree.{onp, pick, flat, flat-append, sumE, sumE-append, Seg, seg-append, seg-cut, seg-below, Below, leaves, onp-hit, pick-hit}
+use Rattle.machine.specs.Logic.{eqb-yes, eqb-no, length-put}
 use Rattle.machine.specs.Holders.{latch-word}
+use Rattle.machine.specs.Tree.{onp, pick, flat, flat-append, sumE, sumE-append, Seg, seg-append, seg-cut, seg-below, Below, leaves, onp-hit, pick-hit}
 use Rattle.machine.specs.State.{Desc, Tree, State, Outcome}
 use Rattle.machine.specs.Descent.{Sons, sons-of, at-latch, on-latch}
 use Rattle.machine.specs.Sound.{nodes, EndsWell, Shaped, latch-count, OnPath, Latched, Room}
-use Rattle.machine.specs.Model.{eqb-yes, eqb-no}
 use Rattle.machine.specs.Context.{Ctx, hole, down, plug, OnWay, Clear, Focus, Focused}
 
 -- ---- a latched node is a focus
@@ -98,23 +97,18 @@ abbrev pub least-in : {k h : ℕ} → Ctx k h → ℕ → ℕ
 least-in hole least = least
 least-in (down w pre c b post) least = 3
 
+pub least-in-hole : {k h : ℕ} (c : Ctx k h) → (1 ≤ least-in c 1) × (least-in c 1 ≤ 3)
+least-in-hole hole = (omega arith, omega arith)
+least-in-hole (down v pre c b post) = (omega arith, omega arith)
+
 -- The hole is the whole tree.
 abbrev pub Whole : {k h : ℕ} → Ctx k h → Type 0
 Whole hole = Unit {0}
 Whole (down w pre c b post) = ⊥
 
-pub whole-height : {k h : ℕ} (c : Ctx k h) → Whole c → h ≡ k
-whole-height hole w = refl
-whole-height (down v pre c b post) w = absurd w
-
 pub whole-least : {k h : ℕ} (c : Ctx k h) (least : ℕ) → Whole c → least-in c least ≡ least
 whole-least hole least w = refl
 whole-least (down v pre c b post) least w = absurd w
-
--- The hole is the root, or has at least 3 sons.
-pub least-cases : {k h : ℕ} (c : Ctx k h) (least : ℕ) → (Whole c × (h ≡ k) × (least-in c least ≡ least)) ⊎ (¬ (Whole c) × (least-in c least ≡ 3))
-least-cases hole least = inl (tt, refl, refl)
-least-cases (down v pre c b post) least = inr (λ w. w, refl)
 
 pub record Lens {k h : ℕ} (c : Ctx (suc k) h) (least lo hi : ℕ) (u : Tree (suc k)) : Type 0 where
   pub lo′ : ℕ
@@ -127,9 +121,6 @@ pub record Lens {k h : ℕ} (c : Ctx (suc k) h) (least lo hi : ℕ) (u : Tree (s
 ends-free : {k h : ℕ} (c : Ctx (suc k) h) (es : Sons h) → EndsWell h es
 ends-free hole es = tt
 ends-free (down v pre c b post) es = tt
-
-pub sons-same : {A : Type 0} (pre : List (A × ℕ)) (a a′ : A) (b : ℕ) (post : List (A × ℕ)) → length (pre ++ (a′, b) ∷ post) ≡ length (pre ++ (a, b) ∷ post)
-sons-same pre a a′ b post = length-append pre ((a′, b) ∷ post) ∙ sym (length-append pre ((a, b) ∷ post))
 
 pub shaped-plug : {k h : ℕ} (c : Ctx (suc k) h) (least lo hi : ℕ) (u : Tree (suc k)) → Shaped h least lo hi (plug c u) → Lens c least lo hi u
 unfolding Shaped
@@ -145,8 +136,8 @@ shaped-plug {k = k} (down {h = h} v pre c b post) least lo hi u S =
       sub = subst (λ n. Shaped (suc k) n (r .lo′) (r .hi′) u) (three c) (r .sub);
       inside = λ x o p q. r .inside x (o .2) (seg-below (Shaped h 3) x lo m pre before (o .0) p) (o .1);
       back = λ u′ S′. (
-        subst (λ n. least ≤ n) (sons-same pre (plug c u′) (plug c u) b post) (S .0),
-        subst (λ n. n ≤ 8) (sons-same pre (plug c u′) (plug c u) b post) (S .1),
+        subst (λ n. least ≤ n) (length-put (plug c u′, b) (plug c u, b) pre post) (S .0),
+        subst (λ n. n ≤ 8) (length-put (plug c u′, b) (plug c u, b) pre post) (S .1),
         ends-free c (pre ++ (plug c u′, b) ∷ post),
         seg-append (Shaped h 3) lo m (suc hi) pre ((plug c u′, b) ∷ post) before (r .back u′ (subst (λ n. Shaped (suc k) n (r .lo′) (r .hi′) u′) (sym (three c)) S′), behind),
       );

@@ -1,29 +1,27 @@
 -- Demand 2, going forward: after more the request in hand is strictly ahead: in a later stage, or at a lower level of the tree, or at a higher key.
-use mathlib.Core.Path.{_≡_, refl, sym, ap, _∙_, subst}
+use mathlib.Core.Path.{_≡_, refl, sym, _∙_, subst, ap}
 use mathlib.Core.Bool.{Bool, true, false, cond, not, _&&_}
-use mathlib.Core.List.{List, [], _∷_, _++_}
+use mathlib.Core.List.{List, [], _∷_}
 use mathlib.Core.Logic.{_⊎_, inl, inr}
-use mathlib.Core.Option.{Option, none, some}
-use Prim.Native.Nat.{ℕ, zero, suc, _+_, _*_, _≤_, _<_}
+use mathlib.Core.Option.{some}
+use Prim.Native.Nat.{zero, suc, _*_, _≤_, _<_, ℕ}
 use native.Mathlib.Decide.{ℕ-discrete}
 use native.Mathlib.Omega.{arith}
-use lib.Dec.{leb, ltb, eqb, leb→le, eqb→eq}
+use lib.Dec.{leb, ltb, eqb}
 use lib.ListN.{length}
-use Rattle.serial.specs.Serial.{true≢false}
-use Rattle.serial.specs.Locks.{weak, strong}
-use Rattle.machine.specs.Tree.{pick, leb-yes, leb-no, Below}
+use Rattle.serial.specs.Locks.{weak}
+use Rattle.machine.specs.Logic.{eqb-yes, eqb-no, eqb-is, either}
 use Rattle.machine.specs.Holders.{latch-word, elem}
-use Rattle.machine.specs.State.{Entry, Desc, Tree, Stage, start, enter, at, change, take, Request, State, Answer, ok, more, wait, done, refused, Outcome, no-desc, same, or-none, sessionOf, stored, lowest-from, descOf, gap-below, on-entry, on-tree, in-stage, set-hand}
+use Rattle.machine.specs.Tree.{pick, pick-hit}
+use Rattle.machine.specs.State.{Entry, Desc, Tree, Stage, start, enter, change, take, Request, State, Answer, more, wait, done, refused, Outcome, no-desc, same, or-none, sessionOf, stored, lowest-from, descOf, gap-below, on-entry, on-tree, in-stage, set-hand, on-session, at, ok}
 use Rattle.machine.specs.Descent.{Sons, at-latch, on-latch}
-use Rattle.machine.specs.Steps.{answer, ended, goes-on, finished, guarded, entry-blockers, group-blockers, read-step, write-step, excluded-state, unlatch, updating-state, removed-state, passed-state, entry-step, insert-step, remove-step, change-step, memberships, last-take, take-desc, take-step, arrived, root-blockers, root-need, root-splits, whole-root, halved-root, enter-step, level-need, level-state, level-blockers, level-step, stepped, descended, son-at, pinned-state, pin-step, made-state, make-step, removable, tidied-state, tidy-step, lowest-step, stand-step, at-step, first-step, next-step}
-use Rattle.machine.specs.Keeps.{either}
-use Rattle.machine.specs.Model.{eqb-yes, eqb-no}
+use Rattle.machine.specs.Steps.{ended, goes-on, finished, guarded, group-blockers, read-step, write-step, excluded-state, unlatch, updating-state, removed-state, passed-state, entry-step, insert-step, remove-step, change-step, memberships, last-take, take-desc, take-step, arrived, root-blockers, root-need, root-splits, whole-root, halved-root, enter-step, level-state, level-step, descended, son-at, pinned-state, pin-step, made-state, make-step, removable, tidied-state, tidy-step, lowest-step, stand-step, at-step, first-step, next-step, answer}
 use Rattle.machine.specs.Sound.{Sound, Descends, to-change, to-first, to-second, to-choice, Stands}
 use Rattle.machine.specs.Context.{Ctx, hole, down, plug, OnWay, Clear, Focus, Focused}
-use Rattle.machine.specs.Focus.{focused}
-use Rattle.machine.specs.Hands.{Own, Handed, step-handed}
-use Rattle.machine.specs.Looks.{hand-seat, hand-put}
+use Rattle.machine.specs.Table.{hand-seat, hand-put}
+use Rattle.machine.specs.Descents.{pick-cases}
 use Rattle.machine.specs.Nearest.{takes-of}
+use Rattle.machine.specs.Focus.{focused}
 
 -- ---- how far a request is
 
@@ -72,27 +70,18 @@ Onward p r s g (refused n k) t = Unit {0}
 latch-low : (w x h : ℕ) (t : Tree h) → at-latch w x 0 (λ k u. suc k) h t ≤ h
 unfolding at-latch
 latch-low w x zero t = omega arith
-latch-low w x (suc h) t = either (λ n. n ≤ suc h) (eqb (t .latch) w) (suc h) (pick x 0 (at-latch w x 0 (λ k u. suc k) h) (t .sons)) (omega arith) (go (t .sons) (latch-low w x h))
-  where
-    go : (es : Sons h) → ((a : Tree h) → at-latch w x 0 (λ k u. suc k) h a ≤ h) → pick x 0 (at-latch w x 0 (λ k u. suc k) h) es ≤ suc h
-    go [] f = omega arith
-    go (e ∷ es) f = either (λ n. n ≤ suc h) (leb x (e .1)) (at-latch w x 0 (λ k u. suc k) h (e .0)) (pick x 0 (at-latch w x 0 (λ k u. suc k) h) es) (omega (arith, f (e .0))) (go es f)
+latch-low w x (suc h) t = either (λ n. n ≤ suc h) (eqb (t .latch) w) (suc h) (pick x 0 (at-latch w x 0 (λ k u. suc k) h) (t .sons)) (omega arith)
+    (pick-cases (λ n. n ≤ suc h) x 0 (at-latch w x 0 (λ k u. suc k) h) (t .sons) (omega arith) (λ a. omega (arith, latch-low w x h a)))
 
 pick-low : (w x h : ℕ) (es : Sons h) → pick x 0 (at-latch w x 0 (λ k u. suc k) h) es ≤ h
-pick-low w x h [] = omega arith
-pick-low w x h (e ∷ es) =
-    either (λ n. n ≤ h) (leb x (e .1)) (at-latch w x 0 (λ k u. suc k) h (e .0)) (pick x 0 (at-latch w x 0 (λ k u. suc k) h) es) (latch-low w x h (e .0)) (pick-low w x h es)
-
-pick-past : {A B : Type 0} (x : ℕ) (z : B) (g : A → B) (pre : List (A × ℕ)) (a : A) (b : ℕ) (post : List (A × ℕ)) → Below x pre → x ≤ b → pick x z g (pre ++ (a, b) ∷ post) ≡ g a
-pick-past x z g [] a b post h l = rw (leb-yes x b l) refl
-pick-past x z g (e ∷ pre) a b post h l = rw (leb-no x (e .1) (h .0)) (pick-past x z g pre a b post (h .1) l)
+pick-low w x h es = pick-cases (λ n. n ≤ h) x 0 (at-latch w x 0 (λ k u. suc k) h) es (omega arith) (latch-low w x h)
 
 -- The latch is sought below a context that has none on its way.
 latch-through : {k h : ℕ} (w x : ℕ) (c : Ctx k h) (u : Tree k) → Clear w c → OnWay x c → at-latch w x 0 (λ j v. suc j) h (plug c u) ≡ at-latch w x 0 (λ j v. suc j) k u
 unfolding at-latch
 latch-through w x hole u cl ow = refl
 latch-through w x (down {h} v pre c b post) u cl ow =
-    rw (eqb-no v w (cl .0)) (pick-past x 0 (at-latch w x 0 (λ j v. suc j) h) pre (plug c u) b post (ow .0) (ow .1) ∙ latch-through w x c u (cl .1) (ow .2))
+    rw (eqb-no v w (cl .0)) (pick-hit x 0 (at-latch w x 0 (λ j v. suc j) h) pre (plug c u) b post (ow .0) (ow .1) ∙ latch-through w x c u (cl .1) (ow .2))
 
 latch-here : (w x h : ℕ) (u : Tree (suc h)) → u .latch ≡ w → at-latch w x 0 (λ j v. suc j) (suc h) u ≡ suc h
 unfolding at-latch
@@ -170,7 +159,7 @@ module _ (p : ℕ) (r : Request) (s : State) (S : Sound s) (e : sessionOf p s .h
       later false = omega arith
 
   level-on : (x h : ℕ) (u : Tree (suc (suc h))) → Focus p x s (suc h) u → Steps-on (at x) (level-step p r x s h (u .sons) (son-at x h (u .sons)))
-  unfolding level-step level-of on-tree set-hand Rattle.machine.specs.State.on-session
+  unfolding level-step level-of on-tree set-hand on-session
   level-on x h u F = on-guard (at x) _ _ _
       (to-stage (at x) (at x) (level-state p x s h (u .sons) (son-at x h (u .sons))) (held (at x) (level-state p x s h (u .sons) (son-at x h (u .sons))) refl) (inr (refl, inl (level-ahead p x s h u F))))
 
@@ -192,7 +181,7 @@ module _ (p : ℕ) (r : Request) (s : State) (S : Sound s) (e : sessionOf p s .h
       code : (b : Bool) → eqb (r .code) 5 ≡ b → Dec (x ≡ r .second) → Ahead p r s (at x) t (cond b (cond (eqb x (r .second)) (take (r .first)) (enter (r .second))) change)
       code false i w = inl (low (returning r x))
       code true i (yes w) = rw (eqb-yes x (r .second) w) (inl (low (returning r x)))
-      code true i (no w) = rw (eqb-no x (r .second) w) (inl (back (first-of d w (eqb→eq (r .code) 5 (rw i tt)))))
+      code true i (no w) = rw (eqb-no x (r .second) w) (inl (back (first-of d w (eqb-is (r .code) 5 i))))
         where
           back : x ≡ r .first → rank r (at x) < rank r (enter (r .second))
           back q = rw (i, eqb-yes x (r .first) q, eqb-no (r .second) (r .first) (λ z. w (q ∙ sym z))) (omega arith)

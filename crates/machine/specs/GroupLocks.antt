@@ -1,60 +1,32 @@
 -- The states that the change step of an insert or a remove, and the take steps of a locate leave, the request still in hand: what is read at keys, entries
 -- and the session table is sound, and so are shape and count.
-use mathlib.Core.Path.{_≡_, refl, sym, ap, ap₂, _∙_, subst}
-use mathlib.Core.Bool.{Bool, true, false, cond, _||_}
+use mathlib.Core.Path.{_≡_, refl, sym, _∙_, subst, ap}
+use mathlib.Core.Bool.{Bool, true, false}
 use mathlib.Core.List.{List, [], _∷_}
-use mathlib.Core.Logic.{_⊎_, inl, inr}
 use mathlib.Core.Option.{some}
-use Prim.Native.Nat.{ℕ, suc, _+_, _-_, _≤_, _<_}
+use Prim.Native.Nat.{suc, _+_, _-_, _≤_, _<_, ℕ}
 use native.Mathlib.Decide.{ℕ-discrete}
 use native.Mathlib.Omega.{arith}
-use lib.Dec.{eqb}
 use lib.ListN.{length}
-use Rattle.serial.specs.Serial.{true≢false}
 use Rattle.serial.specs.Locks.{weak, strong}
 use Rattle.serial.specs.Locks as L
 use Rattle.machine.specs.Holders.{holds, held-by, elem}
-use Rattle.machine.specs.Bits.{held-same}
-use Rattle.machine.specs.State.{Desc, change, take, Request, Undo, added, taken, State, or-none, sessionOf, stored, lowest-from, descOf, with-free, on-session, on-tree, on-desc, hold-desc, group-desc, same, with-member, without-member, add-undo, in-stage}
-use Rattle.machine.specs.Steps.{rule, group-blockers, updating-state, inserted-state, removed-state, passed-state, located-state}
+use Rattle.machine.specs.State.{Desc, change, take, Request, Undo, added, taken, State, or-none, sessionOf, stored, lowest-from, descOf, with-free, on-session, on-tree, on-desc, hold-desc, group-desc, with-member, without-member, add-undo, in-stage, same}
+use Rattle.machine.specs.Steps.{group-blockers, updating-state, inserted-state, removed-state, passed-state, located-state}
 use Rattle.machine.specs.View.{holders, group-in, locate-word, seen}
+use Rattle.machine.specs.Sound.{gap-word, records-used, UpTo, Changing, Passing, Stands, cells, set-cell, Holding, Undoable, Sound, Formed, Keyed, formed-of}
+use Rattle.machine.specs.Bits.{held-same}
+use Rattle.machine.specs.Table.{hand-seat}
 use Rattle.machine.specs.Housekeeping.{lvs, seen-group}
-use Rattle.machine.specs.Model.{eqb-yes, eqb-no}
-use Rattle.machine.specs.Keys.{elem-with, elem-without-other, elem-without-same, Kept}
-use Rattle.machine.specs.Changes.{put-update, put-group, put-group-other, was-group, hold-update, held-state, up-group, update-locked}
+use Rattle.machine.specs.Keys.{elem-without-other, elem-without-same, Kept, put-update, put-group-other, was-group, put-group-kept, elem-with-same, elem-with-other}
+use Rattle.machine.specs.Checks.{checked-entry, checked-first}
+use Rattle.machine.specs.Looks.{hand-begun, fit-of, kept-of, kept-stored, kept-listed, put-gap, change-stored, with-many, without-many, with-upto, without-upto, upto-up, put-cells, set-entry, set-back, excludes-alone, set-here}
+use Rattle.machine.specs.Nearest.{Takes, takes-of}
+use Rattle.machine.specs.Alike.{on-desc-formed, on-desc-shaped, on-desc-used}
+use Rattle.machine.specs.Locking.{Grants, locked-grants, grants-like, Locks, undoable-more, only-keyed, undo-locks, undo-keyed, undo-formed, desc-locks}
+use Rattle.machine.specs.Changes.{hold-update, held-state, up-group, update-locked}
 use Rattle.machine.specs.Insert.{changed-holders}
 use Rattle.machine.specs.Locate.{Adds, adds-held, adds-same, here-word, loc-old, locate-locked}
-use Rattle.machine.specs.Sound.{gap-word, records-used, UpTo, Changing, Passing, Stands, Cells, cells, set-cell, Holding, Undoable, Sound, Formed, Keyed, formed-of}
-use Rattle.machine.specs.Looks.{hand-seat, hand-begun, fit-of, kept-of, kept-stored, kept-listed, put-gap, put-group-kept, change-stored, checked-entry, checked-first, with-many, without-many, with-upto, without-upto, upto-up}
-use Rattle.machine.specs.Alike.{on-desc-formed, on-desc-shaped, on-desc-used}
-use Rattle.machine.specs.Nearest.{Takes, takes-of}
-use Rattle.machine.specs.Locking.{Grants, locked-grants, grants-like, Locks, undoable-more, only-keyed, undo-locks, undo-keyed, undo-formed, desc-locks}
-
--- ---- one cell changed
-
-module _ (k e : ℕ) (b : Bool) (c : Cells) where
-  set-here : set-cell k e b c k e ≡ b
-  set-here = ap₂ (λ x y. cond x (cond y b (c k e)) (c k e)) (eqb-yes k k refl) (eqb-yes e e refl)
-
-  set-key : (j f : ℕ) → ¬ (k ≡ j) → set-cell k e b c j f ≡ c j f
-  set-key j f n = ap (λ x. cond x (cond (eqb f e) b (c j f)) (c j f)) (eqb-no j k (λ z. n (sym z)))
-
-  set-entry : (j f : ℕ) → ¬ (e ≡ f) → set-cell k e b c j f ≡ c j f
-  set-entry j f n = go (eqb j k) (eqb f e) (eqb-no f e (λ z. n (sym z)))
-    where
-      go : (x y : Bool) → y ≡ false → cond x (cond y b (c j f)) (c j f) ≡ c j f
-      go true true q = absurd (true≢false refl q)
-      go true false q = refl
-      go false y q = refl
-
--- Set, and set as it was.
-set-back : (k e : ℕ) (b o : Bool) (c d : Cells) → ((j f : ℕ) → d j f ≡ set-cell k e b c j f) → c k e ≡ o → (j f : ℕ) → set-cell k e o d j f ≡ c j f
-set-back k e b o c d h q j f = go (ℕ-discrete k j) (ℕ-discrete e f)
-  where
-    go : Dec (k ≡ j) → Dec (e ≡ f) → set-cell k e o d j f ≡ c j f
-    go (no n) y = set-key k e o d j f n ∙ h j f ∙ set-key k e b c j f n
-    go (yes x) (no n) = set-entry k e o d j f n ∙ h j f ∙ set-entry k e b c j f n
-    go (yes x) (yes y) = subst (λ i. set-cell k e o d i f ≡ c i f) x (subst (λ i. set-cell k e o d k i ≡ c k i) y (set-here k e o d ∙ sym q))
 
 -- ---- the change step
 
@@ -114,22 +86,11 @@ module _ (m : ℕ) (r : Request) (s : State) (S : Sound s) (hand : sessionOf (su
     t = on-desc k f s
 
     cells-now : (j x : ℕ) → cells t j x ≡ set-cell k e b (cells s) j x
-    cells-now j x = at (ℕ-discrete k j) (ℕ-discrete e x)
-      where
-        at : Dec (k ≡ j) → Dec (e ≡ x) → cells t j x ≡ set-cell k e b (cells s) j x
-        at (no n) y = ap (elem x) (put-group-other k s K f refl j n) ∙ sym (set-key k e b (cells s) j x n)
-        at (yes q) (yes y) = subst (λ i. cells t i x ≡ set-cell k e b (cells s) i x) q (subst (λ i. cells t k i ≡ set-cell k e b (cells s) k i) y
-            (ap (elem e) (put-group k s K f refl) ∙ here ∙ sym (set-here k e b (cells s))))
-        at (yes q) (no n) = subst (λ i. cells t i x ≡ set-cell k e b (cells s) i x) q
-            (ap (elem x) (put-group k s K f refl) ∙ there x (λ z. n (sym z)) ∙ sym (ap (elem x) (was-group k s K f refl)) ∙ sym (set-entry k e b (cells s) k x n))
+    cells-now = put-cells k s K f refl e b here there
 
     -- Nobody else excludes e.
     cells-others : (q j x : ℕ) → ¬ (p ≡ q) → holders s L.entry strong q x ≡ true → cells t j x ≡ cells s j x
-    cells-others q j x n h = cells-now j x ∙ set-entry k e b (cells s) j x (λ y. alone y (S .agree L.entry strong strong p q x (subst (λ i. holders s L.entry strong p i ≡ true) y (C .excludes)) h))
-      where
-        alone : e ≡ x → (p ≡ q) ⊎ (rule L.entry strong strong ≡ true) → ⊥
-        alone y (inl z) = n z
-        alone y (inr z) = true≢false z refl
+    cells-others q j x n h = cells-now j x ∙ set-entry k e b (cells s) j x (λ y. n (excludes-alone S p q x (subst (λ i. holders s L.entry strong p i ≡ true) y (C .excludes)) h))
 
     group-locks : Locks p s t
     group-locks = desc-locks p k f s S K refl refl (λ h. h) (λ q n. refl) (zero-kept f refl) up cells-others
@@ -153,7 +114,7 @@ module _ (m : ℕ) (r : Request) (s : State) (S : Sound s) (hand : sessionOf (su
       }
 
       tail : Undoable p v (sessionOf p s .undos) (set-cell k e o (cells t))
-      tail = undoable-more p s v W (sessionOf p s .undos) (cells s) (set-cell k e o (cells t)) (set-back k e b o (cells s) (cells t) cells-now (ap (elem e) (was-group k s K f refl) ∙ was)) (S .undoable p)
+      tail = undoable-more p s v W (sessionOf p s .undos) (cells s) (set-cell k e o (cells t)) (set-back k e b o (cells s) (cells t) cells-now (ap (elem e) (was-group k s K) ∙ was)) (S .undoable p)
 
       now : cells t k e ≡ b
       now = cells-now k e ∙ set-here k e b (cells s)
@@ -165,7 +126,7 @@ module _ (m : ℕ) (r : Request) (s : State) (S : Sound s) (hand : sessionOf (su
   pub inserted-keyed : elem e (descOf k s .members) ≡ false → Keyed (inserted-state p r s)
   inserted-keyed h =
       let l = K .d .members in
-      group-keyed (with-member e) true false (elem-with e e l ∙ ap (λ x. x || elem e l) (eqb-yes e e refl)) (λ x n. elem-with x e l ∙ ap (λ y. y || elem x l) (eqb-no x e n))
+      group-keyed (with-member e) true false (elem-with-same e l) (λ x n. elem-with-other x e l n)
       (sym (ap (λ d. elem e (d .members)) (K .desc)) ∙ h) (with-upto e 1 (length (s .entries)) l (in-store .0) (in-store .1) members-in)
       (s .free - 2) (added e k) (λ a b c. (a, b, c))
 
@@ -209,10 +170,6 @@ module _ (m : ℕ) (r : Request) (s : State) (S : Sound s) (hand : sessionOf (su
 
   abbrev N : Kept (d .key) s
   N = T .next .K
-
-  -- Not below second, it is second's own.
-  pub at-second : ¬ (d .key < r .second) → d .key ≡ r .second
-  at-second n = let q = T .to-second in omega arith
 
   module _ (free : group-blockers weak w d ≡ []) where
     module _ (γ : ℕ → ℕ) (Γ : Adds w γ) where

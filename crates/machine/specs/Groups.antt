@@ -1,20 +1,21 @@
 -- A descriptor made in its gap, or removed by tidy's rule, changes no key's holders and no group.
-use mathlib.Core.Path.{_≡_, refl, ap, ap₂, sym, _∙_, subst}
-use mathlib.Core.Bool.{Bool, true, false, cond, _&&_}
-use mathlib.Core.List.{List, [], _∷_, _++_, append-assoc, append-nil, map, map-append}
-use Prim.Native.Nat.{ℕ, zero, suc, _+_, _-_, _≤_, _<_}
+use mathlib.Core.Path.{_≡_, refl, ap₂, sym, _∙_, ap}
+use mathlib.Core.Bool.{Bool, true, false, cond}
+use mathlib.Core.List.{List, [], _∷_, _++_, map, map-append}
+use Prim.Native.Nat.{zero, suc, _≤_, _<_, ℕ}
 use native.Mathlib.Omega.{arith}
-use lib.Dec.{leb, ltb, eqb, leb→le, eqb→eq}
+use lib.Dec.{eqb}
 use Rattle.serial.specs.Rising.{Tri, less, equal, greater}
 use Rattle.serial.specs.Model.{ℕ-tri}
-use Rattle.machine.specs.Gaps.{by-tri, at-less, at-equal, at-greater, locators, updaters, made-locators, made-updaters, dropped, dropped-locators, dropped-updaters, Tidy, Removable, Rising-keys, Above-key}
-use Rattle.machine.specs.Gaps as G
-use Rattle.machine.specs.Tree.{Node, T, onp, pick, flat, Seg, leaves, leb-yes, leb-no}
-use Rattle.machine.specs.State.{Desc, Tree, gap-below, stored}
+use Rattle.machine.specs.Logic.{leb-yes, leb-no, eqb-no, eqb-is}
+use Rattle.machine.specs.Tree.{flat, Seg, leaves}
+use Rattle.machine.specs.State.{Tree, gap-below, Desc}
 use Rattle.machine.specs.Steps.{made}
-use Rattle.machine.specs.Keeps.{under}
-use Rattle.machine.specs.View.{plain, plains, seen, seen-under, holder-words, group-in, locate-word, update-word}
-use Rattle.machine.specs.Order.{Ord, In, in-wide, in-append, ord-in, ord-le, seg-le, lv}
+use Rattle.machine.specs.Gaps.{at-less, at-equal, at-greater, dropped, Tidy, Removable, Rising-keys, Above-key}
+use Rattle.machine.specs.Gaps as G
+use Rattle.machine.specs.View.{plain, plains, holder-words, group-in}
+use Rattle.machine.specs.Keeps.{under, flat-same}
+use Rattle.machine.specs.Order.{Ord, in-wide, ord-le, seg-le, In, lv}
 
 abbrev pub words : List Desc → List G.Desc
 words l = map holder-words l
@@ -31,13 +32,6 @@ made-words g x from upto (c ∷ C) D p q = rw (leb-yes (suc (c .key)) x (p .0 .1
     (at-greater (ℕ-tri x (c .key)) (G.new g x ∷ words (c ∷ C ++ D)) (words (c ∷ C ++ D)) (holder-words c ∷ G.made (c .gap) x (words (C ++ D))) (p .0 .1)
     ∙ ap (λ l. holder-words c ∷ l) (made-words (c .gap) x from upto C D (p .1) q))
 
-eqb-no : (m n : ℕ) → (m ≡ n → ⊥) → eqb m n ≡ false
-eqb-no m n h = go (eqb m n) refl
-  where
-    go : (c : Bool) → eqb m n ≡ c → c ≡ false
-    go true e = absurd (h (eqb→eq m n (rw e tt)))
-    go false e = refl
-
 pub group-none : (x upto : ℕ) (D : List Desc) → In (suc x) upto D → group-in x D ≡ []
 unfolding group-in
 group-none x upto [] q = refl
@@ -50,7 +44,7 @@ unfolding group-in
 group-empty x from upto n k m [] D p q j = go (eqb (n .key) j) refl
   where
     go : (c : Bool) → eqb (n .key) j ≡ c → cond c (n .members) (group-in j D) ≡ group-in j D
-    go true e = m ∙ sym (ap (λ z. group-in z D) (sym (eqb→eq (n .key) j (rw e tt)) ∙ k) ∙ group-none x upto D q)
+    go true e = m ∙ sym (ap (λ z. group-in z D) (sym (eqb-is (n .key) j e) ∙ k) ∙ group-none x upto D q)
     go false e = refl
 group-empty x from upto n k m (c ∷ C) D p q j = ap (λ l. cond (eqb (c .key) j) (c .members) l) (group-empty x from upto n k m C D (p .1) q j)
 
@@ -127,18 +121,14 @@ pub words-plain : (l : List Desc) → words (map plain l) ≡ words l
 words-plain [] = refl
 words-plain (d ∷ l) = ap (λ m. holder-words d ∷ m) (words-plain l)
 
-pub group-plain : (j : ℕ) (l : List Desc) → group-in j (map plain l) ≡ group-in j l
+pub group-map : (f : Desc → Desc) → ((d : Desc) → f d .key ≡ d .key) → ((d : Desc) → f d .members ≡ d .members) → (j : ℕ) (l : List Desc) → group-in j (map f l) ≡ group-in j l
 unfolding group-in
-group-plain j [] = refl
-group-plain j (d ∷ l) = ap (λ m. cond (eqb (d .key) j) (d .members) m) (group-plain j l)
+group-map f k m j [] = refl
+group-map f k m j (d ∷ l) = ap₂ (λ x y. cond (eqb x j) y (group-in j (map f l))) (k d) (m d) ∙ ap (λ y. cond (eqb (d .key) j) (d .members) y) (group-map f k m j l)
 
-map-flat : {A B C : Type 0} (f : B → C) (g : A → List B) (es : List (A × ℕ)) → flat (λ a. map f (g a)) es ≡ map f (flat g es)
+pub map-flat : {A B C : Type 0} (f : B → C) (g : A → List B) (es : List (A × ℕ)) → flat (λ a. map f (g a)) es ≡ map f (flat g es)
 map-flat f g [] = refl
 map-flat f g (p ∷ es) = ap (λ l. map f (g (p .0)) ++ l) (map-flat f g es) ∙ sym (map-append f (g (p .0)) (flat g es))
-
-flat-same : {A B : Type 0} (g k : A → List B) → ((a : A) → g a ≡ k a) → (es : List (A × ℕ)) → flat g es ≡ flat k es
-flat-same g k e [] = refl
-flat-same g k e (p ∷ es) = ap₂ (λ a b. a ++ b) (e (p .0)) (flat-same g k e es)
 
 pub under-plain : (h : ℕ) (t : Tree h) → under plains h t ≡ map plain (lv h t)
 unfolding under leaves

@@ -1,59 +1,40 @@
 -- Every step of a request changes the holders of entries and keys by just the locks that the ledger says it grants.
-use mathlib.Core.Path.{_≡_, refl, sym, ap, ap₂, _∙_, subst}
-use mathlib.Core.Bool.{Bool, true, false, cond, _&&_, _||_}
+use mathlib.Core.Path.{_≡_, refl, sym, ap₂, _∙_, subst, ap}
+use mathlib.Core.Bool.{Bool, true, false, cond, _&&_, _||_, or-false, or-true, and-true, and-false}
 use mathlib.Core.List.{List, [], _∷_, _++_, map}
 use mathlib.Core.Logic.{_⊎_, inl, inr}
 use mathlib.Core.Option.{Option, none, some}
-use Prim.Native.Nat.{ℕ, zero, suc, _*_, _≤_, _<_}
+use Prim.Native.Nat.{suc, _*_, _≤_, _<_, ℕ}
 use native.Mathlib.Decide.{ℕ-discrete}
 use native.Mathlib.Omega.{arith}
-use lib.Dec.{leb, ltb, eqb, leb→le, nleb→lt}
+use lib.Dec.{leb, ltb, eqb}
 use lib.ListN.{length}
 use Rattle.serial.specs.Serial.{true≢false}
 use Rattle.serial.specs.Rising.{Tri, less, equal, greater}
 use Rattle.serial.specs.Model.{ℕ-tri}
 use Rattle.serial.specs.Locks.{Kind, Mode, weak, strong}
 use Rattle.serial.specs.Locks as L
-use Rattle.machine.specs.Gaps.{by-tri, locators}
-use Rattle.machine.specs.Tree.{leb-yes, leb-no}
+use Rattle.machine.specs.Logic.{leb-yes, leb-no, eqb-yes, eqb-no, leb-is, leb-not, either}
 use Rattle.machine.specs.Holders.{holds, held-by, elem}
-use Rattle.machine.specs.Bits.{held-same, held-other}
-use Rattle.machine.specs.State.{Entry, Desc, Stage, start, enter, at, change, take, Request, State, refused, Outcome, top, or-none, entryOf, sessionOf, stored, lowest-from, descOf, on-entry, on-session, on-tree, on-desc, hold-desc, group-desc, same, with-member, without-member, add-undo}
-use Rattle.machine.specs.View.{seen, locate-word, update-word, holders, same-refl, same-holders, ended-same}
+use Rattle.machine.specs.State.{Entry, Desc, Stage, start, enter, change, take, Request, State, refused, top, or-none, entryOf, sessionOf, stored, lowest-from, descOf, on-entry, on-session, on-tree, on-desc, hold-desc, group-desc, same, with-member, without-member, add-undo, Outcome, at}
 use Rattle.machine.specs.Steps.{share-by, exclude-by, ended, goes-on, finished, guarded, read-step, written, write-step, entry-step, updating-state, inserted-state, removed-state, insert-step, remove-step, change-step, memberships, passed-state, located-state, last-take, take-desc, take-step, first-step, next-step}
+use Rattle.machine.specs.Gaps.{by-tri, locators}
+use Rattle.machine.specs.View.{seen, locate-word, update-word, holders, same-refl, same-holders, ended-same, frame-holders, entry-holders}
+use Rattle.machine.specs.Sound.{stored-in, of-hand, Sound}
+use Rattle.machine.specs.Bits.{held-same, held-other}
 use Rattle.machine.specs.Descents.{guard-cases, goes-same, finished-same}
-use Rattle.machine.specs.Keeps.{either}
 use Rattle.machine.specs.Order.{In}
 use Rattle.machine.specs.Groups.{words}
-use Rattle.machine.specs.Housekeeping.{Like, like-unseen, at-step-like, enter-step-like, lvs, seen-words}
-use Rattle.machine.specs.Model.{eqb-yes, eqb-no}
-use Rattle.machine.specs.Keys.{Kept}
-use Rattle.machine.specs.Entries.{entry-put, entry-other, word, grant, holders-word}
-use Rattle.machine.specs.Changes.{put-locate, put-update, was-update, put-update-other}
-use Rattle.machine.specs.Sound.{stored-in, of-hand, Sound}
-use Rattle.machine.specs.Looks.{frame-holders, stored-range, stored-parts, sound-ordered, take-stored}
+use Rattle.machine.specs.Housekeeping.{Like, like-unseen, at-step-like, enter-step-like, lvs}
+use Rattle.machine.specs.Keys.{Kept, put-locate, put-update, was-update, put-update-other, was-locate, was-shown, put-shown, put-locate-here, put-locate-below, put-update-kept, above-locate}
+use Rattle.machine.specs.Looks.{stored-range, stored-parts, sound-ordered, take-stored}
+use Rattle.machine.specs.Entries.{word, grant, holders-word, entry-cases, exclude-words}
 use Rattle.machine.specs.Events.{asked}
-use Rattle.machine.specs.Session.{Ready, reads, writes, to-insert, to-remove, enters, walks, inserts, removes, takes}
-use Rattle.machine.specs.Moves.{Tidying, nothing-above, entering, walking}
+use Rattle.machine.specs.Session.{Ready, reads, writes, to-insert, to-remove, enters, descends, inserts, removes, takes}
+use Rattle.machine.specs.Moves.{Tidying, nothing-above, entering, descending}
 use Rattle.machine.specs.Ledger.{Ledger, no-locks, same-mode, lock, lock-one, keys, key-from, upon, step-grants}
 
--- ---- truth values
-
-pub or-no : (b : Bool) → b ≡ (b || false)
-or-no true = refl
-or-no false = refl
-
-or-yes : (b : Bool) → (b || true) ≡ true
-or-yes true = refl
-or-yes false = refl
-
-pub and-no : (b : Bool) → (b && false) ≡ false
-and-no true = refl
-and-no false = refl
-
-pub and-yes : (b : Bool) → (b && true) ≡ b
-and-yes true = refl
-and-yes false = refl
+-- ---- words
 
 -- From e to below e + 1 there is e alone.
 one-is : (e z : ℕ) → (leb e z && ltb z (suc e)) ≡ eqb e z
@@ -69,8 +50,8 @@ held-word : (m q w : ℕ) → holds (held-by (suc m) w) q ≡ (holds w q || eqb 
 held-word m q w = go (ℕ-discrete (suc m) q)
   where
     go : Dec (suc m ≡ q) → holds (held-by (suc m) w) q ≡ (holds w q || eqb (suc m) q)
-    go (yes e) = subst (λ n. holds (held-by (suc m) w) n ≡ true) e (held-same m w) ∙ sym (ap (λ b. holds w q || b) (eqb-yes (suc m) q e) ∙ or-yes (holds w q))
-    go (no n) = held-other (suc m) q w n ∙ or-no (holds w q) ∙ sym (ap (λ b. holds w q || b) (eqb-no (suc m) q n))
+    go (yes e) = subst (λ n. holds (held-by (suc m) w) n ≡ true) e (held-same m w) ∙ sym (ap (λ b. holds w q || b) (eqb-yes (suc m) q e) ∙ or-true (holds w q))
+    go (no n) = held-other (suc m) q w n ∙ sym (or-false (holds w q)) ∙ sym (ap (λ b. holds w q || b) (eqb-no (suc m) q n))
 
 -- ---- states that grow by some locks
 
@@ -78,7 +59,7 @@ abbrev pub GrowsBy : State → State → Ledger → Type 0
 GrowsBy s t g = (k : Kind) (m : Mode) (q z : ℕ) → holders t k m q z ≡ (holders s k m q z || g k m q z)
 
 pub alike-grows : (s t : State) → ((k : Kind) (m : Mode) (q z : ℕ) → holders t k m q z ≡ holders s k m q z) → GrowsBy s t no-locks
-alike-grows s t h k m q z = h k m q z ∙ or-no (holders s k m q z)
+alike-grows s t h k m q z = h k m q z ∙ sym (or-false (holders s k m q z))
 
 grows-then : (s t u : State) (g : Ledger) → GrowsBy s t g → ((k : Kind) (m : Mode) (q z : ℕ) → holders u k m q z ≡ holders t k m q z) → GrowsBy s u g
 grows-then s t u g a h k m q z = h k m q z ∙ a k m q z
@@ -86,29 +67,24 @@ grows-then s t u g a h k m q z = h k m q z ∙ a k m q z
 -- ---- an entry's lock
 
 grant-holds : (mode n : Mode) (m q : ℕ) (e : Entry) → holds (word n (grant mode (suc m) e)) q ≡ (holds (word n e) q || (same-mode mode n && (eqb (suc m) q && true)))
-grant-holds weak weak m q e = held-word m q (e .share) ∙ ap (λ b. holds (e .share) q || b) (sym (and-yes (eqb (suc m) q)))
-grant-holds weak strong m q e = or-no (holds (e .exclusive) q)
-grant-holds strong weak m q e = or-no (holds (e .share) q)
-grant-holds strong strong m q e = held-word m q (e .exclusive) ∙ ap (λ b. holds (e .exclusive) q || b) (sym (and-yes (eqb (suc m) q)))
+grant-holds weak weak m q e = held-word m q (e .share) ∙ ap (λ b. holds (e .share) q || b) (sym (and-true (eqb (suc m) q)))
+grant-holds weak strong m q e = sym (or-false (holds (e .exclusive) q))
+grant-holds strong weak m q e = sym (or-false (holds (e .share) q))
+grant-holds strong strong m q e = held-word m q (e .exclusive) ∙ ap (λ b. holds (e .exclusive) q || b) (sym (and-true (eqb (suc m) q)))
 
 -- f gives the lock, and perhaps another value.
 entry-grows : (mode : Mode) (m i : ℕ) (f : Entry → Entry) (s : State) → i < length (s .entries) → ((n : Mode) (e : Entry) → word n (f e) ≡ word n (grant mode (suc m) e))
     → GrowsBy s (on-entry (suc i) f s) (lock-one L.entry mode (suc m) (suc i))
 unfolding on-entry
-entry-grows mode m i f s h w L.group weak q z = or-no _
-entry-grows mode m i f s h w L.group strong q z = or-no _
-entry-grows mode m i f s h w L.entry n q z = holders-word t n q z ∙ at (ℕ-discrete (suc i) z) ∙ ap (λ b. b || lock-one L.entry mode (suc m) (suc i) L.entry n q z) (sym (holders-word s n q z))
-  where
-    t : State
-    t = on-entry (suc i) f s
-
-    at : Dec (suc i ≡ z) → holds (word n (entryOf z t)) q ≡ (holds (word n (entryOf z s)) q || lock-one L.entry mode (suc m) (suc i) L.entry n q z)
-    at (yes e) = subst (λ y. holds (word n (entryOf y t)) q ≡ (holds (word n (entryOf y s)) q || lock-one L.entry mode (suc m) (suc i) L.entry n q y)) e
-        (ap (λ x. holds (word n x) q) (entry-put i f s h) ∙ ap (λ x. holds x q) (w n (entryOf (suc i) s)) ∙ grant-holds mode n m q (entryOf (suc i) s)
-        ∙ ap (λ b. holds (word n (entryOf (suc i) s)) q || (same-mode mode n && (eqb (suc m) q && b))) (sym (one-is (suc i) (suc i) ∙ eqb-yes (suc i) (suc i) refl)))
-    at (no e) = ap (λ x. holds (word n x) q) (entry-other i z f s e) ∙ or-no (holds (word n (entryOf z s)) q)
-        ∙ ap (λ b. holds (word n (entryOf z s)) q || b)
-        (sym (ap (λ b. same-mode mode n && (eqb (suc m) q && b)) (one-is (suc i) z ∙ eqb-no (suc i) z e) ∙ ap (λ b. same-mode mode n && b) (and-no (eqb (suc m) q)) ∙ and-no (same-mode mode n)))
+entry-grows mode m i f s h w L.group weak q z = sym (or-false _)
+entry-grows mode m i f s h w L.group strong q z = sym (or-false _)
+entry-grows mode m i f s h w L.entry n q z = holders-word (on-entry (suc i) f s) n q z
+    ∙ entry-cases i f s h (λ y x. holds (word n x) q ≡ (holds (word n (entryOf y s)) q || lock-one L.entry mode (suc m) (suc i) L.entry n q y))
+    (ap (λ x. holds x q) (w n (entryOf (suc i) s)) ∙ grant-holds mode n m q (entryOf (suc i) s)
+    ∙ ap (λ b. holds (word n (entryOf (suc i) s)) q || (same-mode mode n && (eqb (suc m) q && b))) (sym (one-is (suc i) (suc i) ∙ eqb-yes (suc i) (suc i) refl)))
+    (λ y e. sym (or-false (holds (word n (entryOf y s)) q)) ∙ ap (λ b. holds (word n (entryOf y s)) q || b)
+    (sym (ap (λ b. same-mode mode n && (eqb (suc m) q && b)) (one-is (suc i) y ∙ eqb-no (suc i) y e) ∙ ap (λ b. same-mode mode n && b) (and-false (eqb (suc m) q)) ∙ and-false (same-mode mode n)))) z
+    ∙ ap (λ b. b || lock-one L.entry mode (suc m) (suc i) L.entry n q z) (sym (holders-word s n q z))
 
 -- ---- a group's update lock
 
@@ -116,20 +92,17 @@ entry-grows mode m i f s h w L.entry n q z = holders-word t n q z ∙ at (ℕ-di
 module _ (m k : ℕ) (s : State) (K : Kept k s) (f : Desc → Desc) (fk : f (K .d) .key ≡ K .d .key) (fl : f (K .d) .locate ≡ K .d .locate) (fg : f (K .d) .gap ≡ K .d .gap)
     (fu : f (K .d) .update ≡ held-by (suc m) (K .d .update)) where
   update-grows : GrowsBy s (on-desc k f s) (lock-one L.group strong (suc m) k)
-  unfolding on-tree entryOf
-  update-grows L.entry weak q zero = or-no _
-  update-grows L.entry weak q (suc z) = or-no _
-  update-grows L.entry strong q zero = or-no _
-  update-grows L.entry strong q (suc z) = or-no _
-  update-grows L.group weak q z = ap (λ w. holds w q) (put-locate k s K f fk fl fg z) ∙ or-no _
+  unfolding on-tree
+  update-grows L.entry n q z = entry-holders s (on-desc k f s) refl n q z ∙ sym (or-false _)
+  update-grows L.group weak q z = ap (λ w. holds w q) (put-locate k s K f fk fl fg z) ∙ sym (or-false _)
   update-grows L.group strong q z = at (ℕ-discrete k z)
     where
       at : Dec (k ≡ z) → holds (update-word z (seen (on-desc k f s))) q ≡ (holds (update-word z (seen s)) q || (eqb (suc m) q && (leb k z && ltb z (suc k))))
       at (yes e) = subst (λ y. holds (update-word y (seen (on-desc k f s))) q ≡ (holds (update-word y (seen s)) q || (eqb (suc m) q && (leb k y && ltb y (suc k))))) e
-          (ap (λ w. holds w q) (put-update k s K f fk ∙ fu ∙ ap (held-by (suc m)) (sym (was-update k s K f fk))) ∙ held-word m q (update-word k (seen s))
-          ∙ ap (λ b. holds (update-word k (seen s)) q || b) (sym (ap (λ b. eqb (suc m) q && b) (one-is k k ∙ eqb-yes k k refl) ∙ and-yes (eqb (suc m) q))))
-      at (no n) = ap (λ w. holds w q) (put-update-other k s K f fk z n) ∙ or-no (holds (update-word z (seen s)) q)
-          ∙ ap (λ b. holds (update-word z (seen s)) q || b) (sym (ap (λ b. eqb (suc m) q && b) (one-is k z ∙ eqb-no k z n) ∙ and-no (eqb (suc m) q)))
+          (ap (λ w. holds w q) (put-update k s K f fk ∙ fu ∙ ap (held-by (suc m)) (sym (was-update k s K))) ∙ held-word m q (update-word k (seen s))
+          ∙ ap (λ b. holds (update-word k (seen s)) q || b) (sym (ap (λ b. eqb (suc m) q && b) (one-is k k ∙ eqb-yes k k refl) ∙ and-true (eqb (suc m) q))))
+      at (no n) = ap (λ w. holds w q) (put-update-other k s K f fk z n) ∙ sym (or-false (holds (update-word z (seen s)) q))
+          ∙ ap (λ b. holds (update-word z (seen s)) q || b) (sym (ap (λ b. eqb (suc m) q && b) (one-is k z ∙ eqb-no k z n) ∙ and-false (eqb (suc m) q)))
 
 -- ---- a group's locate lock, and its gap's
 
@@ -137,79 +110,47 @@ abbrev first-key : List Desc → ℕ
 first-key [] = top
 first-key (d ∷ l) = d .key
 
--- Who holds z in locate mode, where the descriptor d between A and B gets session m + 1 as locate holder, and γ as gap holders: the keys from d to below hi.
-module _ (m q z hi : ℕ) (d : Desc) (γ : ℕ → ℕ) where
-  abbrev c : Desc
-  c = hold-desc (held-by (suc m)) same γ d
-
-  abbrev inside : Bool
-  inside = eqb (suc m) q && (leb (d .key) z && ltb z hi)
-
-  outside : (b : Bool) → z < d .key → b ≡ (b || inside)
-  outside b h = or-no b ∙ ap (λ x. b || x) (sym (ap (λ x. eqb (suc m) q && (x && ltb z hi)) (leb-no (d .key) z h) ∙ and-no (eqb (suc m) q)))
-
-  taken-word : d .key < hi → (B : List Desc) → (d .key < z → holds (locators (γ (d .gap)) (words B) z) q ≡ (holds (locators (d .gap) (words B) z) q || (eqb (suc m) q && ltb z hi)))
-      → (g : ℕ) (A : List Desc) → In 0 (d .key) A → holds (locators g (words (A ++ c ∷ B)) z) q ≡ (holds (locators g (words (A ++ d ∷ B)) z) q || inside)
-  taken-word lt B above g [] i = at (ℕ-tri z (d .key))
-    where
-      at : (t : Tri _<_ z (d .key)) → holds (by-tri t g (held-by (suc m) (d .locate)) (locators (γ (d .gap)) (words B) z)) q
-          ≡ (holds (by-tri t g (d .locate) (locators (d .gap) (words B) z)) q || inside)
-      at (less h) = outside (holds g q) h
-      at (equal h) = held-word m q (d .locate) ∙ ap (λ b. holds (d .locate) q || b)
-          (sym (ap₂ (λ x y. eqb (suc m) q && (x && y)) (leb-yes (d .key) z (omega (arith, h))) (leb-yes (suc z) hi (omega (arith, h, lt))) ∙ and-yes (eqb (suc m) q)))
-      at (greater h) = above h ∙ ap (λ b. holds (locators (d .gap) (words B) z) q || (eqb (suc m) q && (b && ltb z hi))) (sym (leb-yes (d .key) z (omega (arith, h))))
-  taken-word lt B above g (a ∷ A) i = at (ℕ-tri z (a .key)) (taken-word lt B above (a .gap) A (i .1))
-    where
-      at : (t : Tri _<_ z (a .key)) → holds (locators (a .gap) (words (A ++ c ∷ B)) z) q ≡ (holds (locators (a .gap) (words (A ++ d ∷ B)) z) q || inside)
-          → holds (by-tri t g (a .locate) (locators (a .gap) (words (A ++ c ∷ B)) z)) q ≡ (holds (by-tri t g (a .locate) (locators (a .gap) (words (A ++ d ∷ B)) z)) q || inside)
-      at (less h) ih = outside (holds g q) (omega (arith, h, i .0 .1))
-      at (equal h) ih = outside (holds (a .locate) q) (omega (arith, h, i .0 .1))
-      at (greater h) ih = ih
-
 -- Above d the gap reaches to below the next descriptor.
 gap-word-held : (m q z g : ℕ) (b : Desc) (B : List Desc) → holds (locators (held-by (suc m) g) (words (b ∷ B)) z) q ≡ (holds (locators g (words (b ∷ B)) z) q || (eqb (suc m) q && ltb z (b .key)))
 gap-word-held m q z g b B = at (ℕ-tri z (b .key))
   where
     beyond : (w : ℕ) → b .key ≤ z → holds w q ≡ (holds w q || (eqb (suc m) q && ltb z (b .key)))
-    beyond w h = or-no (holds w q) ∙ ap (λ x. holds w q || x) (sym (ap (λ x. eqb (suc m) q && x) (leb-no (suc z) (b .key) (omega (arith, h))) ∙ and-no (eqb (suc m) q)))
+    beyond w h = sym (or-false (holds w q)) ∙ ap (λ x. holds w q || x) (sym (ap (λ x. eqb (suc m) q && x) (leb-no (suc z) (b .key) (omega (arith, h))) ∙ and-false (eqb (suc m) q)))
 
     at : (t : Tri _<_ z (b .key)) → holds (by-tri t (held-by (suc m) g) (b .locate) (locators (b .gap) (words B) z)) q
         ≡ (holds (by-tri t g (b .locate) (locators (b .gap) (words B) z)) q || (eqb (suc m) q && ltb z (b .key)))
-    at (less h) = held-word m q g ∙ ap (λ x. holds g q || x) (sym (ap (λ x. eqb (suc m) q && x) (leb-yes (suc z) (b .key) h) ∙ and-yes (eqb (suc m) q)))
+    at (less h) = held-word m q g ∙ ap (λ x. holds g q || x) (sym (ap (λ x. eqb (suc m) q && x) (leb-yes (suc z) (b .key) h) ∙ and-true (eqb (suc m) q)))
     at (equal h) = beyond (b .locate) (omega (arith, h))
     at (greater h) = beyond (locators (b .gap) (words B) z) (omega (arith, h))
 
+-- The descriptor gets session m + 1 as locate holder, and γ of its gap holders: the session comes to hold the keys from k to below hi.
 module _ (m k hi : ℕ) (s : State) (K : Kept k s) (γ : ℕ → ℕ) (lt : k < hi) where
+  abbrev f : Desc → Desc
+  f d = hold-desc (held-by (suc m)) same γ d
+
   abbrev t : State
-  t = on-desc k (hold-desc (held-by (suc m)) same γ) s
-
-  same-update : (z : ℕ) → update-word z (seen t) ≡ update-word z (seen s)
-  same-update z = at (ℕ-discrete k z)
-    where
-      f : Desc → Desc
-      f = hold-desc (held-by (suc m)) same γ
-
-      at : Dec (k ≡ z) → update-word z (seen t) ≡ update-word z (seen s)
-      at (yes e) = subst (λ y. update-word y (seen t) ≡ update-word y (seen s)) e (put-update k s K f refl ∙ sym (was-update k s K f refl))
-      at (no n) = put-update-other k s K f refl z n
+  t = on-desc k f s
 
   locate-grows : ((q z : ℕ) → k < z → holds (locators (γ (K .d .gap)) (words (K .B)) z) q ≡ (holds (locators (K .d .gap) (words (K .B)) z) q || (eqb (suc m) q && ltb z hi)))
       → GrowsBy s t (lock L.group weak (suc m) k hi)
-  unfolding on-tree entryOf locate-word
-  locate-grows above L.entry weak q zero = or-no _
-  locate-grows above L.entry weak q (suc z) = or-no _
-  locate-grows above L.entry strong q zero = or-no _
-  locate-grows above L.entry strong q (suc z) = or-no _
-  locate-grows above L.group strong q z = ap (λ w. holds w q) (same-update z) ∙ or-no _
-  locate-grows above L.group weak q z =
-      ap (λ l. holds (locators 0 l z) q) (seen-words t ∙ ap words (K .put (hold-desc (held-by (suc m)) same γ)))
-      ∙ taken-word m q z hi (K .d) γ (omega (arith, K .key, lt)) (K .B) (λ h. above q z (omega (arith, K .key, h))) 0 (K .A) (subst (λ n. In 0 n (K .A)) (sym (K .key)) (K .low))
-      ∙ ap₂ (λ l n. holds (locators 0 l z) q || (eqb (suc m) q && (leb n z && ltb z hi))) (sym (seen-words s ∙ ap words (K .was))) (K .key)
+  unfolding on-tree
+  locate-grows above L.entry n q z = entry-holders s t refl n q z ∙ sym (or-false _)
+  locate-grows above L.group strong q z = ap (λ w. holds w q) (put-update-kept k s K f refl refl z) ∙ sym (or-false _)
+  locate-grows above L.group weak q z = at (ℕ-tri z k)
+    where
+      at : Tri _<_ z k → holds (locate-word z (seen t)) q ≡ (holds (locate-word z (seen s)) q || (eqb (suc m) q && (leb k z && ltb z hi)))
+      at (less h) = ap (λ w. holds w q) (put-locate-below k s K f refl z h) ∙ sym (or-false (holds (locate-word z (seen s)) q))
+          ∙ ap (λ b. holds (locate-word z (seen s)) q || b) (sym (ap (λ x. eqb (suc m) q && (x && ltb z hi)) (leb-no k z h) ∙ and-false (eqb (suc m) q)))
+      at (equal h) = subst (λ y. holds (locate-word y (seen t)) q ≡ (holds (locate-word y (seen s)) q || (eqb (suc m) q && (leb k y && ltb y hi)))) (sym h)
+          (ap (λ w. holds w q) (put-locate-here k s K f refl ∙ ap (held-by (suc m)) (sym (was-locate k s K))) ∙ held-word m q (locate-word k (seen s))
+          ∙ ap (λ b. holds (locate-word k (seen s)) q || b) (sym (ap₂ (λ x y. eqb (suc m) q && (x && y)) (leb-yes k k (omega arith)) (leb-yes (suc k) hi lt) ∙ and-true (eqb (suc m) q))))
+      at (greater h) = ap (λ w. holds w q) (above-locate (put-shown k s K f refl) z h) ∙ above q z h
+          ∙ ap₂ (λ w b. holds w q || (eqb (suc m) q && (b && ltb z hi))) (sym (above-locate (was-shown k s K) z h)) (sym (leb-yes k z (omega (arith, h))))
 
 -- At second: the key alone.
 located-grows : (m k : ℕ) (s : State) (K : Kept k s) → GrowsBy s (on-desc k (hold-desc (held-by (suc m)) same same) s) (lock-one L.group weak (suc m) k)
 located-grows m k s K = locate-grows m k (suc k) s K same (omega arith) λ q z h.
-    or-no _ ∙ ap (λ x. holds (locators (K .d .gap) (words (K .B)) z) q || x) (sym (ap (λ x. eqb (suc m) q && x) (leb-no (suc z) (suc k) (omega (arith, h))) ∙ and-no (eqb (suc m) q)))
+    sym (or-false _) ∙ ap (λ x. holds (locators (K .d .gap) (words (K .B)) z) q || x) (sym (ap (λ x. eqb (suc m) q && x) (leb-no (suc z) (suc k) (omega (arith, h))) ∙ and-false (eqb (suc m) q)))
 
 -- Below second: every key to below the next stored one, which there is.
 passed-grows : (m k : ℕ) (s : State) (K : Kept k s) (b : Desc) (B : List Desc) → K .B ≡ b ∷ B → k < b .key
@@ -276,7 +217,7 @@ read-grows m i f g s h = guard-grows _ no-locks _ 0 (suc m) (asked 1 (suc i) f g
 write-grows : (m i f g : ℕ) (s : State) → i < length (s .entries) → StepGrows (suc m) (asked 2 (suc i) f g start) s (write-step (suc m) (asked 2 (suc i) f g start) s)
 unfolding step-grants write-step finished written add-undo on-session
 write-grows m i f g s h = guard-grows _ no-locks _ 1 (suc m) r s _
-    (finished-grows (suc m) r (0 ∷ []) s (written (suc m) r s) _ (grows-then s t (written (suc m) r s) _ (entry-grows strong m i (exclude-by (suc m) f) s h word-same)
+    (finished-grows (suc m) r (0 ∷ []) s (written (suc m) r s) _ (grows-then s t (written (suc m) r s) _ (entry-grows strong m i (exclude-by (suc m) f) s h (exclude-words (suc m) f))
     (frame-holders t (written (suc m) r s) refl refl)))
   where
     r : Request
@@ -284,10 +225,6 @@ write-grows m i f g s h = guard-grows _ no-locks _ 1 (suc m) r s _
 
     t : State
     t = on-entry (suc i) (exclude-by (suc m) f) s
-
-    word-same : (n : Mode) (e : Entry) → word n (exclude-by (suc m) f e) ≡ word n (grant strong (suc m) e)
-    word-same weak e = refl
-    word-same strong e = refl
 
 -- The first step of an insert or remove.
 exclude-grows : (m c i f g : ℕ) (s : State) → i < length (s .entries) → (eqb c 3 || eqb c 4) ≡ true
@@ -378,8 +315,8 @@ module _ (n m e f g x : ℕ) (s : State) (d : Desc) (q : or-none (lowest-from x 
       o b = cond b (goes-on (suc m) r (take (suc (d .key))) (passed-state (suc m) d s)) (last-take n (suc m) r l d s)
 
       go : (b : Bool) → ltb (d .key) g ≡ b → GrowsBy s (o b .next) (upon (o b .answer) second-lock (from-key (key-from x (keys s))))
-      go true w = pass-grows (leb→le (suc (d .key)) g (rw w tt))
-      go false w = last-grows (let u = nleb→lt (suc (d .key)) g (rw w tt) in omega (arith, u, upto)) l
+      go true w = pass-grows (leb-is (suc (d .key)) g w)
+      go false w = last-grows (let u = leb-not (suc (d .key)) g w in omega (arith, u, upto)) l
 
 like-grows : (s t : State) → Like s t → GrowsBy s t no-locks
 like-grows s t h = alike-grows s t (λ k m q z. like-unseen s t h .stays q .holds-kept k m z)
@@ -392,7 +329,7 @@ ready-grows n m s S r h (writes i f g w) = write-grows m i f g s w
 ready-grows n m s S r h (to-insert i f g w) = exclude-grows m 3 i f g s w refl
 ready-grows n m s S r h (to-remove i f g w) = exclude-grows m 4 i f g s w refl
 ready-grows n m s S r h (enters c e f g x) = like-grows s _ (enter-step-like (suc m) (asked c e f g (enter x)) x s)
-ready-grows n m s S r h (walks c e f g x w) = like-grows s _ (at-step-like (suc m) (asked c e f g (at x)) x s (sound-ordered S) w (λ z. absurd (omega (arith, z))))
+ready-grows n m s S r h (descends c e f g x w) = like-grows s _ (at-step-like (suc m) (asked c e f g (at x)) x s (sound-ordered S) w (λ z. absurd (omega (arith, z))))
 ready-grows n m s S r h (inserts e f g K w) = insert-grows m e f g s K
 ready-grows n m s S r h (removes e f g K w) = remove-grows m e f g s K
 ready-grows n m s S r h (takes e f g x K q u needs) = take-grows n m e f g x s (or-none (lowest-from x (stored s))) refl K u (take-stored S (suc m) (asked 5 e f g (take x)) x h refl .1)
@@ -402,7 +339,7 @@ pub tidy-grows : (n : ℕ) (s : State) → Sound s → (r : Request) → Tidying
 unfolding next-step first-step step-grants finished
 tidy-grows n s S r (nothing-above e f g) = alike-grows s _ (same-holders s _ (ended-same 0 (asked 6 e f g start) s))
 tidy-grows n s S r (entering e f g x) = like-grows s _ (enter-step-like 0 (asked 6 e f g (enter x)) x s)
-tidy-grows n s S r (walking e f g x w q) = like-grows s _ (at-step-like 0 (asked 6 e f g (at x)) x s (sound-ordered S) w (λ z. q))
+tidy-grows n s S r (descending e f g x w q) = like-grows s _ (at-step-like 0 (asked 6 e f g (at x)) x s (sound-ordered S) w (λ z. q))
 
 pub refused-grants : (p n b : ℕ) (s : State) (h : Option Request) (k : Kind) (m : Mode) (q z : ℕ) → of-hand no-locks (λ r. step-grants p r (keys s) (r .stage) (refused n b)) h k m q z ≡ false
 unfolding step-grants

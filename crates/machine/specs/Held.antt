@@ -1,12 +1,12 @@
 -- Demand 2, long locks: for every entry and every key, with a descriptor or without, the holders read from a sound state are the ledger's. So a locate that
 -- is done keeps every key of its range held until its session ends, and no step of tidy or of a descent changes a holder.
-use mathlib.Core.Path.{_≡_, refl, sym, ap, ap₂, _∙_, subst}
-use mathlib.Core.Bool.{Bool, true, false, not, _&&_, _||_}
+use mathlib.Core.Path.{_≡_, refl, sym, ap₂, _∙_, subst, ap}
+use mathlib.Core.Bool.{Bool, true, false, not, _&&_, _||_, or-false, and-true, and-false}
 use mathlib.Core.List.{List, [], _∷_, _++_}
-use mathlib.Core.Option.{Option, none, some}
-use Prim.Native.Nat.{ℕ, zero, suc, _≤_}
-use native.Mathlib.Omega.{arith}
+use mathlib.Core.Option.{Option, none, some, Option·some-injective}
+use Prim.Native.Nat.{zero, suc, _≤_, ℕ}
 use native.Mathlib.Decide.{ℕ-discrete}
+use native.Mathlib.Omega.{arith}
 use lib.Dec.{eqb}
 use lib.ListN.{length}
 use Rattle.serial.specs.Serial.{true≢false}
@@ -17,25 +17,27 @@ use Rattle.serial.specs.Locks as L
 use Rattle.serial.specs.LockMachine.{Unseen, Ended}
 use Rattle.serial.specs.Calls.{Turn, Told, nothing, tell, told, Run, Knows}
 use Rattle.serial.specs.Calls as C
+use Rattle.machine.specs.Logic.{eqb-yes, eqb-no, not-false}
 use Rattle.machine.specs.Holders.{width}
-use Rattle.machine.specs.State.{Stage, start, enter, at, change, take, Request, State, Answer, ok, more, wait, done, refused, Outcome, sessionOf, fresh}
-use Rattle.machine.specs.View.{items, holders, view, same-refl, same-unseen}
+use Rattle.machine.specs.State.{Stage, start, enter, change, take, Request, State, Outcome, sessionOf, fresh, Answer, at, wait, ok, done, refused, more}
 use Rattle.machine.specs.Steps.{next-step}
-use Rattle.machine.specs.Housekeeping.{like-unseen, at-step-like, enter-step-like}
-use Rattle.machine.specs.Model.{eqb-yes, eqb-no}
-use Rattle.machine.specs.Calls.{Call, format, begin, put, step, commit, abort, call, steps, bad-code, is-some, step-checks, has-begun, records-for, play}
+use Rattle.machine.specs.Calls.{steps, bad-code, is-some, step-checks, has-begun, records-for, play, Call, call, begin, put, commit, abort, format, step}
+use Rattle.machine.specs.View.{items, holders, view, same-refl, same-unseen}
 use Rattle.machine.specs.Sound.{of-hand, Sound}
+use Rattle.machine.specs.Housekeeping.{like-unseen, at-step-like, enter-step-like}
+use Rattle.machine.specs.Checks.{refusing-cases, party-number, session-begun}
 use Rattle.machine.specs.Looks.{sound-ordered}
-use Rattle.machine.specs.Events.{Does, unseen, locks, finishes, unfinished, asked}
-use Rattle.machine.specs.Session.{Ready, reads, writes, to-insert, to-remove, enters, walks, inserts, removes, takes, req-of}
-use Rattle.machine.specs.Moves.{Safe, Moves, quiet, tidied, stepped, began, committed, aborted, formatted, halted, moves, refusing-cases, not-false, below, session-begun}
-use Rattle.machine.specs.Demand.{Lent, as-put, hand-put, call-of, Tells, Performs, machine, fresh-session, fresh-formatted}
-use Rattle.machine.specs.Demand3.{machine-laws}
-use Rattle.machine.specs.Answers.{some-same, req-locate}
-use Rattle.machine.specs.Ledger.{Ledger, no-locks, keys, step-grants, granted, is-ok, ends-at, ended-by, next-ledger, ledger-after}
-use Rattle.machine.specs.Grows.{or-no, and-no, and-yes, GrowsBy, alike-grows, ready-grows, tidy-grows, refused-grants}
-use Rattle.machine.specs.Safety.{safe-of}
+use Rattle.machine.specs.Fresh.{fresh-session}
 use Rattle.machine.specs.Keeping.{keeps}
+use Rattle.machine.specs.Events.{Does, unseen, locks, finishes, unfinished, asked}
+use Rattle.machine.specs.Session.{Ready, reads, writes, to-insert, to-remove, enters, descends, inserts, removes, takes, req-of}
+use Rattle.machine.specs.Moves.{Moves, quiet, tidied, stepped, began, committed, aborted, formatted, halted, moves}
+use Rattle.machine.specs.Safety.{safe-of}
+use Rattle.machine.specs.Ledger.{Ledger, no-locks, keys, step-grants, granted, is-ok, ends-at, ended-by, next-ledger, ledger-after}
+use Rattle.machine.specs.Grows.{GrowsBy, alike-grows, ready-grows, tidy-grows, refused-grants}
+use Rattle.machine.specs.Answers.{req-locate}
+use Rattle.machine.specs.Demand.{Lent, as-put, hand-put, call-of, Tells, Performs, machine, fresh-formatted}
+use Rattle.machine.specs.Demand3.{machine-laws}
 
 -- ---- the other calls
 
@@ -53,7 +55,7 @@ halted-not-ok (refused n b) e = refl
 -- A call that ends nobody's locks where it isn't accepted.
 unseen-ledger : (s : State) (o : Outcome) (f : Bool → ℕ → Bool) → ((q : ℕ) → f false q ≡ false) → is-ok (o .answer) ≡ false → Unseen (view s) (view (o .next))
     → (k : Kind) (m : Mode) (q z : ℕ) → holders (o .next) k m q z ≡ (not (f (is-ok (o .answer)) q) && (holders s k m q z || false))
-unseen-ledger s o f e h x k m q z = x .stays q .holds-kept k m z ∙ or-no (holders s k m q z)
+unseen-ledger s o f e h x k m q z = x .stays q .holds-kept k m z ∙ sym (or-false (holders s k m q z))
     ∙ sym (ap (λ b. not (f b q) && (holders s k m q z || false)) h ∙ ap (λ b. not b && (holders s k m q z || false)) (e q))
 
 -- The end of session p.
@@ -63,14 +65,14 @@ end-ledger p s o u x k m q z = go (ℕ-discrete p q) ∙ sym (ap (λ a. not (is-
   where
     go : Dec (p ≡ q) → holders (o .next) k m q z ≡ (not (eqb p q) && (holders s k m q z || false))
     go (yes e) = subst (λ t. holders (o .next) k m t z ≡ false) e (x .holds-off k m z) ∙ sym (ap (λ b. not b && (holders s k m q z || false)) (eqb-yes p q e))
-    go (no n) = x .others q n .holds-kept k m z ∙ or-no (holders s k m q z) ∙ sym (ap (λ b. not b && (holders s k m q z || false)) (eqb-no p q n))
+    go (no n) = x .others q n .holds-kept k m z ∙ sym (or-false (holders s k m q z)) ∙ sym (ap (λ b. not b && (holders s k m q z || false)) (eqb-no p q n))
 
 begin-ledger : (p : ℕ) (s : State) (o : Outcome) → Moves s o (begin p) → AsLedger s o (begin p)
-begin-ledger p s o (quiet c u x) k m q z = x .stays q .holds-kept k m z ∙ or-no (holders s k m q z)
-begin-ledger p s o (began r u x) k m q z = x .stays q .holds-kept k m z ∙ or-no (holders s k m q z)
+begin-ledger p s o (quiet c u x) k m q z = x .stays q .holds-kept k m z ∙ sym (or-false (holders s k m q z))
+begin-ledger p s o (began r u x) k m q z = x .stays q .holds-kept k m z ∙ sym (or-false (holders s k m q z))
 
 put-ledger : (p c e f g : ℕ) (s : State) (o : Outcome) → Moves s o (put p c e f g) → AsLedger s o (put p c e f g)
-put-ledger p c e f g s o (quiet d u x) k m q z = x .stays q .holds-kept k m z ∙ or-no (holders s k m q z)
+put-ledger p c e f g s o (quiet d u x) k m q z = x .stays q .holds-kept k m z ∙ sym (or-false (holders s k m q z))
 
 commit-ledger : (p : ℕ) (s : State) (o : Outcome) → Moves s o (commit p) → AsLedger s o (commit p)
 commit-ledger p s o (quiet c u x) = unseen-ledger s o (λ b q. b && eqb p q) (λ q. refl) (halted-not-ok (o .answer) u) x
@@ -132,10 +134,10 @@ told-is (done ns) b e = ap told-ok e
 told-is (refused n i) b e = ap told-ok e
 
 ends-ok : (c : Call) (a : Answer) (p : ℕ) → ends-at c a p ≡ (is-ok a && ends-at c ok p)
-ends-ok (format m words) a p = sym (and-yes (is-ok a))
-ends-ok (begin q) a p = sym (and-no (is-ok a))
-ends-ok (put q c e f g) a p = sym (and-no (is-ok a))
-ends-ok (step q n) a p = sym (and-no (is-ok a))
+ends-ok (format m words) a p = sym (and-true (is-ok a))
+ends-ok (begin q) a p = sym (and-false (is-ok a))
+ends-ok (put q c e f g) a p = sym (and-false (is-ok a))
+ends-ok (step q n) a p = sym (and-false (is-ok a))
 ends-ok (commit q) a p = refl
 ends-ok (abort q) a p = refl
 
@@ -170,14 +172,14 @@ told-done (refused n b) ns e = cc
 step-ledger : (p n : ℕ) (s : State) → Sound s → GrowsBy s (call (step p n) s .next) (granted s (step p n) (call (step p n) s))
 unfolding call steps
 step-ledger p n s S = refusing-cases (λ o. GrowsBy s (o .next) (granted s (step p n) o)) (step-checks p s) s (steps p n (sessionOf p s .hand) s)
-    (λ i k m q z. or-no _ ∙ ap (λ b. holders s k m q z || b) (sym (refused-grants p i 0 s (sessionOf p s .hand) k m q z)))
-    λ c. go p (below p (c .0)) (not-false (has-begun p s) (c .1 .0)) (sessionOf p s .hand) refl
+    (λ i k m q z. sym (or-false _) ∙ ap (λ b. holders s k m q z || b) (sym (refused-grants p i 0 s (sessionOf p s .hand) k m q z)))
+    λ c. go p (party-number p (c .0)) (not-false (has-begun p s) (c .1 .0)) (sessionOf p s .hand) refl
   where
     go : (q : ℕ) → q ≤ width → has-begun q s ≡ true → (h : Option Request) → sessionOf q s .hand ≡ h
         → GrowsBy s (steps q n h s .next) (of-hand no-locks (λ r. step-grants q r (keys s) (r .stage) (steps q n h s .answer)) h)
     go q le b none e = alike-grows s s (λ k m t z. refl)
     go zero le b (some r) e = tidy-grows n s S r (safe-of s S .tidying r e)
-    go (suc m) le b (some r) e = ready-grows n m s S r e (safe-of s S .ready m r (session-begun m s b) le e)
+    go (suc m) le b (some r) e = ready-grows n m s S r e (safe-of s S .ready m r (session-begun (suc m) s (λ z. omega (arith, z)) b) le e)
 
 -- Every call, from every sound state, at every entry and key z, whatever number that is.
 pub ledger-step : (c : Call) (s : State) → Sound s → (k : Kind) (m : Mode) (q z : ℕ) → holders (call c s .next) k m q z ≡ next-ledger (holders s) s c (call c s) k m q z
@@ -211,7 +213,7 @@ descent-unseen zero n s S h = go (moves (step 0 n) s (safe-of s S))
     go (quiet c u x) = x
     go (tidied k x) = x
 descent-unseen (suc m) n s S h = refusing-cases (λ o. Unseen (view s) (view (o .next))) (step-checks (suc m) s) s (steps (suc m) n (sessionOf (suc m) s .hand) s)
-    (λ i. same-unseen s s (same-refl s)) λ c. go (below (suc m) (c .0)) (session-begun m s (not-false (has-begun (suc m) s) (c .1 .0))) (sessionOf (suc m) s .hand) refl h
+    (λ i. same-unseen s s (same-refl s)) λ c. go (party-number (suc m) (c .0)) (session-begun (suc m) s (λ z. omega (arith, z)) (not-false (has-begun (suc m) s) (c .1 .0))) (sessionOf (suc m) s .hand) refl h
   where
     at-stage : (r : Request) → Ready (suc m) s r → on-descent (r .stage) ≡ true → Unseen (view s) (view (next-step n (suc m) r s (r .stage) .next))
     at-stage r (reads i f g w) e = absurd (true≢false e refl)
@@ -219,7 +221,7 @@ descent-unseen (suc m) n s S h = refusing-cases (λ o. Unseen (view s) (view (o 
     at-stage r (to-insert i f g w) e = absurd (true≢false e refl)
     at-stage r (to-remove i f g w) e = absurd (true≢false e refl)
     at-stage r (enters c a f g x) e = like-unseen s _ (enter-step-like (suc m) (asked c a f g (enter x)) x s)
-    at-stage r (walks c a f g x w) e = like-unseen s _ (at-step-like (suc m) (asked c a f g (at x)) x s (sound-ordered S) w (λ z. absurd (omega (arith, z))))
+    at-stage r (descends c a f g x w) e = like-unseen s _ (at-step-like (suc m) (asked c a f g (at x)) x s (sound-ordered S) w (λ z. absurd (omega (arith, z))))
     at-stage r (inserts a f g K w) e = absurd (true≢false e refl)
     at-stage r (removes a f g K w) e = absurd (true≢false e refl)
     at-stage r (takes a f g x K q u needs) e = absurd (true≢false e refl)
@@ -257,7 +259,7 @@ locate-holds m n s S r h c ns e = go (moves (step (suc m) n) s (safe-of s S))
 
     go : Moves s o (step (suc m) n) → (z : ℕ) → r .first ≤ z → z ≤ r .second → holders (o .next) L.group weak (suc m) z ≡ true
     go (quiet d u x) = absurd (open-not u)
-    go (stepped k l q g d) = does (subst (λ y. Does (suc m) y s o) (ap req-of (some-same (sym g ∙ h)) ∙ req-locate r c) d)
+    go (stepped k l q g d) = does (subst (λ y. Does (suc m) y s o) (ap req-of (Option·some-injective q r (sym g ∙ h)) ∙ req-locate r c) d)
 
 run-lasts : (kind : Kind) (m : Mode) (p q : ℕ) {x y : Lent} {ks : List Turn} → Run machine x ks y → Sound (x .state) → Lasts p ks
     → holders (x .state) kind m p q ≡ true → holders (y .state) kind m p q ≡ true
@@ -292,7 +294,7 @@ module _ (before : List Turn) (k : Turn) (first second : ℕ) (x y : Lent) (w : 
     where
       go : (h : Option Request) → sessionOf p (x .state) .hand ≡ h → hand-put h ≡ some (record { code = 5; entry = D .entry; first = first; second = second }) → Held p
       go none e q = absurd (true≢false {b = true} refl (ap is-some (sym q)))
-      go (some r) e q = hand-holds p D r e (some-same q)
+      go (some r) e q = hand-holds p D r e (Option·some-injective (as-put r) (record { code = 5; entry = D .entry; first = first; second = second }) q)
 
 -- Any list of turns from a fresh store: once a locate of session p is done, it holds every key of its range, stored or not, until its end.
 pub located-held : (entries records words : ℕ) → Sound (fresh entries records) → (before : List Turn) (k : Turn) (after : List Turn) (y : Lent)

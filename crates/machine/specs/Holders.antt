@@ -1,7 +1,7 @@
 -- Holders words and the lock rule (document 01, "Long locks"). In a holders word, session s is bit s - 1.
-use mathlib.Core.Bool.{Bool, true, false, cond, not, _&&_, _||_}
+use mathlib.Core.Bool.{Bool, false, cond, not, _&&_, _||_}
 use mathlib.Core.List.{List, [], _∷_}
-use Prim.Native.Nat.{ℕ, suc, _-_}
+use Prim.Native.Nat.{suc, _-_, ℕ}
 use lib.Dec.{eqb}
 use Rattle.serial.specs.Locks.{Kind, Mode, weak, strong, Table}
 -- Bits of holders words, and how many sessions there are: the lock crate's.
@@ -16,7 +16,7 @@ in-the-way rule k m s hw hs t = not (eqb t s) && ((holds hw t && not (rule k wea
 unfoldable pub blockers : Table → Kind → Mode → ℕ → ℕ → ℕ → List ℕ
 blockers rule k m s hw hs = filter (in-the-way rule k m s hw hs) (count-from 1 width)
 
--- A short-lock word is 0, or the number of the party that has the lock and 1.
+-- A latch word (document 01: short-lock word) is 0, or the number of the party that has the latch and 1.
 abbrev pub latch-word : ℕ → ℕ
 latch-word p = suc p
 
@@ -27,7 +27,7 @@ elem x (y ∷ l) = eqb x y || elem x l
 abbrev pub add-latch : ℕ → ℕ → List ℕ → List ℕ
 add-latch p w l = cond (eqb w 0 || eqb w (latch-word p) || elem (w - 1) l) l ((w - 1) ∷ l)
 
--- The other parties that have one of these short-lock words.
+-- The other parties that have one of these latch words.
 unfoldable pub latch-blockers : ℕ → List ℕ → List ℕ
 latch-blockers p [] = []
 latch-blockers p (w ∷ ws) = add-latch p w (latch-blockers p ws)

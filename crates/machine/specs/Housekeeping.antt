@@ -1,30 +1,31 @@
--- Demand 2, last sentence, and more: no step of a walk, the housekeeper's or a session's, changes an entry, a membership, or a holder of any key.
-use mathlib.Core.Path.{_≡_, refl, ap, ap₂, sym, _∙_, subst}
-use mathlib.Core.Bool.{Bool, true, false, cond, not, _&&_}
+-- Demand 2, last sentence, and more: no step of a descent, the housekeeper's or a session's, changes an entry, a membership, or a holder of any key.
+use mathlib.Core.Path.{_≡_, refl, sym, _∙_, subst, ap}
+use mathlib.Core.Bool.{Bool, true, false, cond, not, _&&_, false≢true}
 use mathlib.Core.List.{List, [], _∷_, _++_, map}
-use mathlib.Core.Option.{Option, none, some}
-use Prim.Native.Nat.{ℕ, zero, suc, _+_, _-_, _≤_, _<_}
+use Prim.Native.Nat.{zero, suc, _+_, _-_, _≤_, ℕ}
 use native.Mathlib.Omega.{arith}
-use lib.Dec.{leb, eqb, eqb→eq, eqb-refl}
+use lib.Dec.{eqb}
 use Rattle.serial.specs.Model.{Item}
 use Rattle.serial.specs.Model as R
 use Rattle.serial.specs.Locks.{Kind, Mode, weak, strong}
 use Rattle.serial.specs.Locks as L
 use Rattle.serial.specs.LockMachine.{Unseen}
-use Rattle.machine.specs.Gaps.{locators, updaters, made-locators, made-updaters, dropped-locators, dropped-updaters}
-use Rattle.machine.specs.Tree.{pick, leaves, leafAt}
+use Rattle.machine.specs.Logic.{both, eqb-is, eqb-not}
 use Rattle.machine.specs.Holders.{holds, elem, latch-word}
-use Rattle.machine.specs.State.{Desc, Tree, Root, Stage, at, Request, Session, State, Answer, Outcome, top, no-desc, same, or-none, sessionOf, stored, gap-below, descOf, with-free, on-tree}
-use Rattle.machine.specs.Descent.{on-latch, put-in, taken-out}
-use Rattle.machine.specs.Keeps.{either, under}
-use Rattle.machine.specs.Steps.{answer, unlatch, ended, goes-on, finished, guarded, arrived, made, on-lowest, pin-step, make-step, is-empty, removable, tidy-step, lowest-step, stand-step, at-step, enter-step, level-step}
-use Rattle.machine.specs.View.{plain, plains, seen, seen-under, group-in, locate-word, update-word, log-entry, items, holders, view, Same, same-refl, same-trans, entry-same, free-same, unlatch-same, ended-same}
+use Rattle.machine.specs.Tree.{pick}
+use Rattle.machine.specs.State.{Desc, Tree, Request, State, top, no-desc, same, or-none, sessionOf, stored, gap-below, descOf, with-free, on-tree, more, Stage, start, enter, change, take, at}
+use Rattle.machine.specs.Descent.{on-latch, put-in, taken-out, unlatched}
+use Rattle.machine.specs.Steps.{answer, unlatch, goes-on, finished, arrived, on-lowest, pin-step, make-step, is-empty, removable, tidy-step, lowest-step, stand-step, at-step, enter-step, son-at, made}
+use Rattle.machine.specs.Gaps.{locators, updaters, made-locators, made-updaters, dropped-locators, dropped-updaters, dropped, Tidy}
+use Rattle.machine.specs.Gaps as G
+use Rattle.machine.specs.View.{plain, seen, seen-under, group-in, locate-word, update-word, log-entry, items, holders, view, Same, same-refl, same-trans, entry-same, free-same, unlatch-same, ended-same, entry-holders}
+use Rattle.machine.specs.Keeps.{under, leaves-kept, under-on-latch, under-unlatched}
 use Rattle.machine.specs.Descents.{guard-cases, goes-same, finished-same, enter-same, level-same, pin-step-same}
-use Rattle.machine.specs.Order.{Ord, In, lv, Found, found-cases}
-use Rattle.machine.specs.Groups.{words, made-words, group-empty, dropped-words, tidy-words, Rises, rising-words, words-plain, group-plain, under-plain, ord-rises}
+use Rattle.machine.specs.Order.{Ord, Found, found-cases, lv}
+use Rattle.machine.specs.Groups.{words, made-words, group-empty, dropped-words, tidy-words, rising-words, words-plain, under-plain, ord-rises, group-map}
 use Rattle.machine.specs.Lowest.{Placed, made-at, taken-at, same-leaf}
 
--- Entries, memberships, holders of every key, unfinished sessions and take-backs are the same.
+-- Entries, memberships, holders of every key, unfinished sessions and undo records are the same.
 pub record Like (s t : State) : Type 0 where
   pub entries-same : t .entries ≡ s .entries
   pub locate-same : (k : ℕ) → locate-word k (seen t) ≡ locate-word k (seen s)
@@ -54,8 +55,7 @@ like-trans a b = record {
 }
 
 like-holders : (s t : State) → Like s t → (k : Kind) (m : Mode) (p z : ℕ) → holders t k m p z ≡ holders s k m p z
-like-holders s t h L.entry weak p e = ap (λ x. holds (x .share) p) (entry-same s t (h .entries-same) e)
-like-holders s t h L.entry strong p e = ap (λ x. holds (x .exclusive) p) (entry-same s t (h .entries-same) e)
+like-holders s t h L.entry m p e = entry-holders s t (h .entries-same) m p e
 like-holders s t h L.group weak p k = ap (λ w. holds w p) (h .locate-same k)
 like-holders s t h L.group strong p k = ap (λ w. holds w p) (h .update-same k)
 
@@ -73,10 +73,10 @@ like-unseen s t h = record {
 
 -- ---- lists of descriptors
 
-pub made-list : (x upto : ℕ) (l m : List Desc) → Placed 0 x upto (made x (gap-below x 0 l)) l m → words m ≡ Rattle.machine.specs.Gaps.made 0 x (words l)
+pub made-list : (x upto : ℕ) (l m : List Desc) → Placed 0 x upto (made x (gap-below x 0 l)) l m → words m ≡ G.made 0 x (words l)
 made-list x upto l m P =
     ap words (P .is-with) ∙ ap (λ c. words (P .C ++ made x (gap-below x 0 c) ∷ P .D)) (P .is-without)
-    ∙ sym (made-words 0 x 0 upto (P .C) (P .D) (P .low) (P .high)) ∙ ap (λ c. Rattle.machine.specs.Gaps.made 0 x (words c)) (sym (P .is-without))
+    ∙ sym (made-words 0 x 0 upto (P .C) (P .D) (P .low) (P .high)) ∙ ap (λ c. G.made 0 x (words c)) (sym (P .is-without))
 
 pub listed-group : (x upto : ℕ) (n : Desc) (l m : List Desc) → n .key ≡ x → n .members ≡ [] → Placed 0 x upto n l m → (j : ℕ) → group-in j m ≡ group-in j l
 listed-group x upto n l m k e P j =
@@ -84,6 +84,22 @@ listed-group x upto n l m k e P j =
 
 abbrev pub lvs : State → List Desc
 lvs s = lv (suc (s .root .height)) (s .root .node)
+
+-- A change of nodes alone.
+pub tree-leaves : (f : (h : ℕ) → Tree h → Tree h) (s : State) → ((h : ℕ) (t : Tree h) → under (λ d. d ∷ []) h (f h t) ≡ under (λ d. d ∷ []) h t) → lvs (on-tree f s) ≡ lvs s
+unfolding on-tree
+tree-leaves f s e =
+    let h = suc (s .root .height) in
+    let t = s .root .node in
+    leaves-kept h t h (f h t) (e h t)
+
+pub unlatch-leaves : (p : ℕ) (g : Stage) (s : State) → lvs (unlatch p g s) ≡ lvs s
+unfolding unlatch
+unlatch-leaves p start s = refl
+unlatch-leaves p (enter x) s = refl
+unlatch-leaves p (at x) s = tree-leaves (on-latch (latch-word p) x unlatched) s (under-on-latch (λ d. d ∷ []) (latch-word p) x unlatched (under-unlatched (λ d. d ∷ [])))
+unlatch-leaves p change s = refl
+unlatch-leaves p (take x) s = refl
 
 pub seen-plain : (s : State) → seen s ≡ map plain (lvs s)
 unfolding seen-under
@@ -93,7 +109,7 @@ pub seen-words : (s : State) → words (seen s) ≡ words (lvs s)
 seen-words s = ap words (seen-plain s) ∙ words-plain (lvs s)
 
 pub seen-group : (k : ℕ) (s : State) → group-in k (seen s) ≡ group-in k (lvs s)
-seen-group k s = ap (group-in k) (seen-plain s) ∙ group-plain k (lvs s)
+seen-group k s = ap (group-in k) (seen-plain s) ∙ group-map plain (λ d. refl) (λ d. refl) k (lvs s)
 
 -- The state's root has its keys in order.
 unfoldable pub Ordered : State → Type 0
@@ -111,7 +127,7 @@ make-like p x s u F ne =
     let g = gap-below x 0 (lvs s) in
     let t : State = on-tree (on-latch (latch-word p) x (on-lowest (put-in (made x g)))) s in
     let P = made-at (latch-word p) x (suc (s .root .height)) (s .root .node) u 0 (suc top) F g ne in
-    let e : words (seen t) ≡ Rattle.machine.specs.Gaps.made 0 x (words (lvs s)) = seen-words t ∙ made-list x (suc top) (lvs s) (lvs t) P in
+    let e : words (seen t) ≡ G.made 0 x (words (lvs s)) = seen-words t ∙ made-list x (suc top) (lvs s) (lvs t) P in
     record {
       entries-same = refl;
       locate-same = λ k. ap (λ l. locators 0 l k) e ∙ made-locators 0 x (words (lvs s)) k ∙ sym (ap (λ l. locators 0 l k) (seen-words s));
@@ -123,16 +139,9 @@ make-like p x s u F ne =
 
 -- ---- removing
 
-and-parts : (a b : Bool) → (a && b) ≡ true → (a ≡ true) × (b ≡ true)
-and-parts true b e = (refl, e)
-and-parts false b e = absurd (mathlib.Core.Bool.false≢true e)
-
-so-eq : (m n : ℕ) → eqb m n ≡ true → m ≡ n
-so-eq m n e = eqb→eq m n (rw e tt)
-
 so-empty : {A : Type 0} (l : List A) → is-empty l ≡ true → l ≡ []
 so-empty [] e = refl
-so-empty (x ∷ l) e = absurd (mathlib.Core.Bool.false≢true e)
+so-empty (x ∷ l) e = absurd (false≢true e)
 
 -- What tidy's rule says.
 pub record Goes (g : ℕ) (d : Desc) : Type 0 where
@@ -151,23 +160,28 @@ removable-goes g d e =
     let c = is-empty (d .members) in
     let u = eqb (d .update) 0 in
     let l = eqb (d .locate) g in
-    let p₅ = and-parts (a && b && c && u && l) (eqb (d .gap) g) e in
-    let p₄ = and-parts (a && b && c && u) l (p₅ .0) in
-    let p₃ = and-parts (a && b && c) u (p₄ .0) in
-    let p₂ = and-parts (a && b) c (p₃ .0) in
-    let p₁ = and-parts a b (p₂ .0) in
+    let p₅ = both (a && b && c && u && l) (eqb (d .gap) g) e in
+    let p₄ = both (a && b && c && u) l (p₅ .0) in
+    let p₃ = both (a && b && c) u (p₄ .0) in
+    let p₂ = both (a && b) c (p₃ .0) in
+    let p₁ = both a b (p₂ .0) in
     record {
       not-zero = p₁ .0;
-      not-pinned = so-eq (d .pins) 0 (p₁ .1);
+      not-pinned = eqb-is (d .pins) 0 (p₁ .1);
       no-members = so-empty (d .members) (p₂ .1);
-      no-update = so-eq (d .update) 0 (p₃ .1);
-      same-locate = so-eq (d .locate) g (p₄ .1);
-      same-gap = so-eq (d .gap) g (p₅ .1);
+      no-update = eqb-is (d .update) 0 (p₃ .1);
+      same-locate = eqb-is (d .locate) g (p₄ .1);
+      same-gap = eqb-is (d .gap) g (p₅ .1);
     }
 
-pub taken-list : (x upto : ℕ) (d : Desc) (l m : List Desc) → d .key ≡ x → Placed 0 x upto d m l → words m ≡ Rattle.machine.specs.Gaps.dropped x (words l)
+pub taken-list : (x upto : ℕ) (d : Desc) (l m : List Desc) → d .key ≡ x → Placed 0 x upto d m l → words m ≡ dropped x (words l)
 taken-list x upto d l m k P =
-    ap words (P .is-without) ∙ sym (dropped-words x 0 upto d k (P .C) (P .D) (P .low)) ∙ ap (λ c. Rattle.machine.specs.Gaps.dropped x (words c)) (sym (P .is-with))
+    ap words (P .is-without) ∙ sym (dropped-words x 0 upto d k (P .C) (P .D) (P .low)) ∙ ap (λ c. dropped x (words c)) (sym (P .is-with))
+
+pub goes-tidy : (x : ℕ) (d : Desc) (l m : List Desc) → d .key ≡ x → Placed 0 x (suc top) d m l → Goes (gap-below x 0 l) d → Tidy 0 x (words l)
+goes-tidy x d l m k P G = subst (λ c. Tidy 0 x (words c)) (sym (P .is-with))
+    (tidy-words 0 x 0 (suc top) d k (P .C) (P .D) (P .low) (G .no-update)
+    (G .same-locate ∙ ap (gap-below x 0) (P .is-with)) (G .same-gap ∙ ap (gap-below x 0) (P .is-with)))
 
 pub tidy-like : (p x : ℕ) (s : State) (u : Tree 1) → Ordered s → StoodAt p x s 0 u → pick x no-desc same (u .sons) .key ≡ x
     → Goes (gap-below x 0 (stored s)) (pick x no-desc same (u .sons)) → Like s (on-tree (on-latch (latch-word p) x (on-lowest (taken-out x))) s)
@@ -176,11 +190,9 @@ tidy-like p x s u o F k G =
     let d = pick x no-desc same (u .sons) in
     let t : State = on-tree (on-latch (latch-word p) x (on-lowest (taken-out x))) s in
     let P = taken-at (latch-word p) x (suc (s .root .height)) (s .root .node) u 0 (suc top) F k in
-    let e : words (seen t) ≡ Rattle.machine.specs.Gaps.dropped x (words (lvs s)) = seen-words t ∙ taken-list x (suc top) d (lvs s) (lvs t) k P in
+    let e : words (seen t) ≡ dropped x (words (lvs s)) = seen-words t ∙ taken-list x (suc top) d (lvs s) (lvs t) k P in
     let r = rising-words 0 (suc top) (lvs s) (ord-rises (suc (s .root .height)) 0 top (s .root .node) o) in
-    let w : Rattle.machine.specs.Gaps.Tidy 0 x (words (lvs s)) = subst (λ c. Rattle.machine.specs.Gaps.Tidy 0 x (words c)) (sym (P .is-with))
-    (tidy-words 0 x 0 (suc top) d k (P .C) (P .D) (P .low) (G .no-update)
-    (G .same-locate ∙ ap (gap-below x 0) (P .is-with)) (G .same-gap ∙ ap (gap-below x 0) (P .is-with))) in
+    let w = goes-tidy x d (lvs s) (lvs t) k P G in
     record {
       entries-same = refl;
       locate-same = λ j. ap (λ l. locators 0 l j) e ∙ dropped-locators 0 x (words (lvs s)) r w j ∙ sym (ap (λ l. locators 0 l j) (seen-words s));
@@ -216,7 +228,7 @@ tidy-step-like p r x s u o F k = go (removable (gap-below x 0 (stored s)) (pick 
         (same-like (finished-same p r (x ∷ 1 ∷ []) t (with-free (s .free + 1) t) (free-same (s .free + 1) t)))
     go false e = same-like (finished-same p r (x ∷ 0 ∷ []) s s (same-refl s))
 
--- A walk's step at a node. The housekeeper walks to a key that is stored.
+-- A descent's step at a node. The housekeeper descends to a key that is stored.
 pub stand-like : (p : ℕ) (r : Request) (x : ℕ) (s : State) (k : ℕ) (u : Tree (suc k)) → Ordered s → StoodAt p x s k u
     → (p ≡ 0 → descOf x s .key ≡ x) → Like s (stand-step p r x s k u .next)
 unfolding stand-step lowest-step descOf
@@ -225,23 +237,16 @@ stand-like p r x s zero u o F st = go (eqb p 0) refl (eqb (pick x no-desc same (
     go : (c : Bool) → eqb p 0 ≡ c → (b : Bool) → eqb (pick x no-desc same (u .sons) .key) x ≡ b
         → Like s (cond c (tidy-step p r x (pick x no-desc same (u .sons)) s) (cond b (pin-step p r x s) (make-step p r x s)) .next)
     go true e b q = tidy-step-like p r x s u o F
-        (sym (ap (λ l. or-none l .key) (same-leaf (latch-word p) x (suc (s .root .height)) (s .root .node) u 0 (suc top) F)) ∙ st (so-eq p 0 e))
+        (sym (ap (λ l. or-none l .key) (same-leaf (latch-word p) x (suc (s .root .height)) (s .root .node) u 0 (suc top) F)) ∙ st (eqb-is p 0 e))
     go false e true q = same-like (pin-step-same p r x s)
-    go false e false q = make-step-like p r x s u F (λ z. mathlib.Core.Bool.true≢false (sym (ap (λ n. eqb n x) z ∙ so-refl x) ∙ q))
-      where
-        so-refl : (n : ℕ) → eqb n n ≡ true
-        so-refl n = at-true (eqb n n) (eqb-refl n)
-          where
-            at-true : (b : Bool) → lib.Dec.T b → b ≡ true
-            at-true true t = refl
-            at-true false t = absurd t
-stand-like p r x s (suc h) u o F st = same-like (level-same p r x s h (u .sons) (Rattle.machine.specs.Steps.son-at x h (u .sons)))
+    go false e false q = make-step-like p r x s u F (eqb-not (pick x no-desc same (u .sons) .key) x q)
+stand-like p r x s (suc h) u o F st = same-like (level-same p r x s h (u .sons) (son-at x h (u .sons)))
 
--- Every step of a walk to a key, the housekeeper's too: entries, memberships and holders of every key stay.
+-- Every step of a descent to a key, the housekeeper's too: entries, memberships and holders of every key stay.
 pub at-step-like : (p : ℕ) (r : Request) (x : ℕ) (s : State) → Ordered s → x ≤ top → (p ≡ 0 → descOf x s .key ≡ x) → Like s (at-step p r x s .next)
 unfolding at-step Ordered
 at-step-like p r x s o le st =
-    found-cases (λ z. Like s (z .next)) (latch-word p) x (answer Rattle.machine.specs.State.more s) (stand-step p r x s) (suc (s .root .height)) (s .root .node) 0 top o (omega arith) le
+    found-cases (λ z. Like s (z .next)) (latch-word p) x (answer more s) (stand-step p r x s) (suc (s .root .height)) (s .root .node) 0 top o (omega arith) le
     (same-like (same-refl s)) (λ k u F. stand-like p r x s k u o F st)
 
 pub enter-step-like : (p : ℕ) (r : Request) (x : ℕ) (s : State) → Like s (enter-step p r x s .next)

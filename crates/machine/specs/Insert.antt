@@ -1,31 +1,28 @@
 -- Insert and remove, as the change step does them.
-use mathlib.Core.Path.{_≡_, refl, sym, ap, ap₂, _∙_, subst}
-use mathlib.Core.Bool.{Bool, true, false, cond, not, _&&_, _||_}
+use mathlib.Core.Path.{_≡_, refl, sym, _∙_, subst, ap}
+use mathlib.Core.Bool.{Bool, true, false, cond}
 use mathlib.Core.List.{List, [], _∷_, _++_, map}
-use mathlib.Core.Logic.{_⊎_, inl, inr}
-use Prim.Native.Nat.{ℕ, zero, suc, _+_, _-_, _≤_, _<_}
+use Prim.Native.Nat.{suc, _-_, _≤_, ℕ}
 use native.Mathlib.Decide.{ℕ-discrete}
 use native.Mathlib.Omega.{arith}
-use lib.Dec.{leb, eqb, eqb→eq}
-use lib.ListN.{length}
-use Rattle.serial.specs.Serial.{pick, pick-yes, pick-no, true≢false}
+use Rattle.serial.specs.Serial.{pick-yes, pick-no, pick}
 use Rattle.serial.specs.Rising.{has}
-use Rattle.serial.specs.Model.{Item, Item-discrete, Req, Ans, Db, get, eff, ans, just, by-key}
-use Rattle.serial.specs.Footprints.{frame, cell-inserted, cell-removed, Good}
+use Rattle.serial.specs.Model.{Item, Item-discrete, Req, get, eff, ans, just, by-key}
 use Rattle.serial.specs.Model as R
-use Rattle.serial.specs.Locks.{Kind, Mode, weak, strong, Needs, undo-of}
+use Rattle.serial.specs.Footprints.{frame, cell-inserted, cell-removed, Good}
+use Rattle.serial.specs.Locks.{Kind, Mode, strong, Needs, undo-of}
 use Rattle.serial.specs.Locks as L
-use Rattle.machine.specs.Holders.{width, holds, held-by, blockers, elem}
+use Rattle.machine.specs.Holders.{width, holds, held-by, elem}
+use Rattle.machine.specs.State.{Desc, Stage, Request, Undo, added, taken, State, done, entryOf, sessionOf, descOf, with-free, on-tree, on-desc, hold-desc, group-desc, same, with-member, without-member, on-session, add-undo}
+use Rattle.machine.specs.Steps.{group-blockers, ended, finished, guarded, insert-step, remove-step}
+use Rattle.machine.specs.View.{seen, group-in, log-entry, items, holders, Same, same-items, same-holders, ended-same, frame-holders, entry-same, entry-holders, frame-items}
+use Rattle.machine.specs.Model.{model, model-good, model-is, Listed, items-set, Up}
 use Rattle.machine.specs.Bits.{held-same}
-use Rattle.machine.specs.State.{Desc, Stage, Request, Undo, added, taken, Session, State, done, Outcome, entryOf, sessionOf, descOf, with-free, on-tree, on-desc, hold-desc, group-desc, same, with-member, without-member, on-session, add-undo}
-use Rattle.machine.specs.Steps.{rule, group-blockers, ended, finished, guarded, insert-step, remove-step}
-use Rattle.machine.specs.View.{seen, group-in, locate-word, update-word, log-entry, items, holders, view, Same, same-items, same-holders, ended-same}
-use Rattle.machine.specs.Housekeeping.{lvs}
-use Rattle.machine.specs.Model.{model, model-good, model-is, eqb-yes, eqb-no, Up, Listed}
-use Rattle.machine.specs.Keys.{elem-with, elem-without-other, elem-without-same, Kept}
+use Rattle.machine.specs.Table.{undo-put, undo-other, session-kept, with-undo}
+use Rattle.machine.specs.Keys.{elem-without-other, elem-without-same, Kept, put-update, put-group, put-group-other, was-group, listed-at, put-words, elem-with-same, elem-with-other}
 use Rattle.machine.specs.Entries.{Fit}
-use Rattle.machine.specs.Events.{Does, finishes, guard-does, asked, undos-put, undos-others, undos-begun}
-use Rattle.machine.specs.Changes.{put-locate, put-update, put-update-other, put-group, put-group-other, was-group, hold-update, held-state, up-group, up-items, update-locked, held-rises, held-listed, listed-at, Follows, follows-finished}
+use Rattle.machine.specs.Events.{Does, finishes, guard-does, asked}
+use Rattle.machine.specs.Changes.{hold-update, held-state, up-group, update-locked, held-rises, held-listed, Follows, follows-finished}
 
 -- The group changed with the lock.
 module _ (p k : ℕ) (s : State) (K : Kept k s) (F : Fit s) (M : List ℕ → List ℕ) where
@@ -38,24 +35,9 @@ module _ (p k : ℕ) (s : State) (K : Kept k s) (F : Fit s) (M : List ℕ → Li
   abbrev held : State
   held = held-state p k s K
 
-  changed-update : (z : ℕ) → update-word z (seen changed) ≡ update-word z (seen held)
-  changed-update z = at (ℕ-discrete k z)
-    where
-      at : Dec (k ≡ z) → update-word z (seen changed) ≡ update-word z (seen held)
-      at (yes e) = subst (λ i. update-word i (seen changed) ≡ update-word i (seen held)) e (put-update k s K g refl ∙ sym (put-update k s K (hold-update p) refl))
-      at (no n) = put-update-other k s K g refl z n ∙ sym (put-update-other k s K (hold-update p) refl z n)
-
-  changed-locate : (z : ℕ) → locate-word z (seen changed) ≡ locate-word z (seen held)
-  changed-locate z = put-locate k s K g refl refl refl z ∙ sym (put-locate k s K (hold-update p) refl refl refl z)
-
   pub changed-holders : (l : Kind) (n : Mode) (q z : ℕ) → holders changed l n q z ≡ holders held l n q z
-  unfolding on-tree entryOf
-  changed-holders L.entry weak q zero = refl
-  changed-holders L.entry weak q (suc z) = refl
-  changed-holders L.entry strong q zero = refl
-  changed-holders L.entry strong q (suc z) = refl
-  changed-holders L.group weak q z = ap (λ w. holds w q) (changed-locate z)
-  changed-holders L.group strong q z = ap (λ w. holds w q) (changed-update z)
+  unfolding on-tree
+  changed-holders = frame-holders held changed refl (put-words k s K g (hold-update p) refl)
 
   pub changed-here : group-in k (seen changed) ≡ M (group-in k (seen held))
   changed-here = put-group k s K g refl ∙ ap M (sym (put-group k s K (hold-update p) refl))
@@ -64,109 +46,42 @@ module _ (p k : ℕ) (s : State) (K : Kept k s) (F : Fit s) (M : List ℕ → Li
   changed-there j n = put-group-other k s K g refl j n ∙ sym (put-group-other k s K (hold-update p) refl j n)
 
   pub changed-value : (z : ℕ) → entryOf z changed .value ≡ entryOf z held .value
-  unfolding on-tree entryOf
-  changed-value zero = refl
-  changed-value (suc z) = refl
+  unfolding on-tree
+  changed-value z = ap (λ x. x .value) (entry-same held changed refl z)
 
   pub held-up : Up 1 (group-in k (seen held))
-  held-up = subst (Up 1) (sym (up-group p k s K k ∙ was-group k s K (hold-update p) refl)) (listed-at (K .d) (K .A) (K .B) (subst Listed (K .was) (F .listed)))
+  held-up = subst (Up 1) (sym (up-group p k s K k ∙ was-group k s K)) (listed-at (K .d) (K .A) (K .B) (subst Listed (K .was) (F .listed)))
 
-cell-same : {j x k e : ℕ} → (k ≡ j) → (e ≡ x) → R.cell j x ≡ R.cell k e
-cell-same {j} {x} {k} {e} p q = ap₂ (λ a b. R.cell a b) (sym p) (sym q)
+-- ---- what the model does, where request q sets the membership of e under k to b
 
--- ---- insert: what the model does
+module _ (k e : ℕ) (t : State) (q : Req) (b : Bool) (here : get (eff q (model t)) (R.cell k e) ≡ cond b 1 0) (there : (x : Item) → ¬ (x ≡ R.cell k e) → get (eff q (model t)) x ≡ items t x) where
+  at-cell : (x : Item) → R.cell k e ≡ x → get (eff q (model t)) x ≡ cond b 1 0
+  at-cell x w = subst (λ y. get (eff q (model t)) y ≡ cond b 1 0) w here
 
-module _ (k e : ℕ) (t : State) (good : Good (model t)) (is : (x : Item) → get (model t) x ≡ items t x) where
-  pub inserted-none : elem e (group-in k (seen t)) ≡ true → (x : Item) → get (eff (R.insert e k) (model t)) x ≡ items t x
-  inserted-none h x = at (Item-discrete ℕ-discrete x (R.cell k e))
+  -- It was so.
+  pub set-none : elem e (group-in k (seen t)) ≡ b → (x : Item) → get (eff q (model t)) x ≡ items t x
+  set-none h x = at (Item-discrete ℕ-discrete (R.cell k e) x)
     where
-      at : Dec (x ≡ R.cell k e) → get (eff (R.insert e k) (model t)) x ≡ items t x
-      at (yes q) = subst (λ y. get (eff (R.insert e k) (model t)) y ≡ items t y) (sym q) (cell-inserted e k (model t) ∙ sym (ap (λ b. cond b 1 0) h))
-      at (no n) = frame (R.insert e k) (model t) good x n ∙ is x
+      at : Dec (R.cell k e ≡ x) → get (eff q (model t)) x ≡ items t x
+      at (yes w) = at-cell x w ∙ subst (λ y. cond b 1 0 ≡ items t y) w (sym (ap (λ c. cond c 1 0) h))
+      at (no n) = there x (λ w. n (sym w))
 
-  pub inserted-one : (u : State) → ((z : ℕ) → entryOf z u .value ≡ entryOf z t .value) → group-in k (seen u) ≡ with-member e (group-in k (seen t))
-      → ((j : ℕ) → ¬ (k ≡ j) → group-in j (seen u) ≡ group-in j (seen t)) → (x : Item) → items u x ≡ get (eff (R.insert e k) (model t)) x
-  inserted-one u v h o (R.value z) = v z
-  inserted-one u v h o (R.cell j x) = at (ℕ-discrete k j) (ℕ-discrete e x)
+  -- It becomes so in u.
+  pub set-one : (u : State) → ((z : ℕ) → entryOf z u .value ≡ entryOf z t .value) → elem e (group-in k (seen u)) ≡ b
+      → ((x : ℕ) → ¬ (x ≡ e) → elem x (group-in k (seen u)) ≡ elem x (group-in k (seen t))) → ((j : ℕ) → ¬ (k ≡ j) → group-in j (seen u) ≡ group-in j (seen t))
+      → (x : Item) → items u x ≡ get (eff q (model t)) x
+  set-one u v i o w x = at (Item-discrete ℕ-discrete (R.cell k e) x)
     where
-      other : ¬ (R.cell j x ≡ R.cell k e) → items t (R.cell j x) ≡ get (eff (R.insert e k) (model t)) (R.cell j x)
-      other n = sym (frame (R.insert e k) (model t) good (R.cell j x) n ∙ is (R.cell j x))
+      at : Dec (R.cell k e ≡ x) → items u x ≡ get (eff q (model t)) x
+      at (yes y) = items-set k e b t u v i o w x (yes y) ∙ sym (at-cell x y)
+      at (no n) = items-set k e b t u v i o w x (no n) ∙ sym (there x (λ y. n (sym y)))
 
-      at : Dec (k ≡ j) → Dec (e ≡ x) → items u (R.cell j x) ≡ get (eff (R.insert e k) (model t)) (R.cell j x)
-      at (yes p) (yes q) = subst (λ y. items u y ≡ get (eff (R.insert e k) (model t)) y) (sym (cell-same p q))
-          (ap (λ g. cond (elem e g) 1 0) h ∙ ap (λ b. cond b 1 0) (elem-with e e (group-in k (seen t)) ∙ ap (λ b. b || elem e (group-in k (seen t))) (eqb-yes e e refl)) ∙ sym (cell-inserted e k (model t)))
-      at (yes p) (no q) = subst (λ i. items u (R.cell i x) ≡ items t (R.cell i x)) p
-          (ap (λ g. cond (elem x g) 1 0) h ∙ ap (λ b. cond b 1 0) (elem-with x e (group-in k (seen t)) ∙ ap (λ b. b || elem x (group-in k (seen t))) (eqb-no x e (λ z. q (sym z)))))
-          ∙ other (λ z. q (sym (cell-entry z)))
-        where
-          cell-entry : R.cell j x ≡ R.cell k e → x ≡ e
-          cell-entry z = ap (λ i. entry-of i) z
-            where
-              entry-of : Item → ℕ
-              entry-of (R.value a) = a
-              entry-of (R.cell a b) = b
-      at (no p) q = ap (λ g. cond (elem x g) 1 0) (o j p) ∙ other (λ z. p (sym (cell-key z)))
-        where
-          cell-key : R.cell j x ≡ R.cell k e → j ≡ k
-          cell-key z = ap (λ i. key-of i) z
-            where
-              key-of : Item → ℕ
-              key-of (R.value a) = a
-              key-of (R.cell a b) = a
-
-  pub insert-undo-none : elem e (group-in k (seen t)) ≡ true → undo-of (R.insert e k) (model t) ≡ []
-  insert-undo-none h = pick-no (ℕ-discrete (has by-key (k, e) (model t .members)) 0) ((R.cell k e, 0) ∷ []) []
-      (λ z. let q : has by-key (k, e) (model t .members) ≡ 1 = is (R.cell k e) ∙ ap (λ b. cond b 1 0) h in omega (arith, z, q))
-
-  pub insert-undo-one : elem e (group-in k (seen t)) ≡ false → undo-of (R.insert e k) (model t) ≡ (R.cell k e, 0) ∷ []
-  insert-undo-one h = pick-yes (ℕ-discrete (has by-key (k, e) (model t .members)) 0) ((R.cell k e, 0) ∷ []) [] (is (R.cell k e) ∙ ap (λ b. cond b 1 0) h)
-
-  pub insert-answer : (b : Bool) → elem e (group-in k (seen t)) ≡ b → ans (R.insert e k) (model t) ≡ just (1 - cond b 1 0)
-  insert-answer b h = ap (λ n. just (1 - n)) (is (R.cell k e) ∙ ap (λ c. cond c 1 0) h)
-
--- ---- remove: what the model does
-
-module _ (k e : ℕ) (t : State) (good : Good (model t)) (is : (x : Item) → get (model t) x ≡ items t x) where
-  pub removed-none : elem e (group-in k (seen t)) ≡ false → (x : Item) → get (eff (R.remove e k) (model t)) x ≡ items t x
-  removed-none h x = at (Item-discrete ℕ-discrete x (R.cell k e))
-    where
-      at : Dec (x ≡ R.cell k e) → get (eff (R.remove e k) (model t)) x ≡ items t x
-      at (yes q) = subst (λ y. get (eff (R.remove e k) (model t)) y ≡ items t y) (sym q) (cell-removed e k (model t) ∙ sym (ap (λ b. cond b 1 0) h))
-      at (no n) = frame (R.remove e k) (model t) good x n ∙ is x
-
-  pub removed-one : (u : State) → Up 1 (group-in k (seen t)) → ((z : ℕ) → entryOf z u .value ≡ entryOf z t .value) → group-in k (seen u) ≡ without-member e (group-in k (seen t))
-      → ((j : ℕ) → ¬ (k ≡ j) → group-in j (seen u) ≡ group-in j (seen t)) → (x : Item) → items u x ≡ get (eff (R.remove e k) (model t)) x
-  removed-one u up v h o (R.value z) = v z
-  removed-one u up v h o (R.cell j x) = at (ℕ-discrete k j) (ℕ-discrete e x)
-    where
-      key-of : Item → ℕ
-      key-of (R.value a) = a
-      key-of (R.cell a b) = a
-
-      entry-of : Item → ℕ
-      entry-of (R.value a) = a
-      entry-of (R.cell a b) = b
-
-      other : ¬ (R.cell j x ≡ R.cell k e) → items t (R.cell j x) ≡ get (eff (R.remove e k) (model t)) (R.cell j x)
-      other n = sym (frame (R.remove e k) (model t) good (R.cell j x) n ∙ is (R.cell j x))
-
-      at : Dec (k ≡ j) → Dec (e ≡ x) → items u (R.cell j x) ≡ get (eff (R.remove e k) (model t)) (R.cell j x)
-      at (yes p) (yes q) = subst (λ y. items u y ≡ get (eff (R.remove e k) (model t)) y) (sym (cell-same p q))
-          (ap (λ g. cond (elem e g) 1 0) h ∙ ap (λ b. cond b 1 0) (elem-without-same e 1 (group-in k (seen t)) up) ∙ sym (cell-removed e k (model t)))
-      at (yes p) (no q) = subst (λ i. items u (R.cell i x) ≡ items t (R.cell i x)) p
-          (ap (λ g. cond (elem x g) 1 0) h ∙ ap (λ b. cond b 1 0) (elem-without-other x e (group-in k (seen t)) (λ z. q (sym z))))
-          ∙ other (λ z. q (sym (ap entry-of z)))
-      at (no p) q = ap (λ g. cond (elem x g) 1 0) (o j p) ∙ other (λ z. p (sym (ap key-of z)))
-
-  pub remove-undo-none : elem e (group-in k (seen t)) ≡ false → undo-of (R.remove e k) (model t) ≡ []
-  remove-undo-none h = pick-yes (ℕ-discrete (has by-key (k, e) (model t .members)) 0) [] ((R.cell k e, 1) ∷ []) (is (R.cell k e) ∙ ap (λ b. cond b 1 0) h)
-
-  pub remove-undo-one : elem e (group-in k (seen t)) ≡ true → undo-of (R.remove e k) (model t) ≡ (R.cell k e, 1) ∷ []
-  remove-undo-one h = pick-no (ℕ-discrete (has by-key (k, e) (model t .members)) 0) [] ((R.cell k e, 1) ∷ [])
-      (λ z. let q : has by-key (k, e) (model t .members) ≡ 1 = is (R.cell k e) ∙ ap (λ b. cond b 1 0) h in omega (arith, z, q))
-
-  pub remove-answer : (b : Bool) → elem e (group-in k (seen t)) ≡ b → ans (R.remove e k) (model t) ≡ just (cond b 1 0)
-  remove-answer b h = ap just (is (R.cell k e) ∙ ap (λ c. cond c 1 0) h)
+-- Whether e is a member, as the model counts.
+by-member : (k e : ℕ) (t : State) → ((x : Item) → get (model t) x ≡ items t x) → {A : Type 0} (b : Bool) → elem e (group-in k (seen t)) ≡ b → (x y : A)
+    → pick (ℕ-discrete (has by-key (k, e) (model t .members)) 0) x y ≡ cond b y x
+by-member k e t is true h x y = pick-no (ℕ-discrete (has by-key (k, e) (model t .members)) 0) x y
+    (λ z. let q : has by-key (k, e) (model t .members) ≡ 1 = is (R.cell k e) ∙ ap (λ b. cond b 1 0) h in omega (arith, z, q))
+by-member k e t is false h x y = pick-yes (ℕ-discrete (has by-key (k, e) (model t .members)) 0) x y (is (R.cell k e) ∙ ap (λ b. cond b 1 0) h)
 
 -- ---- the step
 
@@ -178,9 +93,8 @@ module _ (n k e : ℕ) (s : State) (F : Fit s) (K : Kept k s) (b : sessionOf (su
   ht = held-state p k s K
 
   ht-entry : (q z : ℕ) → holders ht L.entry strong q z ≡ holders s L.entry strong q z
-  unfolding on-tree entryOf
-  ht-entry q zero = refl
-  ht-entry q (suc z) = refl
+  unfolding on-tree
+  ht-entry = entry-holders s ht refl strong
 
   ht-needs : (holders ht L.group strong p k ≡ true) × (holders ht L.entry strong p e ≡ true)
   ht-needs = (ap (λ w. holds w p) (put-update k s K (hold-update p) refl) ∙ held-same n (K .d .update), ht-entry p e ∙ x)
@@ -190,7 +104,7 @@ module _ (n k e : ℕ) (s : State) (F : Fit s) (K : Kept k s) (b : sessionOf (su
   ht-begun = b
 
   ht-elem : elem e (group-in k (seen ht)) ≡ elem e (descOf k s .members)
-  ht-elem = ap (elem e) (up-group p k s K k ∙ was-group k s K (hold-update p) refl ∙ ap (λ d. d .members) (sym (K .desc)))
+  ht-elem = ap (elem e) (up-group p k s K k ∙ was-group k s K ∙ ap (λ d. d .members) (sym (K .desc)))
 
   ht-good : Good (model ht)
   ht-good = model-good 0 4294967296 ht (held-rises p k s K F) (held-listed p k s K F)
@@ -209,34 +123,35 @@ module _ (n k e : ℕ) (s : State) (F : Fit s) (K : Kept k s) (b : sessionOf (su
     begun-same = h .begun-same;
   }
 
-  -- The group changed, and a take-back.
+  -- The group changed, and an undo record.
   abbrev cu : (List ℕ → List ℕ) → Undo → ℕ → State
   cu M w f = add-undo p w (with-free f (changed p k s K F M))
 
   one-follows : (q : Req) (M : List ℕ → List ℕ) (w : Undo) (f : ℕ) (u : State) → Same (cu M w f) u → Needs (holders ht) p q
       → ((y : Item) → items (changed p k s K F M) y ≡ get (eff q (model ht)) y) → undo-of q (model ht) ≡ log-entry w ∷ [] → Follows p k s K F q u
-  unfolding add-undo on-session on-tree entryOf sessionOf
+  unfolding add-undo on-session on-tree sessionOf
   one-follows q M w f u h nd ch bk = record {
     needs = nd;
-    change = λ y. same-items (cu M w f) u h y ∙ mid y ∙ ch y;
-    log-now = ap (map log-entry) (h .undos-same p ∙ undos-put p w (with-free f (changed p k s K F M)) (let z = F .seats in omega arith)) ∙ sym (ap (λ l. l ++ map log-entry (sessionOf p ht .undos)) bk);
-    log-others = λ t ne. h .undos-same t ∙ undos-others p t w (with-free f (changed p k s K F M)) ne;
-    holders-same = λ l m t z. same-holders (cu M w f) u h l m t z ∙ words-of l m t z ∙ changed-holders p k s K F M l m t z;
-    begun-same = λ t. h .begun-same t ∙ undos-begun p t w (with-free f (changed p k s K F M));
+    change = λ y. same-items (cu M w f) u h y ∙ frame-items (changed p k s K F M) (cu M w f) refl refl y ∙ ch y;
+    log-now = ap (map log-entry) (h .undos-same p ∙ ap (λ x. x .undos) (undo-put p w (with-free f (changed p k s K F M)) (let z = F .seats in omega arith))) ∙ sym (ap (λ l. l ++ map log-entry (sessionOf p ht .undos)) bk);
+    log-others = λ t ne. h .undos-same t ∙ ap (λ x. x .undos) (undo-other p t w (with-free f (changed p k s K F M)) ne);
+    holders-same = λ l m t z. same-holders (cu M w f) u h l m t z ∙ frame-holders (changed p k s K F M) (cu M w f) refl refl l m t z ∙ changed-holders p k s K F M l m t z;
+    begun-same = λ t. h .begun-same t ∙ session-kept (λ x. x .begun) p (with-undo w) (with-free f (changed p k s K F M)) (λ x. refl) t;
   }
-    where
-      mid : (y : Item) → items (cu M w f) y ≡ items (changed p k s K F M) y
-      mid (R.value zero) = refl
-      mid (R.value (suc z)) = refl
-      mid (R.cell j y) = refl
 
-      words-of : (l : Kind) (m : Mode) (t z : ℕ) → holders (cu M w f) l m t z ≡ holders (changed p k s K F M) l m t z
-      words-of L.entry weak t zero = refl
-      words-of L.entry weak t (suc z) = refl
-      words-of L.entry strong t zero = refl
-      words-of L.entry strong t (suc z) = refl
-      words-of L.group weak t z = refl
-      words-of L.group strong t z = refl
+  -- The model's change of another item, and its answer.
+  ht-frame : (q : Req) → ((y : Item) → ¬ (y ≡ R.cell k e) → get (eff q (model ht)) y ≡ get (model ht) y) → (y : Item) → ¬ (y ≡ R.cell k e) → get (eff q (model ht)) y ≡ items ht y
+  ht-frame q f y ne = f y ne ∙ ht-is y
+
+  ht-count : (o : Bool) → elem e (descOf k s .members) ≡ o → get (model ht) (R.cell k e) ≡ cond o 1 0
+  ht-count o h = ht-is (R.cell k e) ∙ ap (λ v. cond v 1 0) (ht-elem ∙ h)
+
+  -- The group of k becomes as M says, and e a member or not by o.
+  ht-one : (q : Req) (M : List ℕ → List ℕ) (o : Bool) → get (eff q (model ht)) (R.cell k e) ≡ cond o 1 0 → ((y : Item) → ¬ (y ≡ R.cell k e) → get (eff q (model ht)) y ≡ get (model ht) y)
+      → elem e (M (group-in k (seen ht))) ≡ o → ((y : ℕ) → ¬ (y ≡ e) → elem y (M (group-in k (seen ht))) ≡ elem y (group-in k (seen ht)))
+      → (y : Item) → items (changed p k s K F M) y ≡ get (eff q (model ht)) y
+  ht-one q M o here f i j = set-one k e ht q o here (ht-frame q f) (changed p k s K F M) (changed-value p k s K F M) (ap (elem e) (changed-here p k s K F M) ∙ i)
+      (λ y ne. ap (elem y) (changed-here p k s K F M) ∙ j y ne) (changed-there p k s K F M)
 
   module _ (c g : ℕ) (st : Stage) where
     abbrev r : Request
@@ -256,15 +171,16 @@ module _ (n k e : ℕ) (s : State) (F : Fit s) (K : Kept k s) (b : sessionOf (su
             (cond o (guarded (group-blockers strong p (descOf k s)) 0 p r s (finished p r (0 ∷ []) hold))
             (guarded (group-blockers strong p (descOf k s)) 2 p r s (finished p r (1 ∷ []) (add-undo p (added e k) (with-free (s .free - 2) add)))))
         go true h = guard-does p (R.insert e k) (group-blockers strong p (descOf k s)) 0 r s (finished p r (0 ∷ []) hold) λ free.
-            finishes ht (ans (R.insert e k) (model ht)) (ap (λ a. done (a .number ∷ [])) (sym (insert-answer k e ht ht-good ht-is true (ht-elem ∙ h)))) refl (update-locked p k s K F free b)
+            finishes ht (ans (R.insert e k) (model ht)) (ap (λ a. done (a .number ∷ [])) (sym (ap (λ v. just (1 - v)) (ht-count true h)))) refl (update-locked p k s K F free b)
             (follows-finished p k s K F (R.insert e k) (ended p r ht)
-            (none-follows (R.insert e k) (ended p r ht) (ended-same p r ht) ht-needs (inserted-none k e ht ht-good ht-is (ht-elem ∙ h)) (insert-undo-none k e ht ht-good ht-is (ht-elem ∙ h))) ht-begun)
+            (none-follows (R.insert e k) (ended p r ht) (ended-same p r ht) ht-needs (set-none k e ht (R.insert e k) true (cell-inserted e k (model ht)) (ht-frame (R.insert e k) (frame (R.insert e k) (model ht) ht-good)) (ht-elem ∙ h))
+            (by-member k e ht ht-is true (ht-elem ∙ h) ((R.cell k e, 0) ∷ []) [])) ht-begun)
         go false h = guard-does p (R.insert e k) (group-blockers strong p (descOf k s)) 2 r s (finished p r (1 ∷ []) (add-undo p (added e k) (with-free (s .free - 2) add))) λ free.
-            finishes ht (ans (R.insert e k) (model ht)) (ap (λ a. done (a .number ∷ [])) (sym (insert-answer k e ht ht-good ht-is false (ht-elem ∙ h)))) refl (update-locked p k s K F free b)
+            finishes ht (ans (R.insert e k) (model ht)) (ap (λ a. done (a .number ∷ [])) (sym (ap (λ v. just (1 - v)) (ht-count false h)))) refl (update-locked p k s K F free b)
             (follows-finished p k s K F (R.insert e k) (ended p r (cu (with-member e) (added e k) (s .free - 2)))
             (one-follows (R.insert e k) (with-member e) (added e k) (s .free - 2) (ended p r (cu (with-member e) (added e k) (s .free - 2))) (ended-same p r (cu (with-member e) (added e k) (s .free - 2))) ht-needs
-            (inserted-one k e ht ht-good ht-is (changed p k s K F (with-member e)) (changed-value p k s K F (with-member e)) (changed-here p k s K F (with-member e)) (changed-there p k s K F (with-member e)))
-            (insert-undo-one k e ht ht-good ht-is (ht-elem ∙ h))) ht-begun)
+            (ht-one (R.insert e k) (with-member e) true (cell-inserted e k (model ht)) (frame (R.insert e k) (model ht) ht-good) (elem-with-same e (group-in k (seen ht)))
+            (λ y ne. elem-with-other y e (group-in k (seen ht)) ne)) (by-member k e ht ht-is false (ht-elem ∙ h) ((R.cell k e, 0) ∷ []) [])) ht-begun)
 
     pub remove-does : Does p (R.remove e k) s (remove-step p r (descOf k s) s)
     unfolding remove-step finished on-tree
@@ -280,12 +196,13 @@ module _ (n k e : ℕ) (s : State) (F : Fit s) (K : Kept k s) (b : sessionOf (su
         go : group-blockers strong p (descOf k s) ≡ [] → (o : Bool) → elem e (descOf k s .members) ≡ o → Does p (R.remove e k) s
             (cond o (finished p r (1 ∷ []) (add-undo p (taken e k) out)) (finished p r (0 ∷ []) hold))
         go free false h =
-            finishes ht (ans (R.remove e k) (model ht)) (ap (λ a. done (a .number ∷ [])) (sym (remove-answer k e ht ht-good ht-is false (ht-elem ∙ h)))) refl (update-locked p k s K F free b)
+            finishes ht (ans (R.remove e k) (model ht)) (ap (λ a. done (a .number ∷ [])) (sym (ap just (ht-count false h)))) refl (update-locked p k s K F free b)
             (follows-finished p k s K F (R.remove e k) (ended p r ht)
-            (none-follows (R.remove e k) (ended p r ht) (ended-same p r ht) ht-needs (removed-none k e ht ht-good ht-is (ht-elem ∙ h)) (remove-undo-none k e ht ht-good ht-is (ht-elem ∙ h))) ht-begun)
+            (none-follows (R.remove e k) (ended p r ht) (ended-same p r ht) ht-needs (set-none k e ht (R.remove e k) false (cell-removed e k (model ht)) (ht-frame (R.remove e k) (frame (R.remove e k) (model ht) ht-good)) (ht-elem ∙ h))
+            (by-member k e ht ht-is false (ht-elem ∙ h) [] ((R.cell k e, 1) ∷ []))) ht-begun)
         go free true h =
-            finishes ht (ans (R.remove e k) (model ht)) (ap (λ a. done (a .number ∷ [])) (sym (remove-answer k e ht ht-good ht-is true (ht-elem ∙ h)))) refl (update-locked p k s K F free b)
+            finishes ht (ans (R.remove e k) (model ht)) (ap (λ a. done (a .number ∷ [])) (sym (ap just (ht-count true h)))) refl (update-locked p k s K F free b)
             (follows-finished p k s K F (R.remove e k) (ended p r (cu (without-member e) (taken e k) (s .free)))
             (one-follows (R.remove e k) (without-member e) (taken e k) (s .free) (ended p r (cu (without-member e) (taken e k) (s .free))) (ended-same p r (cu (without-member e) (taken e k) (s .free))) ht-needs
-            (removed-one k e ht ht-good ht-is (changed p k s K F (without-member e)) (held-up p k s K F (without-member e)) (changed-value p k s K F (without-member e)) (changed-here p k s K F (without-member e)) (changed-there p k s K F (without-member e)))
-            (remove-undo-one k e ht ht-good ht-is (ht-elem ∙ h))) ht-begun)
+            (ht-one (R.remove e k) (without-member e) false (cell-removed e k (model ht)) (frame (R.remove e k) (model ht) ht-good) (elem-without-same e 1 (group-in k (seen ht)) (held-up p k s K F (without-member e)))
+            (λ y ne. elem-without-other y e (group-in k (seen ht)) ne)) (by-member k e ht ht-is true (ht-elem ∙ h) [] ((R.cell k e, 1) ∷ []))) ht-begun)

@@ -1,45 +1,38 @@
 -- Every call from a sound state leaves a sound state.
-use mathlib.Core.Path.{_≡_, refl, sym, ap, _∙_, subst}
-use mathlib.Core.Bool.{Bool, true, false, cond, not, _&&_, _||_}
-use mathlib.Core.List.{List, [], _∷_, _++_}
+use mathlib.Core.Path.{_≡_, refl, sym, _∙_, subst, ap}
+use mathlib.Core.Bool.{Bool, true, false, cond, not, _&&_}
+use mathlib.Core.List.{List, [], _∷_}
 use mathlib.Core.Option.{Option, none, some}
-use Prim.Native.Nat.{ℕ, zero, suc, _+_, _-_, _*_, _≤_, _<_}
+use Prim.Native.Nat.{zero, suc, _*_, _≤_, _<_, ℕ}
 use native.Mathlib.Omega.{arith}
-use lib.Dec.{leb, ltb, eqb, eqb→eq, leb→le, nleb→lt, eqb·suc-zero}
+use lib.Dec.{leb, ltb, eqb, eqb·suc-zero}
 use lib.ListN.{length}
 use Rattle.serial.specs.Serial.{true≢false}
-use Rattle.serial.specs.Locks.{Mode, strong, weak}
-use Rattle.serial.specs.Locks as L
-use Rattle.machine.specs.Tree.{pick, leb-no}
+use Rattle.serial.specs.Locks.{strong, weak}
+use Rattle.machine.specs.Logic.{leb-no, eqb-yes, eqb-no, eqb-is, leb-is, either, eqb-not}
 use Rattle.machine.specs.Holders.{held-by, elem, latch-word}
-use Rattle.machine.specs.State.{Entry, Desc, Tree, Stage, start, enter, at, change, take, Request, Undo, Session, State, Answer, more, wait, done, refused, Outcome, top, no-desc, same, or-none, entryOf, sessionOf, stored, descOf, lowest-from, gap-below, with-free, on-entry, on-desc, hold-desc, group-desc, with-member, without-member, set-hand, in-stage, add-undo}
-use Rattle.machine.specs.State as State
-use Rattle.machine.specs.Descent.{Sons, node, at-latch}
-use Rattle.machine.specs.Keeps.{either}
-use Rattle.machine.specs.Steps.{answer, pinned, ended, goes-on, finished, guarded, share-by, exclude-by, entry-blockers, group-blockers, shared-state, read-step, written, write-step, excluded-state, entry-step, updating-state, inserted-state, removed-state, insert-step, remove-step, change-step, memberships, passed-state, located-state, last-take, take-desc, take-step, arrived, root-splits, root-need, whole-root, halved-root, root-blockers, enter-step, son-at, level-need, level-state, level-blockers, level-step, pinned-state, pin-step, made-state, make-step, removable, tidied-state, tidy-step, lowest-step, stand-step, at-step, first-step, next-step}
+use Rattle.machine.specs.Tree.{pick}
+use Rattle.machine.specs.State.{Desc, Tree, Stage, start, enter, change, take, Request, State, more, done, refused, Outcome, top, no-desc, same, or-none, sessionOf, stored, descOf, lowest-from, gap-below, hold-desc, in-stage, at}
+use Rattle.machine.specs.Steps.{pinned, ended, goes-on, finished, guarded, share-by, exclude-by, group-blockers, shared-state, read-step, write-step, excluded-state, entry-step, updating-state, inserted-state, removed-state, insert-step, remove-step, change-step, memberships, passed-state, located-state, last-take, take-desc, take-step, arrived, root-splits, root-need, whole-root, halved-root, root-blockers, enter-step, son-at, level-need, level-state, level-blockers, level-step, pin-step, made-state, make-step, removable, tidied-state, tidy-step, lowest-step, stand-step, at-step, first-step, next-step, answer, written}
 use Rattle.machine.specs.Calls.{Call, format, begin, put, step, commit, abort, call, steps, step-checks}
-use Rattle.machine.specs.View.{holders, seen}
+use Rattle.machine.specs.Sound.{stored-in, times, stands, to-change, Stands, Sound, Formed, Keyed, latches-of, sound-from}
+use Rattle.machine.specs.Context.{Focus}
+use Rattle.machine.specs.Table.{hand-seat}
 use Rattle.machine.specs.Lowest.{same-leaf}
-use Rattle.machine.specs.Housekeeping.{lvs, Ordered, Goes, removable-goes}
-use Rattle.machine.specs.Model.{eqb-yes, eqb-no}
+use Rattle.machine.specs.Housekeeping.{lvs, removable-goes}
 use Rattle.machine.specs.Keys.{Kept, kept}
-use Rattle.machine.specs.Hands.{Kin, kin-trans}
-use Rattle.machine.specs.Moves.{refusing-cases}
-use Rattle.machine.specs.Sound.{gap-word, stored-in, times, stands, Changing, Choice, Descends, to-change, to-first, to-second, to-choice, Passing, Stands, Sound, Formed, Latches, Keyed, formed-of, latches-of, keyed-of, sound-from}
-use Rattle.machine.specs.Context.{Ctx, hole, down, plug, OnWay, Focus, Focused}
+use Rattle.machine.specs.Checks.{refusing-cases, session-code, keeper-code}
+use Rattle.machine.specs.Looks.{sound-ordered, kept-of, kept-stored, stored-most}
 use Rattle.machine.specs.Focus.{focused}
-use Rattle.machine.specs.Looks.{hand-seat, sound-ordered, kept-of, kept-stored, change-stored}
-use Rattle.machine.specs.Nearest.{Takes, takes-of}
-use Rattle.machine.specs.Descending.{enter-keyed, level-keyed, stood, pin-keyed, make-keyed, keeper-code, keeper-stored, tidy-keyed}
 use Rattle.machine.specs.Shape.{enter-formed, level-formed, pin-formed, make-formed, tidy-formed}
+use Rattle.machine.specs.LatchSteps.{enter-latches, level-latches, pin-latches, make-latches, tidy-latches}
+use Rattle.machine.specs.Unmoved.{Unmoved, unmoved-entry, unmoved-written, unmoved-desc, unmoved-inserted, unmoved-removed}
+use Rattle.machine.specs.Descending.{enter-keyed, level-keyed, stood, pin-keyed, make-keyed, keeper-stored, tidy-keyed}
 use Rattle.machine.specs.EntryLocks.{shared-keyed, shared-formed, written-keyed, written-formed, excluded-keyed, excluded-holds, excluded-formed}
 use Rattle.machine.specs.GroupLocks.{updating-keyed, updating-formed, inserted-keyed, inserted-formed, removed-keyed, removed-formed, passed-keyed, passed-formed, passed-passing, located-keyed, located-formed}
-use Rattle.machine.specs.Safety.{session-code, stored-most, descent-most}
-use Rattle.machine.specs.Unmoved.{Unmoved, unmoved-entry, unmoved-written, unmoved-desc, unmoved-inserted, unmoved-removed}
-use Rattle.machine.specs.Latch.{desc-latches}
-use Rattle.machine.specs.LatchSteps.{enter-latches, level-latches, pin-latches, make-latches, tidy-latches}
 use Rattle.machine.specs.Ending.{ended-sound, restage-sound, begin-keeps, put-keeps, format-keeps}
 use Rattle.machine.specs.Leaving.{commit-keeps, abort-keeps}
+use Rattle.machine.specs.Safety.{descent-most}
 
 -- ---- the descriptor where a descent ends
 
@@ -56,7 +49,7 @@ unfolding guarded
 guard-sound [] need p r s o S e k = go (leb need (s .free)) refl
   where
     go : (b : Bool) → leb need (s .free) ≡ b → Sound (cond b o (answer (refused 11 0) (ended p r s)) .next)
-    go true q = k refl (leb→le need (s .free) (rw q tt))
+    go true q = k refl (leb-is need (s .free) q)
     go false q = ended-sound p r s S e
 guard-sound (b ∷ bs) need p r s o S e k = S
 
@@ -108,8 +101,8 @@ module _ (m : ℕ) (r : Request) (x : ℕ) (s : State) (S : Sound s) (e : sessio
   arrive-sound = rw (eqb·suc-zero m) (go (eqb (pick x no-desc same (u .sons) .key) x) refl)
     where
       go : (o : Bool) → eqb (pick x no-desc same (u .sons) .key) x ≡ o → Sound (cond o (pin-step (suc m) r x s) (make-step (suc m) r x s) .next)
-      go true w = pin-sound (eqb→eq (pick x no-desc same (u .sons) .key) x (rw w tt))
-      go false w = make-sound (λ z. true≢false (eqb-yes (pick x no-desc same (u .sons) .key) x z) w)
+      go true w = pin-sound (eqb-is (pick x no-desc same (u .sons) .key) x w)
+      go false w = make-sound (eqb-not (pick x no-desc same (u .sons) .key) x w)
 
 -- The housekeeper's removes its choice, or leaves it.
 module _ (r : Request) (x : ℕ) (s : State) (S : Sound s) (e : sessionOf 0 s .hand ≡ some r) (q : r .stage ≡ at x) (u : Tree 1) (F : Focus 0 x s 0 u) where
@@ -127,15 +120,15 @@ module _ (r : Request) (x : ℕ) (s : State) (S : Sound s) (e : sessionOf 0 s .h
       K = kept-of x s S there
 
       key : chosen .key ≡ x
-      key = ap (λ d. d .key) (sym (focus-desc 0 x s S (stored-most s S x there) u F) ∙ K .desc) ∙ K .key
+      key = ap (λ d. d .key) (sym (focus-desc 0 x s S (stored-most s (sound-ordered S) x there) u F) ∙ K .desc) ∙ K .key
 
       go : (o : Bool) → removable (gap-below x 0 (stored s)) chosen ≡ o
           → Sound (cond o (finished 0 r (x ∷ 1 ∷ []) (tidied-state 0 x s)) (finished 0 r (x ∷ 0 ∷ []) s) .next)
       go true w =
           let G = removable-goes (gap-below x 0 (stored s)) chosen w in
           let n : ¬ (x ≡ 0) = λ z. true≢false (G .not-zero) (ap not (eqb-yes (chosen .key) 0 (key ∙ z))) in
-          sound-from (tidy-formed r (x ∷ 1 ∷ []) x s S (stored-most s S x there) n u F key (G .no-members) q)
-          (tidy-latches r (x ∷ 1 ∷ []) x s S e q (stored-most s S x there) u F) (tidy-keyed r (x ∷ 1 ∷ []) x s S e q u F key w)
+          sound-from (tidy-formed r (x ∷ 1 ∷ []) x s S (stored-most s (sound-ordered S) x there) n u F key (G .no-members) q)
+          (tidy-latches r (x ∷ 1 ∷ []) x s S e q (stored-most s (sound-ordered S) x there) u F) (tidy-keyed r (x ∷ 1 ∷ []) x s S e q u F key w)
       go false w = finish-sound 0 r (x ∷ 0 ∷ []) s S e
 
   end-sound : Sound (lowest-step 0 r x s chosen .next)
@@ -199,13 +192,13 @@ module _ (m : ℕ) (r : Request) (s : State) (S : Sound s) (e : sessionOf (suc m
     where
       go : (a : Bool) → eqb (r .code) 1 ≡ a → (b : Bool) → eqb (r .code) 2 ≡ b → (c : Bool) → leb (r .code) 4 ≡ c
           → Sound (cond a (read-step (suc m) r s) (cond b (write-step (suc m) r s) (cond c (entry-step (suc m) r s) (finished (suc m) r (0 ∷ 0 ∷ []) s))) .next)
-      go true x b y c z = read-sound (eqb→eq (r .code) 1 (rw x tt))
-      go false x true y c z = write-sound (eqb→eq (r .code) 2 (rw y tt))
+      go true x b y c z = read-sound (eqb-is (r .code) 1 x)
+      go false x true y c z = write-sound (eqb-is (r .code) 2 y)
       go false x false y true z =
           let k = session-code m (r .code) (S .checked (suc m) r e .0) in
-          let u : ¬ (r .code ≡ 1) = λ w. true≢false (eqb-yes (r .code) 1 w) x in
-          let v : ¬ (r .code ≡ 2) = λ w. true≢false (eqb-yes (r .code) 2 w) y in
-          entry-sound q (omega (arith, k .0, u, v)) (leb→le (r .code) 4 (rw z tt))
+          let u = eqb-not (r .code) 1 x in
+          let v = eqb-not (r .code) 2 y in
+          entry-sound q (omega (arith, k .0, u, v)) (leb-is (r .code) 4 z)
       go false x false y false z = finish-sound (suc m) r (0 ∷ 0 ∷ []) s S e
 
   -- ---- insert, remove
@@ -215,13 +208,13 @@ module _ (m : ℕ) (r : Request) (s : State) (S : Sound s) (e : sessionOf (suc m
 
   module _ (q : r .stage ≡ change) where
     updating-ends : group-blockers strong (suc m) group ≡ [] → Sound (ended (suc m) r (updating-state (suc m) r s))
-    updating-ends b = locked-ends (suc m) r s (updating-state (suc m) r s) S e (unmoved-desc desc-latches (r .first) (hold-desc same (held-by (suc m)) same) s) (updating-formed m r s S e q b) (updating-keyed m r s S e q b)
+    updating-ends b = locked-ends (suc m) r s (updating-state (suc m) r s) S e (unmoved-desc (r .first) (hold-desc same (held-by (suc m)) same) s) (updating-formed m r s S e q b) (updating-keyed m r s S e q b)
 
     inserted-ends : group-blockers strong (suc m) group ≡ [] → elem (r .entry) (group .members) ≡ false → 2 ≤ s .free → Sound (ended (suc m) r (inserted-state (suc m) r s))
-    inserted-ends b w n = locked-ends (suc m) r s (inserted-state (suc m) r s) S e (unmoved-inserted desc-latches (suc m) r s) (inserted-formed m r s S e q b w n) (inserted-keyed m r s S e q b w)
+    inserted-ends b w n = locked-ends (suc m) r s (inserted-state (suc m) r s) S e (unmoved-inserted (suc m) r s) (inserted-formed m r s S e q b w n) (inserted-keyed m r s S e q b w)
 
     removed-ends : group-blockers strong (suc m) group ≡ [] → elem (r .entry) (group .members) ≡ true → Sound (ended (suc m) r (removed-state (suc m) r s))
-    removed-ends b w = locked-ends (suc m) r s (removed-state (suc m) r s) S e (unmoved-removed desc-latches (suc m) r s) (removed-formed m r s S e q b w) (removed-keyed m r s S e q b w)
+    removed-ends b w = locked-ends (suc m) r s (removed-state (suc m) r s) S e (unmoved-removed (suc m) r s) (removed-formed m r s S e q b w) (removed-keyed m r s S e q b w)
 
     insert-sound : Sound (insert-step (suc m) r group s .next)
     unfolding insert-step finished
@@ -254,7 +247,7 @@ module _ (m : ℕ) (r : Request) (s : State) (S : Sound s) (e : sessionOf (suc m
 
     pass-sound : group-blockers weak (suc m) next ≡ [] → next .key < r .second → Sound (goes-on (suc m) r (take (suc (next .key))) (passed-state (suc m) next s) .next)
     unfolding pinned
-    pass-sound b lt = locked-goes (suc m) r s (passed-state (suc m) next s) S e (unmoved-desc desc-latches (next .key) (hold-desc (held-by (suc m)) same (held-by (suc m))) s)
+    pass-sound b lt = locked-goes (suc m) r s (passed-state (suc m) next s) S e (unmoved-desc (next .key) (hold-desc (held-by (suc m)) same (held-by (suc m))) s)
         (passed-formed m r s S e x q) (passed-keyed m r s S e x q b) (take (suc (next .key))) (ap stands q) refl (λ k. ap (times k) (sym (ap (pinned r) q))) (passed-passing m r s S e x q lt)
 
     last-sound : group-blockers weak (suc m) next ≡ [] → (l : List (ℕ × ℕ)) → Sound (last-take n (suc m) r l next s .next)
@@ -263,7 +256,7 @@ module _ (m : ℕ) (r : Request) (s : State) (S : Sound s) (e : sessionOf (suc m
       where
         go : (o : Bool) → Sound (cond o (record { answer = done (length l ∷ []); next = ended (suc m) r (located-state (suc m) next s); written = l })
             (answer (refused 12 (length l)) (ended (suc m) r s)) .next)
-        go true = locked-ends (suc m) r s (located-state (suc m) next s) S e (unmoved-desc desc-latches (next .key) (hold-desc (held-by (suc m)) same same) s) (located-formed m r s S e x q) (located-keyed m r s S e x q b)
+        go true = locked-ends (suc m) r s (located-state (suc m) next s) S e (unmoved-desc (next .key) (hold-desc (held-by (suc m)) same same) s) (located-formed m r s S e x q) (located-keyed m r s S e x q b)
         go false = ended-sound (suc m) r s S e
 
     take-sound : Sound (take-step n (suc m) r x s .next)
@@ -272,7 +265,7 @@ module _ (m : ℕ) (r : Request) (s : State) (S : Sound s) (e : sessionOf (suc m
       where
         go : group-blockers weak (suc m) next ≡ [] → (o : Bool) → ltb (next .key) (r .second) ≡ o
             → Sound (cond o (goes-on (suc m) r (take (suc (next .key))) (passed-state (suc m) next s)) (last-take n (suc m) r (memberships (r .first) (r .second) (stored s)) next s) .next)
-        go b true w = pass-sound b (leb→le (suc (next .key)) (r .second) (rw w tt))
+        go b true w = pass-sound b (leb-is (suc (next .key)) (r .second) w)
         go b false w = last-sound b (memberships (r .first) (r .second) (stored s))
 
 -- ---- every step

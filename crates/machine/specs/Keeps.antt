@@ -1,19 +1,15 @@
--- Walks and housekeeping move no descriptor: what lies under the root, from left to right, stays through every split, join, move, drop and short lock.
-use mathlib.Core.Path.{_≡_, refl, ap, ap₂, sym, _∙_}
-use mathlib.Core.Bool.{Bool, true, false, cond}
-use mathlib.Core.List.{List, [], _∷_, _++_, append-assoc, append-nil, map}
-use Prim.Native.Nat.{ℕ, zero, suc, _+_, _-_}
+-- Descents and housekeeping move no descriptor: what lies under the root, from left to right, stays through every split, join, move, drop and latch.
+use mathlib.Core.Path.{_≡_, refl, ap₂, sym, _∙_, ap}
+use mathlib.Core.Bool.{cond}
+use mathlib.Core.List.{List, [], _∷_, _++_, append-assoc, append-nil}
+use Prim.Native.Nat.{zero, suc, ℕ}
 use lib.Dec.{leb, eqb}
-use lib.ListN.{length, getD, take, drop, take-append-drop}
-use Rattle.machine.specs.Tree.{Node, T, onp, pick, flat, mapE, leaves, flat-append}
-use Rattle.machine.specs.State.{Desc, Tree, Root, top, on-leaf, on-leaves}
-use Rattle.machine.specs.Descent.{Sons, node, halves, down-to, on-last, last-of, but-last, bound-of, joined, moved-right, moved-left, on-pair, joins, mended, on-latch, unlatched, lone-son, drop-lone, entered, split-root}
+use lib.ListN.{take, drop, take-append-drop}
+use Rattle.machine.specs.Logic.{either}
+use Rattle.machine.specs.Tree.{onp, flat, leaves, flat-append}
+use Rattle.machine.specs.State.{Desc, Tree, Root, top, on-leaf}
+use Rattle.machine.specs.Descent.{Sons, halves, down-to, on-last, last-of, but-last, joined, moved-right, moved-left, on-pair, joins, mended, on-latch, unlatched, lone-son, drop-lone, entered, split-root, node}
 use Rattle.machine.specs.Steps.{small, fills, stepped, son-at, descended}
-
--- A fact of both branches.
-pub either : {A : Type 0} (P : A → Type 0) (b : Bool) (x y : A) → P x → P y → P (cond b x y)
-either P true x y p q = p
-either P false x y p q = q
 
 -- What is read of each descriptor, from left to right.
 unfoldable pub under : {B : Type 0} → (Desc → List B) → (h : ℕ) → Tree h → List B
@@ -28,6 +24,9 @@ pub leaves-under : (h : ℕ) (t : Tree h) → leaves Desc ℕ h t ≡ under (λ 
 unfolding leaves under
 leaves-under zero t = refl
 leaves-under (suc h) t = flat-same (leaves Desc ℕ h) (under (λ d. d ∷ []) h) (leaves-under h) (t .sons)
+
+pub leaves-kept : (h : ℕ) (t : Tree h) (j : ℕ) (u : Tree j) → under (λ d. d ∷ []) j u ≡ under (λ d. d ∷ []) h t → leaves Desc ℕ j u ≡ leaves Desc ℕ h t
+leaves-kept h t j u e = leaves-under j u ∙ e ∙ sym (leaves-under h t)
 
 -- ---- lists of sons
 
@@ -116,20 +115,20 @@ module _ {B : Type 0} (f : Desc → List B) where
   under-descended p x zero t = refl
   under-descended p x (suc h) t = under-stepped p x h (son-at x h (t .sons)) (t .sons)
 
-  pub under-unlocked : (h : ℕ) (t : Tree (suc h)) → under f (suc h) (unlatched h t) ≡ under f (suc h) t
+  pub under-unlatched : (h : ℕ) (t : Tree (suc h)) → under f (suc h) (unlatched h t) ≡ under f (suc h) t
   unfolding under unlatched
-  under-unlocked h t = refl
+  under-unlatched h t = refl
 
   -- ---- in the tree
 
-  pub under-on-lock : (w x : ℕ) (k : (h : ℕ) → Tree (suc h) → Tree (suc h)) → ((h : ℕ) (t : Tree (suc h)) → under f (suc h) (k h t) ≡ under f (suc h) t)
+  pub under-on-latch : (w x : ℕ) (k : (h : ℕ) → Tree (suc h) → Tree (suc h)) → ((h : ℕ) (t : Tree (suc h)) → under f (suc h) (k h t) ≡ under f (suc h) t)
       → (h : ℕ) (t : Tree h) → under f h (on-latch w x k h t) ≡ under f h t
   unfolding under on-latch
-  under-on-lock w x k e zero t = refl
-  under-on-lock w x k e (suc h) t =
+  under-on-latch w x k e zero t = refl
+  under-on-latch w x k e (suc h) t =
       let below : Tree (suc h) = record { latch = t .latch; sons = onp x (λ a b. (on-latch w x k h a, b) ∷ []) (t .sons) } in
       either (λ l. under f (suc h) l ≡ under f (suc h) t) (eqb (t .latch) w) (k h t) below (e h t)
-      (flat-onp (under f h) x (λ a b. (on-latch w x k h a, b) ∷ []) (λ a u. append-nil (under f h (on-latch w x k h a)) ∙ under-on-lock w x k e h a) (t .sons))
+      (flat-onp (under f h) x (λ a b. (on-latch w x k h a, b) ∷ []) (λ a u. append-nil (under f h (on-latch w x k h a)) ∙ under-on-latch w x k e h a) (t .sons))
 
   pub under-on-leaf : (x : ℕ) (k : Desc → Desc) → ((d : Desc) → f (k d) ≡ f d) → (h : ℕ) (t : Tree h) → under f h (on-leaf x k h t) ≡ under f h t
   unfolding under on-leaf

@@ -1,21 +1,21 @@
 -- The latches of a state (Sound's clauses latches-match and placed): what leaves those of all parties right, and what a party that moves must show of its own.
-use mathlib.Core.Path.{_≡_, refl, ap, sym, _∙_, subst}
+use mathlib.Core.Path.{_≡_, refl, sym, _∙_, subst, ap}
 use mathlib.Core.List.{List, [], _∷_}
 use mathlib.Core.Logic.{inl, inr}
 use mathlib.Core.Option.{Option, none, some}
-use Prim.Native.Nat.{ℕ, zero, suc, _-_, _<_}
+use Prim.Native.Nat.{zero, suc, _-_, _<_, ℕ}
 use native.Mathlib.Decide.{ℕ-discrete}
 use native.Mathlib.Omega.{arith}
 use lib.ListN.{length}
-use Rattle.machine.specs.Tree.{sumE}
 use Rattle.machine.specs.Holders.{latch-word}
-use Rattle.machine.specs.State.{Desc, Tree, Stage, start, enter, at, change, take, Request, State, sessionOf, on-session, on-tree, on-leaf, on-leaves, on-desc, pin-desc, set-hand}
-use Rattle.machine.specs.Descent.{Sons, node, on-latch, unlatched}
+use Rattle.machine.specs.Tree.{sumE}
+use Rattle.machine.specs.State.{Desc, Tree, Stage, start, enter, change, take, Request, State, sessionOf, on-session, on-tree, on-leaf, on-leaves, on-desc, pin-desc, set-hand, at}
+use Rattle.machine.specs.Descent.{Sons, on-latch, unlatched, node}
 use Rattle.machine.specs.Steps.{pinned, unpin, unlatch, ended}
 use Rattle.machine.specs.Sound.{of-hand, stands, Latched, latch-count, Room, Latches}
 use Rattle.machine.specs.Context.{Ctx, hole, down, plug, Focus, Focused}
+use Rattle.machine.specs.Table.{hand-put, hand-other, hand-seat}
 use Rattle.machine.specs.Focus.{focused, latches-around, latches-plug}
-use Rattle.machine.specs.Looks.{hand-put, hand-other, hand-seat}
 use Rattle.machine.specs.Latched.{bit-yes, bit-no, latched-map, Others, others-trans, others-plug, framed-others, framed-count, framed-latched, framed-leaf, framed-leaves, Framed}
 use Rattle.machine.specs.Parts.{Fits, free-other, relatched-others}
 
@@ -227,10 +227,6 @@ stay-released p s c = record {
   gone = c;
   table-same = refl;
 }
-
--- A request that stands at no node, before and after.
-pub standless-latches : (p : ℕ) (s : State) (h : Option Request) → Latches s → hand-stands (sessionOf p s .hand) ≡ 0 → hand-stands h ≡ 0 → p < length (s .table) → Latches (set-hand p h s)
-standless-latches p s h L e z seat = released-latches p s s L (stay-released p s (L .latches-match p ∙ e)) h z seat
 
 pub stage-released : (p : ℕ) (r : Request) (s : State) → Latches s → sessionOf p s .hand ≡ some r → Released p s (unlatch p (r .stage) s)
 unfolding unlatch

@@ -1,25 +1,26 @@
 -- Every success state of a descent keeps the latches of all parties: entering the root, one level down, and the last step at a lowest node.
-use mathlib.Core.Path.{_≡_, refl, ap, sym, _∙_, subst}
+use mathlib.Core.Path.{_≡_, refl, sym, _∙_, subst, ap}
 use mathlib.Core.Bool.{Bool, true, false, cond, false≢true}
 use mathlib.Core.List.{List, [], _∷_}
 use mathlib.Core.Logic.{_⊎_, inl, inr}
 use mathlib.Core.Option.{none, some}
-use Prim.Native.Nat.{ℕ, zero, suc, _+_, _-_, _≤_, _<_}
+use Prim.Native.Nat.{zero, suc, _+_, _-_, _≤_, _<_, ℕ}
 use native.Mathlib.Omega.{arith}
 use lib.ListN.{length}
-use Rattle.machine.specs.Tree.{sumE, Seg}
+use Rattle.machine.specs.Logic.{eqb-yes, eqb-no}
 use Rattle.machine.specs.Holders.{latch-word}
-use Rattle.machine.specs.State.{Tree, Root, Stage, enter, at, Request, State, top, sessionOf, stored, gap-below, with-free, on-tree, on-desc, pin-desc, set-hand, in-stage}
-use Rattle.machine.specs.Descent.{Sons, node, sons-of, halves, put-in, taken-out, on-latch, unlatched, lone-son, drop-lone}
+use Rattle.machine.specs.Tree.{sumE, Seg}
+use Rattle.machine.specs.State.{Tree, Root, Stage, enter, Request, State, top, sessionOf, stored, gap-below, with-free, on-tree, on-desc, pin-desc, set-hand, in-stage, at}
+use Rattle.machine.specs.Descent.{Sons, sons-of, halves, put-in, taken-out, on-latch, unlatched, lone-son, drop-lone, node}
 use Rattle.machine.specs.Steps.{fills, pinned, unpin, unlatch, ended, goes-on, finished, root-left, root-splits, whole-root, halved-root, root-blockers, son-at, descended, level-state, level-blockers, pinned-state, made, on-lowest, made-state, tidied-state}
 use Rattle.machine.specs.Sound.{stands, Shaped, OnPath, Latched, latch-count, Room, Sound, Latches, latches-of, formed-of}
-use Rattle.machine.specs.Context.{Ctx, hole, down, Focus}
-use Rattle.machine.specs.Focus.{least-in, Lens, shaped-plug, latches-plug}
-use Rattle.machine.specs.Looks.{hand-seat}
+use Rattle.machine.specs.Context.{Focus}
+use Rattle.machine.specs.Table.{hand-seat}
+use Rattle.machine.specs.Looks.{shaped-le}
+use Rattle.machine.specs.Focus.{least-in, Lens, shaped-plug, latches-plug, least-in-hole}
 use Rattle.machine.specs.Shape.{left-shaped, fills-is}
-use Rattle.machine.specs.Model.{eqb-yes, eqb-no}
 use Rattle.machine.specs.Paths.{path-map, path-upto}
-use Rattle.machine.specs.Latched.{shaped-le, bit-yes, bit-no, latched-here, latched-under, under-latched, latched-map, latched-in, on-latch-plug, Others, others-trans}
+use Rattle.machine.specs.Latched.{bit-yes, bit-no, latched-here, latched-under, under-latched, latched-map, latched-in, on-latch-plug, Others, others-trans}
 use Rattle.machine.specs.Regroup.{grouped-of, no-latches}
 use Rattle.machine.specs.Parts.{Free, free-words, relatched-others, lowest-others, Fits, Swap, halves-swap, swap-paths, swap-counts, swap-own, Lowered, lowered}
 use Rattle.machine.specs.Latch.{hand-stands, Spared, fits-room, arrive-latches, focus-spared, desc-latches, Released, released-latches, released-unpin, own-once, focus-once, focus-released, unlatch-latches}
@@ -60,14 +61,10 @@ tidy-latches r ns x s S e w xt u F =
 
 -- ---- one level down
 
-least-some : {k h : ℕ} (c : Ctx k h) → 1 ≤ least-in c 1
-least-some hole = omega arith
-least-some (down v pre c b post) = omega arith
-
 -- The housekeeper's node above the lowest has two sons or more.
 two-sons : (p x : ℕ) (s : State) (h lo hi : ℕ) (u : Tree (suc (suc h))) (F : Focus p x s (suc h) u) → Shaped (suc (suc h)) (least-in (F .around) 1) lo hi u → p ≡ 0 → 2 ≤ sons-of u
 unfolding Shaped
-two-sons p x s h lo hi u F S e = go (omega (arith, S .0, least-some (F .around))) (subst (λ q. Room s q (suc h) (sons-of u)) e (F .room))
+two-sons p x s h lo hi u F S e = go (omega (arith, S .0, least-in-hole (F .around) .0)) (subst (λ q. Room s q (suc h) (sons-of u)) e (F .room))
   where
     go : 1 ≤ sons-of u → Room s 0 (suc h) (sons-of u) → 2 ≤ sons-of u
     go m (inl n) = omega arith

@@ -1,25 +1,20 @@
 -- Latches in a tree: counts and paths through a hole, and where nothing but descriptors changes.
-use mathlib.Core.Path.{_≡_, refl, ap, ap₂, sym, _∙_, subst}
+use mathlib.Core.Path.{_≡_, refl, ap₂, sym, _∙_, subst, ap}
 use mathlib.Core.Bool.{cond}
 use mathlib.Core.List.{List, [], _∷_, _++_}
 use mathlib.Core.Logic.{inl, inr}
-use Prim.Native.Nat.{ℕ, zero, suc, _+_, _≤_, _<_}
+use Prim.Native.Nat.{zero, suc, _+_, _≤_, _<_, ℕ}
 use lib.Dec.{eqb}
-use Rattle.machine.specs.Tree.{Below, onp-hit}
+use Rattle.machine.specs.Logic.{eqb-yes, eqb-no, length-put}
 use Rattle.machine.specs.Holders.{latch-word}
+use Rattle.machine.specs.Tree.{Below, onp-hit}
 use Rattle.machine.specs.State.{Desc, Tree, on-leaf, on-leaves}
 use Rattle.machine.specs.Descent.{Sons, sons-of, on-latch}
-use Rattle.machine.specs.Sound.{Shaped, OnPath, Latched, latch-count}
+use Rattle.machine.specs.Sound.{OnPath, Latched, latch-count}
 use Rattle.machine.specs.Context.{Ctx, hole, down, plug, OnWay, Clear}
-use Rattle.machine.specs.Order.{ord-le}
-use Rattle.machine.specs.Model.{eqb-yes, eqb-no}
-use Rattle.machine.specs.Focus.{sons-same, latches-around, latches-plug}
-use Rattle.machine.specs.Looks.{shaped-ordered}
+use Rattle.machine.specs.Focus.{latches-around, latches-plug}
 use Rattle.machine.specs.Alike.{Each, each-refl, each-onp, each-map, each-length, each-sum}
 use Rattle.machine.specs.Paths.{path-right, path-map, path-swap}
-
-pub shaped-le : (h least lo hi : ℕ) (t : Tree h) → Shaped h least lo hi t → lo ≤ suc hi
-shaped-le h least lo hi t S = ord-le h lo hi t (shaped-ordered h least lo hi t S)
 
 -- ---- at a node
 
@@ -75,7 +70,7 @@ pub latched-plug : {k h : ℕ} (w y : ℕ) (F : ℕ → ℕ → Type 0) (c : Ctx
 unfolding Latched
 latched-plug w y F hole u v f l = f l
 latched-plug w y F (down {h = h} n pre c b post) u v f (inl l) =
-    inl (l .0, subst (F h) (sym (sons-same pre (plug c u) (plug c v) b post)) (l .1))
+    inl (l .0, subst (F h) (sym (length-put (plug c u, b) (plug c v, b) pre post)) (l .1))
 latched-plug w y F (down {h = h} n pre c b post) u v f (inr l) =
     inr (l .0, path-swap y (Latched w y F h) pre ((plug c u, b) ∷ []) ((plug c v, b) ∷ []) post (one (latched-plug w y F c u v f)) same-bound (l .1))
   where

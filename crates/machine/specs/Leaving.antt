@@ -1,87 +1,49 @@
 -- Soundness is kept by commit and abort: a session leaves, after its undo records, newest first, are undone, or are dropped.
-use mathlib.Core.Path.{_≡_, refl, sym, ap, ap₂, _∙_, subst}
+use mathlib.Core.Path.{_≡_, refl, sym, _∙_, subst, ap}
 use mathlib.Core.Bool.{true, false, cond}
-use mathlib.Core.List.{List, [], _∷_, _++_, map, map-append}
+use mathlib.Core.List.{List, [], _∷_, map}
 use mathlib.Core.Logic.{inl}
 use mathlib.Core.Option.{Option, none, some, Option·none-ne-some}
-use Prim.Native.Nat.{ℕ, zero, suc, _+_, _<_}
+use Prim.Native.Nat.{_+_, _<_, ℕ}
 use native.Mathlib.Decide.{ℕ-discrete}
 use native.Mathlib.Omega.{arith}
 use lib.Dec.{eqb}
 use lib.ListN.{length, getD, set, length-set, length-map}
+use lib.Seq.{getD-set-same, set-set}
 use Rattle.serial.specs.Serial.{true≢false}
-use Rattle.serial.specs.Rising.{Tri, less, equal, greater}
-use Rattle.serial.specs.Model.{ℕ-tri}
 use Rattle.serial.specs.Locks.{Kind, Mode}
 use Rattle.serial.specs.LockMachine.{Ended}
-use Rattle.machine.specs.Gaps.{by-tri, gaps}
-use Rattle.machine.specs.Tree.{flat, mapE, leaves}
+use Rattle.machine.specs.Logic.{not-false}
 use Rattle.machine.specs.Holders.{holds, left-by, elem}
-use Rattle.machine.specs.Bits.{left-same, left-other}
-use Rattle.machine.specs.State.{Desc, Tree, Request, Undo, Session, State, ok, top, idle, sessionOf, with-free, with-table, on-session, on-tree, on-leaves}
+use Rattle.machine.specs.State.{Desc, Request, Undo, Session, State, top, idle, sessionOf, with-free, with-table, on-session, on-tree, on-leaves, ok}
 use Rattle.machine.specs.Steps.{answer, pinned}
 use Rattle.machine.specs.Calls.{call, commit, abort, commit-checks, abort-checks, no-session, has-begun, in-hand, entry-left, leave, undo-all, end-hand, commits, aborts}
-use Rattle.machine.specs.View.{holders, group-in, seen, view, Same, same-refl, ended-same}
 use Rattle.machine.specs.Calls as C
-use Rattle.machine.specs.Order.{lv}
-use Rattle.machine.specs.Groups.{words}
-use Rattle.machine.specs.Housekeeping.{lvs, seen-words, seen-group}
-use Rattle.machine.specs.Sound.{gap-word, stored-in, pins-in, total, members-many, ListedTo, of-hand, times, pins-by, Undoable, cells, Sound, Formed, Latches, latches-of, keyed-of, sound-from}
+use Rattle.machine.specs.Gaps.{reads-gap}
+use Rattle.machine.specs.View.{holders, group-in, seen, view, Same, same-refl, ended-same, frame-holders}
+use Rattle.machine.specs.Sound.{gap-word, stored-in, pins-in, total, ListedTo, of-hand, times, pins-by, Undoable, cells, Sound, Formed, Latches, latches-of, keyed-of, sound-from, formed-of}
 use Rattle.machine.specs.Effect.{Effect, Own}
-use Rattle.machine.specs.Entries.{get-set, get-set-other}
-use Rattle.machine.specs.Ends.{off, zero-left, leave-ended}
+use Rattle.machine.specs.Bits.{left-same, left-other}
+use Rattle.machine.specs.Table.{begun-seat, leave-own, leave-other, session-same}
+use Rattle.machine.specs.Groups.{words}
+use Rattle.machine.specs.Housekeeping.{lvs, seen-group}
+use Rattle.machine.specs.Totals.{total-set}
+use Rattle.machine.specs.Checks.{refusing-cases, session-begun, empty-hand, session-number}
+use Rattle.machine.specs.Looks.{stored-map, listed-map}
+use Rattle.machine.specs.Alike.{on-leaves-formed}
+use Rattle.machine.specs.Latch.{leaves-latches, kept-latches}
 use Rattle.machine.specs.Effects.{keyed-after}
-use Rattle.machine.specs.Looks.{begun-seat, total-set, frame-holders}
-use Rattle.machine.specs.Alike.{leaves-alike}
-use Rattle.machine.specs.Latch.{hand-stands, leaves-latches, hand-latches}
-use Rattle.machine.specs.Abort.{Chain, stop, next, chain-undone}
-use Rattle.machine.specs.Moves.{refusing-cases}
+use Rattle.machine.specs.Ending.{ended-sound, ended-hand}
 use Rattle.machine.specs.Undoing.{with-undos, next-table, link-sound, link-undone}
-use Rattle.machine.specs.Ending.{not-false, session-begun, ended-sound, ended-hand, empty-hand}
+use Rattle.machine.specs.Ends.{off, leave-ended, leave-lvs, leave-reads, leave-group}
+use Rattle.machine.specs.Abort.{Chain, stop, chain-undone, next}
 
 -- ---- lists whose descriptors all lose a holder
-
-leaves-map : (f : Desc → Desc) (h : ℕ) (t : Tree h) → lv h (on-leaves f h t) ≡ map f (lv h t)
-unfolding leaves on-leaves
-leaves-map f zero t = refl
-leaves-map f (suc h) t = go (t .sons) (leaves-map f h)
-  where
-    go : (es : List (Tree h × ℕ)) → ((a : Tree h) → lv h (on-leaves f h a) ≡ map f (lv h a)) → flat (leaves Desc ℕ h) (mapE (on-leaves f h) es) ≡ map f (flat (leaves Desc ℕ h) es)
-    go [] e = refl
-    go (p ∷ es) e = ap₂ (λ a b. a ++ b) (e (p .0)) (go es e) ∙ sym (map-append f (leaves Desc ℕ h (p .0)) (flat (leaves Desc ℕ h) es))
-
-gaps-off : (p g : ℕ) (l : List Desc) (j : ℕ) → gaps (left-by p g) (words (map (off p) l)) j ≡ left-by p (gaps g (words l) j)
-gaps-off p g [] j = refl
-gaps-off p g (d ∷ l) j = go (ℕ-tri j (d .key)) (gaps-off p (d .gap) l j)
-  where
-    go : (t : Tri _<_ j (d .key)) → gaps (left-by p (d .gap)) (words (map (off p) l)) j ≡ left-by p (gaps (d .gap) (words l) j)
-        → by-tri t (left-by p g) (left-by p (d .gap)) (gaps (left-by p (d .gap)) (words (map (off p) l)) j) ≡ left-by p (by-tri t g (d .gap) (gaps (d .gap) (words l) j))
-    go (less h) ih = refl
-    go (equal h) ih = refl
-    go (greater h) ih = ih
-
-stored-off : (p k : ℕ) (l : List Desc) → stored-in k (map (off p) l) ≡ stored-in k l
-unfolding stored-in
-stored-off p k [] = refl
-stored-off p k (d ∷ l) = ap (λ b. cond (eqb (d .key) k) true b) (stored-off p k l)
-
-listed-off : (p m : ℕ) (l : List Desc) → ListedTo m l → ListedTo m (map (off p) l)
-listed-off p m [] u = tt
-listed-off p m (d ∷ l) u = (u .0, listed-off p m l (u .1))
-
-group-off : (p k : ℕ) (l : List Desc) → group-in k (map (off p) l) ≡ group-in k l
-unfolding group-in
-group-off p k [] = refl
-group-off p k (d ∷ l) = ap (λ w. cond (eqb (d .key) k) (d .members) w) (group-off p k l)
 
 pins-off : (p k : ℕ) (l : List Desc) → pins-in k (map (off p) l) ≡ pins-in k l
 unfolding pins-in
 pins-off p k [] = refl
 pins-off p k (d ∷ l) = ap (λ n. cond (eqb (d .key) k) (d .pins) n) (pins-off p k l)
-
-members-off : (p : ℕ) (l : List Desc) → members-many (map (off p) l) ≡ members-many l
-members-off p [] = refl
-members-off p (d ∷ l) = ap (λ n. length (d .members) + n) (members-off p l)
 
 -- ---- a session leaves
 
@@ -91,16 +53,13 @@ module _ (p : ℕ) (s : State) (n : ℕ) (S : Sound s) (h : p < length (s .table
   gone = leave p (with-free n s)
 
   gone-leaves : lvs gone ≡ map (off p) (lvs s)
-  unfolding leave on-session on-tree
-  gone-leaves = leaves-map (off p) (suc (s .root .height)) (s .root .node)
+  gone-leaves = leave-lvs p (with-free n s)
 
   gone-mine : sessionOf p gone ≡ idle
-  unfolding leave on-session on-tree sessionOf
-  gone-mine = get-set (s .table) p idle idle h
+  gone-mine = leave-own p (with-free n s) h
 
   gone-theirs : (q : ℕ) → ¬ (p ≡ q) → sessionOf q gone ≡ sessionOf q s
-  unfolding leave on-session on-tree sessionOf
-  gone-theirs q i = get-set-other (s .table) p q idle idle i
+  gone-theirs q i = leave-other p q (with-free n s) i ∙ session-same s (with-free n s) refl q
 
   ends : Ended p (view (with-free n s)) (view gone)
   unfolding sessionOf
@@ -114,14 +73,13 @@ module _ (p : ℕ) (s : State) (n : ℕ) (S : Sound s) (h : p < length (s .table
 
   gone-gap : (z : ℕ) → gap-word z (seen gone) ≡ left-by p (gap-word z (seen s))
   unfolding gap-word
-  gone-gap z = ap (λ w. gaps 0 w z) (seen-words gone ∙ ap words gone-leaves) ∙ ap (λ g. gaps g (words (map (off p) (lvs s))) z) (sym (zero-left p))
-      ∙ gaps-off p 0 (lvs s) z ∙ sym (ap (λ w. left-by p (gaps 0 w z)) (seen-words s))
+  gone-gap z = reads-gap 0 (words (seen gone)) z ∙ leave-reads p (with-free n s) (λ x. x .gap) (λ w. w) (λ d. refl) (λ g. refl) z ∙ sym (ap (left-by p) (reads-gap 0 (words (seen s)) z))
 
   gone-stored : (z : ℕ) → stored-in z (lvs gone) ≡ stored-in z (lvs s)
-  gone-stored z = ap (stored-in z) gone-leaves ∙ stored-off p z (lvs s)
+  gone-stored z = ap (stored-in z) gone-leaves ∙ stored-map (off p) (λ d. refl) z (lvs s)
 
   gone-group : (z : ℕ) → group-in z (lvs gone) ≡ group-in z (lvs s)
-  gone-group z = ap (group-in z) gone-leaves ∙ group-off p z (lvs s)
+  gone-group z = leave-group p (with-free n s) z
 
   gone-many : length (gone .entries) ≡ length (s .entries)
   unfolding leave on-session on-tree
@@ -162,7 +120,7 @@ module _ (p : ℕ) (s : State) (n : ℕ) (S : Sound s) (h : p < length (s .table
     zero-stored = gone-stored 0 ∙ S .zero-stored;
     zero-empty = gone-group 0 ∙ S .zero-empty;
     top-free = gone-stored top ∙ S .top-free;
-    listed = subst (λ m. ListedTo m (lvs gone)) (sym gone-many) (subst (ListedTo (length (s .entries))) (sym gone-leaves) (listed-off p (length (s .entries)) (lvs s) (S .listed)));
+    listed = subst (λ m. ListedTo m (lvs gone)) (sym gone-many) (subst (ListedTo (length (s .entries))) (sym gone-leaves) (listed-map (off p) (λ d. refl) (length (s .entries)) (lvs s) (S .listed)));
     agree = λ k m o x y z u v. S .agree k m o x y z (gone-was k m x z u) (gone-was k o y z v);
     pins-match = gone-pins;
     holds-begun = λ k m z e. absurd (true≢false e (gone-off k m z));
@@ -178,23 +136,16 @@ module _ (p : ℕ) (s : State) (n : ℕ) (S : Sound s) (h : p < length (s .table
   gone-formed : n ≡ s .free + length (sessionOf p s .undos) → Formed gone
   unfolding leave on-session on-tree sessionOf
   gone-formed e =
-      let A = leaves-alike (off p) (λ d. refl) (suc (s .root .height)) (s .root .node) in
-      record {
-        shaped = A .shape 1 0 top (S .shaped);
-        counted = omega (arith, e, S .counted, A .nodes-same, A .many, ap members-many gone-leaves ∙ members-off p (lvs s), total-set (λ y. length (y .undos)) (s .table) p idle idle h);
-      }
+      let F = on-leaves-formed (off p) (λ d. refl) (λ d. refl) s (formed-of S) in
+      record { shaped = F .shaped; counted = omega (arith, e, F .counted, total-set (λ y. length (y .undos)) (s .table) p idle idle h) }
 
   gone-latches : Latches gone
   unfolding leave on-session on-tree sessionOf
-  gone-latches = hand-latches (on-tree (on-leaves (off p)) s) gone refl (λ q. hands q (ℕ-discrete p q)) (λ q r x e f. (r, before q r e (ℕ-discrete p q), f)) (leaves-latches (off p) s (latches-of S))
+  gone-latches = kept-latches (on-tree (on-leaves (off p)) s) gone refl (λ q. hands q (ℕ-discrete p q)) (leaves-latches (off p) s (latches-of S))
     where
-      hands : (q : ℕ) → Dec (p ≡ q) → hand-stands (sessionOf q gone .hand) ≡ hand-stands (sessionOf q s .hand)
-      hands q (yes i) = subst (λ x. hand-stands (sessionOf x gone .hand) ≡ hand-stands (sessionOf x s .hand)) i (ap hand-stands (ap (λ x. x .hand) gone-mine ∙ sym free))
-      hands q (no i) = ap (λ x. hand-stands (x .hand)) (gone-theirs q i)
-
-      before : (q : ℕ) (r : Request) → sessionOf q gone .hand ≡ some r → Dec (p ≡ q) → sessionOf q s .hand ≡ some r
-      before q r e (yes i) = absurd (nothing r (subst (λ x. sessionOf x gone .hand ≡ some r) (sym i) e))
-      before q r e (no i) = sym (ap (λ x. x .hand) (gone-theirs q i)) ∙ e
+      hands : (q : ℕ) → Dec (p ≡ q) → sessionOf q gone .hand ≡ sessionOf q s .hand
+      hands q (yes i) = subst (λ x. sessionOf x gone .hand ≡ sessionOf x s .hand) i (ap (λ x. x .hand) gone-mine ∙ sym free)
+      hands q (no i) = ap (λ x. x .hand) (gone-theirs q i)
 
   leave-sound : n ≡ s .free + length (sessionOf p s .undos) → Sound gone
   leave-sound e = sound-from (gone-formed e) gone-latches (keyed-after p s gone (keyed-of S) gone-effect gone-own)
@@ -204,7 +155,7 @@ module _ (p : ℕ) (s : State) (n : ℕ) (S : Sound s) (h : p < length (s .table
 pub commit-sound : (p : ℕ) (s : State) → Sound s → no-session p ≡ false → has-begun p s ≡ true → in-hand p s ≡ false → Sound (commits p s)
 unfolding commits
 commit-sound p s S a b free =
-    let begun = session-begun p s a b in
+    let begun = session-begun p s (session-number p a .0) b in
     leave-sound p s (s .free + length (sessionOf p s .undos)) S (begun-seat p s begun) begun (empty-hand p s free) refl
 
 -- ---- abort
@@ -225,7 +176,7 @@ chain-from : (p : ℕ) (us : List Undo) (l : List Session) (s : State) → Sound
 chain-from p [] l s S h e = stop
 chain-from p (b ∷ us) l s S h e = next (link-undone p b us l s S e)
     (chain-from p us (next-table p b us l s S e) (C.undo b s) (link-sound p b us l s S e) (subst (λ n. p < n) (sym (length-set l p (with-undos us (getD l p idle)))) h)
-    (ap (λ x. x .undos) (get-set l p (with-undos us (getD l p idle)) idle h)))
+    (ap (λ x. x .undos) (getD-set-same l p (with-undos us (getD l p idle)) idle h)))
 
 pub chain-of : (p : ℕ) (s : State) → Sound s → sessionOf p s .begun ≡ true → Chain (sessionOf p s .undos) (end-hand p (sessionOf p s .hand) s)
 unfolding sessionOf
@@ -234,15 +185,10 @@ chain-of p s S b =
     let E = stopped p s S (sessionOf p s .hand) refl in
     chain-from p (sessionOf p s .undos) (t .table) t (E .sound) (begun-seat p t (E .same .begun-same p ∙ b)) (E .same .undos-same p)
 
-set-twice : {A : Type 0} (l : List A) (i : ℕ) (a c : A) → set (set l i a) i c ≡ set l i c
-set-twice [] i a c = refl
-set-twice (x ∷ l) zero a c = refl
-set-twice (x ∷ l) (suc i) a c = ap (λ m. x ∷ m) (set-twice l i a c)
-
 -- Whatever the record of p was, it is idle then.
 leave-twice : (p : ℕ) (x : Session) (l : List Session) (s : State) → leave p (with-table (set l p x) s) ≡ leave p (with-table l s)
 unfolding leave on-session on-tree
-leave-twice p x l s = ap (λ m. with-table m (leave p s)) (set-twice l p x idle)
+leave-twice p x l s = ap (λ m. with-table m (leave p s)) (set-set l p x idle)
 
 abort-from : (p : ℕ) (us : List Undo) (l : List Session) (s : State) → Sound (with-table l s) → p < length l → getD l p idle .begun ≡ true → getD l p idle .hand ≡ none
     → getD l p idle .undos ≡ us → Sound (leave p (with-table l (undo-all us s)))
@@ -250,7 +196,7 @@ unfolding undo-all sessionOf
 abort-from p [] l s S h b free e = leave-sound p (with-table l s) (s .free) S h b free (omega (arith, ap length e))
 abort-from p (u ∷ us) l s S h b free e =
     let x = with-undos us (getD l p idle) in
-    let g = get-set l p x idle h in
+    let g = getD-set-same l p x idle h in
     subst Sound (leave-twice p x l (undo-all us (C.undo u s)))
     (abort-from p us (set l p x) (C.undo u s) (link-sound p u us l s S e) (subst (λ n. p < n) (sym (length-set l p x)) h)
     (ap (λ y. y .begun) g ∙ b) (ap (λ y. y .hand) g ∙ free) (ap (λ y. y .undos) g))
@@ -260,7 +206,7 @@ unfolding aborts sessionOf
 abort-sound p s S a b =
     let us = sessionOf p s .undos in
     let t = end-hand p (sessionOf p s .hand) s in
-    let begun = session-begun p s a b in
+    let begun = session-begun p s (session-number p a .0) b in
     let E = stopped p s S (sessionOf p s .hand) refl in
     let now = E .same .begun-same p ∙ begun in
     subst (λ l. Sound (leave p (with-table l (undo-all us t)))) (sym (chain-undone us t (chain-of p s S begun) .table-same))

@@ -2,11 +2,11 @@
 -- session's end, or format, takes from it. That the holders read from a sound state are the ledger's, at every entry and every key, is in Held.
 use mathlib.Core.Bool.{Bool, true, false, cond, not, _&&_, _||_}
 use mathlib.Core.List.{List, [], _∷_, map}
-use Prim.Native.Nat.{ℕ, suc}
+use Prim.Native.Nat.{suc, ℕ}
 use lib.Dec.{leb, ltb, eqb}
 use Rattle.serial.specs.Locks.{Kind, Mode, weak, strong}
 use Rattle.serial.specs.Locks as L
-use Rattle.machine.specs.State.{Stage, start, enter, at, change, take, Request, State, Answer, ok, more, wait, done, refused, Outcome, top, sessionOf, stored}
+use Rattle.machine.specs.State.{Stage, start, enter, change, take, Request, State, Answer, more, wait, done, refused, Outcome, top, sessionOf, stored, ok, at}
 use Rattle.machine.specs.Calls.{Call, format, begin, put, step, commit, abort, call}
 use Rattle.machine.specs.Sound.{of-hand}
 

@@ -1,67 +1,84 @@
+-- The modules of the machine.
+
+-- Definitions: the machine, what is read of its states, what soundness means.
 pub mod Holders
 pub mod Tree
 pub mod State
 pub mod Descent
 pub mod Steps
 pub mod Calls
-pub mod Rows
-pub mod Cases
-pub mod Directed
 pub mod Gaps
-pub mod Keeps
 pub mod View
+pub mod Model
+pub mod Sound
+pub mod Context
+pub mod Effect
+-- What is read of a state, and of a state after a change.
+pub mod Logic
+pub mod Bits
+pub mod Table
+pub mod Keeps
 pub mod Descents
 pub mod Order
 pub mod Groups
 pub mod Lowest
 pub mod Housekeeping
-pub mod Sound
-pub mod Context
-pub mod Effect
-pub mod Bits
-pub mod Agreement
-pub mod Model
-pub mod Entries
-pub mod Events
 pub mod Keys
-pub mod Changes
-pub mod Insert
-pub mod Ends
-pub mod Locate
-pub mod Abort
-pub mod Session
-pub mod Moves
-pub mod Hands
-pub mod Focus
+pub mod Totals
+pub mod Checks
 pub mod Looks
-pub mod Effects
-pub mod Calm
-pub mod Descending
+pub mod Nearest
+pub mod Fresh
+pub mod Focus
+pub mod Hands
+-- Soundness kept: shape and count of records.
 pub mod Alike
 pub mod Fanout
 pub mod Shape
+-- Soundness kept: latches.
 pub mod Paths
 pub mod Latched
 pub mod Regroup
 pub mod Parts
 pub mod Latch
 pub mod LatchSteps
-pub mod Nearest
+pub mod Unmoved
+-- Soundness kept: keys, entries, the session table.
+pub mod Effects
+pub mod Calm
+pub mod Descending
 pub mod Locking
 pub mod EntryLocks
 pub mod GroupLocks
+-- Soundness kept: every call.
 pub mod Ending
 pub mod Undoing
 pub mod Leaving
-pub mod Safety
-pub mod Unmoved
 pub mod Keeping
-pub mod Demand
-pub mod Told
+-- Events of the lock machine.
+pub mod Agreement
+pub mod Entries
+pub mod Events
+pub mod Changes
+pub mod Insert
+pub mod Locate
+pub mod Ends
+pub mod Abort
+pub mod Session
+pub mod Moves
+pub mod Safety
+-- Demand 2: waits, going forward, long locks, answers.
 pub mod Waits
-pub mod Demand3
 pub mod Forward
 pub mod Ledger
-pub mod Answers
 pub mod Grows
 pub mod Held
+pub mod Answers
+-- Demand 3.
+pub mod Demand
+pub mod Told
+pub mod Demand3
+-- Worked cases.
+pub mod Rows
+pub mod Cases
+pub mod Directed

@@ -1,10 +1,10 @@
 -- A step that gives its session p long locks, and changes values or one group under them, keeps what is read at keys, entries and the session table.
-use mathlib.Core.Path.{_≡_, refl, sym, ap, _∙_, subst}
+use mathlib.Core.Path.{_≡_, refl, sym, _∙_, subst, ap}
 use mathlib.Core.Bool.{true}
 use mathlib.Core.List.{List, [], _∷_}
 use mathlib.Core.Logic.{inl}
 use mathlib.Core.Option.{some}
-use Prim.Native.Nat.{ℕ, suc, _+_, _<_}
+use Prim.Native.Nat.{suc, _+_, _<_, ℕ}
 use native.Mathlib.Omega.{arith}
 use lib.ListN.{length, getD, length-set}
 use Rattle.serial.specs.Serial.{true≢false}
@@ -14,13 +14,16 @@ use Rattle.serial.specs.LockMachine.{Locked}
 use Rattle.machine.specs.Holders.{holds}
 use Rattle.machine.specs.State.{Entry, Desc, Request, Undo, State, top, idle, entryOf, sessionOf, with-free, on-entry, on-session, on-tree, on-desc, add-undo}
 use Rattle.machine.specs.Steps.{rule}
-use Rattle.machine.specs.View.{holders, group-in, seen, view}
-use Rattle.machine.specs.Housekeeping.{lvs}
-use Rattle.machine.specs.Keys.{Kept}
+use Rattle.machine.specs.View.{holders, group-in, seen, view, frame-holders}
 use Rattle.machine.specs.Sound.{gap-word, stored-in, pins-in, ListedTo, UpTo, total, records-used, Shaped, pins-by, Cells, cells, Undoable, Sound, Formed, Keyed, keyed-of}
 use Rattle.machine.specs.Effect.{Effect, Own}
-use Rattle.machine.specs.Effects.{checks-kept, Remains, stands-kept, undoable-kept, keyed-after}
-use Rattle.machine.specs.Looks.{frame-holders, undo-put, undo-other, undo-many, undo-pins, undo-undos, hand-seat, hand-begun, put-stored, put-pins-kept, put-gaps, put-gaps-by, put-listed}
+use Rattle.machine.specs.Table.{undo-put, undo-other, undo-many, hand-seat, session-same}
+use Rattle.machine.specs.Housekeeping.{lvs}
+use Rattle.machine.specs.Keys.{Kept}
+use Rattle.machine.specs.Totals.{undo-pins, undo-undos}
+use Rattle.machine.specs.Checks.{checks-kept}
+use Rattle.machine.specs.Looks.{put-stored, put-pins-kept, put-gaps, put-gaps-by, put-listed, hand-begun}
+use Rattle.machine.specs.Effects.{Remains, stands-kept, undoable-kept, keyed-after}
 
 -- ---- what a lock step leaves
 
@@ -62,12 +65,11 @@ pub record Seated (p : ℕ) (s t : State) : Type 0 where
   pub pins-total : (k : ℕ) → total (pins-by k) (t .table) ≡ total (pins-by k) (s .table)
 
 pub seated-same : (p : ℕ) (s t : State) → t .table ≡ s .table → Seated p s t
-unfolding sessionOf
 seated-same p s t e = record {
   seats-same = ap length e;
-  others = λ q n. ap (λ l. getD l q idle) e;
-  begun-same = ap (λ l. getD l p idle .begun) e;
-  hand-same = ap (λ l. getD l p idle .hand) e;
+  others = λ q n. session-same s t e q;
+  begun-same = ap (λ x. x .begun) (session-same s t e p);
+  hand-same = ap (λ x. x .hand) (session-same s t e p);
   pins-total = λ k. ap (total (pins-by k)) e;
 }
 

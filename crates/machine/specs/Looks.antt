@@ -1,147 +1,45 @@
--- What is read of a state after one session, or one descriptor, is changed; and what a sound state gives to such a reading.
-use mathlib.Core.Path.{_≡_, refl, sym, ap, _∙_, subst}
-use mathlib.Core.Bool.{Bool, true, false, cond, _&&_, _||_}
-use mathlib.Core.List.{List, [], _∷_, _++_}
+-- What is read of the stored descriptors, of a state after one of them is changed, and of a sound state.
+use mathlib.Core.Path.{_≡_, refl, sym, _∙_, subst, ap₂, ap}
+use mathlib.Core.Bool.{Bool, true, false, cond, _||_}
+use mathlib.Core.List.{List, [], _∷_, _++_, map}
 use mathlib.Core.Logic.{_⊎_, inl, inr}
-use mathlib.Core.Option.{Option, some}
-use Prim.Native.Nat.{ℕ, zero, suc, _+_, _≤_, _<_}
+use mathlib.Core.Option.{some, none, Option·none-ne-some}
+use Prim.Native.Nat.{zero, suc, _+_, _≤_, _<_, ℕ}
 use native.Mathlib.Decide.{ℕ-discrete}
 use native.Mathlib.Omega.{arith}
-use lib.Dec.{leb, ltb, eqb, eqb→eq, leb→le, nleb→lt}
-use lib.ListN.{length, getD, set, length-set}
+use lib.Dec.{leb, ltb, eqb}
+use lib.ListN.{length}
 use Rattle.serial.specs.Serial.{true≢false}
-use Rattle.serial.specs.Rising.{Tri, less, equal, greater}
-use Rattle.serial.specs.Model.{ℕ-tri}
-use Rattle.serial.specs.Locks.{Kind, Mode, weak, strong}
+use Rattle.serial.specs.Locks.{strong}
 use Rattle.serial.specs.Locks as L
-use Rattle.machine.specs.Gaps.{by-tri, at-equal, at-greater, gaps, locators}
-use Rattle.machine.specs.Gaps as G
-use Rattle.machine.specs.Tree.{onp, Seg, leb-yes}
-use Rattle.machine.specs.Holders.{width, holds, elem}
-use Rattle.machine.specs.State.{Desc, Tree, change, take, Request, Undo, Session, State, top, idle, or-none, sessionOf, descOf, on-session, on-tree, on-leaf, on-desc, with-member, without-member, set-hand, add-undo}
-use Rattle.machine.specs.Steps.{pinned}
-use Rattle.machine.specs.Calls.{is-some, infinite, request-checks}
-use Rattle.machine.specs.View.{holder-words, seen, group-in, locate-word, update-word, holders, entry-same}
-use Rattle.machine.specs.Order.{Ord, In, ord-in, Cut, cut}
+use Rattle.machine.specs.Logic.{eqb-yes, eqb-no, eqb-is, leb-is, leb-not, eqb-not}
+use Rattle.machine.specs.Holders.{width, elem}
+use Rattle.machine.specs.Tree.{onp, Seg}
+use Rattle.machine.specs.State.{Desc, Tree, change, take, State, top, idle, or-none, sessionOf, descOf, on-tree, on-leaf, on-desc, with-member, without-member, Request}
+use Rattle.machine.specs.Steps.{pinned, rule}
+use Rattle.machine.specs.Gaps.{gaps, reads, reads-gap}
+use Rattle.machine.specs.View.{seen, holders}
+use Rattle.machine.specs.Model.{Listed, Up}
+use Rattle.machine.specs.Sound.{gap-word, stored-in, pins-in, members-many, Shaped, UpTo, ListedTo, of-hand, times, pins-by, Sound, Cells, cells, set-cell}
+use Rattle.machine.specs.Table.{hand-seat, begun-seat}
+use Rattle.machine.specs.Order.{Ord, ord-in, Cut, cut, ord-le, In}
 use Rattle.machine.specs.Groups.{words, Rises, ord-rises}
-use Rattle.machine.specs.Housekeeping.{Ordered, lvs, seen-words, seen-group}
-use Rattle.machine.specs.Model.{Up, Listed, eqb-yes, eqb-no}
-use Rattle.machine.specs.Keys.{group-at, group-kept, Kept, kept}
-use Rattle.machine.specs.Entries.{Fit, get-set, get-set-other}
-use Rattle.machine.specs.Sound.{gap-word, stored-in, pins-in, total, members-many, undos-many, Shaped, UpTo, ListedTo, of-hand, times, pins-by, Passes, Sound}
-
--- ---- sessions
-
-pub session-put : (p : ℕ) (f : Session → Session) (s : State) → p < length (s .table) → sessionOf p (on-session p f s) ≡ f (sessionOf p s)
-unfolding on-session sessionOf
-session-put p f s h = get-set (s .table) p (f (getD (s .table) p idle)) idle h
-
-pub session-other : (p q : ℕ) (f : Session → Session) (s : State) → ¬ (p ≡ q) → sessionOf q (on-session p f s) ≡ sessionOf q s
-unfolding on-session sessionOf
-session-other p q f s n = get-set-other (s .table) p q (f (getD (s .table) p idle)) idle n
-
-pub session-many : (p : ℕ) (f : Session → Session) (s : State) → length (on-session p f s .table) ≡ length (s .table)
-unfolding on-session sessionOf
-session-many p f s = length-set (s .table) p (f (getD (s .table) p idle))
-
--- A session with another request in hand; with one more undo record.
-abbrev pub with-hand : Option Request → Session → Session
-with-hand r t = record { begun = t .begun; hand = r; undos = t .undos }
-
-abbrev pub with-undo : Undo → Session → Session
-with-undo b t = record { begun = t .begun; hand = t .hand; undos = b ∷ t .undos }
-
-pub hand-put : (p : ℕ) (r : Option Request) (s : State) → p < length (s .table) → sessionOf p (set-hand p r s) ≡ with-hand r (sessionOf p s)
-unfolding set-hand
-hand-put p r s h = session-put p (with-hand r) s h
-
-pub hand-other : (p q : ℕ) (r : Option Request) (s : State) → ¬ (p ≡ q) → sessionOf q (set-hand p r s) ≡ sessionOf q s
-unfolding set-hand
-hand-other p q r s n = session-other p q (with-hand r) s n
-
-pub hand-many : (p : ℕ) (r : Option Request) (s : State) → length (set-hand p r s .table) ≡ length (s .table)
-unfolding set-hand
-hand-many p r s = session-many p (with-hand r) s
-
-pub undo-put : (p : ℕ) (b : Undo) (s : State) → p < length (s .table) → sessionOf p (add-undo p b s) ≡ with-undo b (sessionOf p s)
-unfolding add-undo
-undo-put p b s h = session-put p (with-undo b) s h
-
-pub undo-other : (p q : ℕ) (b : Undo) (s : State) → ¬ (p ≡ q) → sessionOf q (add-undo p b s) ≡ sessionOf q s
-unfolding add-undo
-undo-other p q b s n = session-other p q (with-undo b) s n
-
-pub undo-many : (p : ℕ) (b : Undo) (s : State) → length (add-undo p b s .table) ≡ length (s .table)
-unfolding add-undo
-undo-many p b s = session-many p (with-undo b) s
-
--- A session that has anything has a seat in the table.
-has-seat : (π : Session → Bool) → π idle ≡ false → (l : List Session) (p : ℕ) → π (getD l p idle) ≡ true → p < length l
-has-seat π z [] p e = absurd (true≢false e z)
-has-seat π z (x ∷ l) zero e = omega arith
-has-seat π z (x ∷ l) (suc p) e = omega (arith, has-seat π z l p e)
-
-pub hand-seat : (p : ℕ) (r : Request) (s : State) → sessionOf p s .hand ≡ some r → p < length (s .table)
-unfolding sessionOf
-hand-seat p r s e = has-seat (λ t. is-some (t .hand)) refl (s .table) p (ap is-some e)
-
-pub begun-seat : (p : ℕ) (s : State) → sessionOf p s .begun ≡ true → p < length (s .table)
-unfolding sessionOf
-begun-seat p s e = has-seat (λ t. t .begun) refl (s .table) p e
-
--- ---- totals
-
-pub total-set : {A : Type 0} (F : A → ℕ) (l : List A) (p : ℕ) (x z : A) → p < length l → total F (set l p x) + F (getD l p z) ≡ total F l + F x
-total-set F [] p x z h = absurd (omega (arith, h))
-total-set F (y ∷ l) zero x z h = omega arith
-total-set F (y ∷ l) (suc p) x z h = omega (arith, total-set F l p x z (omega (arith, h)))
-
-pub total-kept : {A : Type 0} (F : A → ℕ) (f : A → A) → ((x : A) → F (f x) ≡ F x) → (l : List A) (p : ℕ) (z : A) → total F (set l p (f (getD l p z))) ≡ total F l
-total-kept F f e [] p z = refl
-total-kept F f e (y ∷ l) zero z = omega (arith, e y)
-total-kept F f e (y ∷ l) (suc p) z = omega (arith, total-kept F f e l p z)
-
-pub total-least : {A : Type 0} (F : A → ℕ) (l : List A) (p : ℕ) (z : A) → p < length l → F (getD l p z) ≤ total F l
-total-least F [] p z h = absurd (omega (arith, h))
-total-least F (y ∷ l) zero z h = omega arith
-total-least F (y ∷ l) (suc p) z h = omega (arith, total-least F l p z (omega (arith, h)))
-
-pub session-total : (F : Session → ℕ) (p : ℕ) (f : Session → Session) (s : State) → p < length (s .table)
-    → total F (on-session p f s .table) + F (sessionOf p s) ≡ total F (s .table) + F (f (sessionOf p s))
-unfolding on-session sessionOf
-session-total F p f s h = total-set F (s .table) p (f (getD (s .table) p idle)) idle h
-
-pub session-total-kept : (F : Session → ℕ) (p : ℕ) (f : Session → Session) (s : State) → ((x : Session) → F (f x) ≡ F x) → total F (on-session p f s .table) ≡ total F (s .table)
-unfolding on-session sessionOf
-session-total-kept F p f s e = total-kept F f e (s .table) p idle
-
-pub hand-pins : (k p : ℕ) (r : Option Request) (s : State) → p < length (s .table)
-    → total (pins-by k) (set-hand p r s .table) + pins-by k (sessionOf p s) ≡ total (pins-by k) (s .table) + pins-by k (with-hand r (sessionOf p s))
-unfolding set-hand
-hand-pins k p r s h = session-total (pins-by k) p (with-hand r) s h
-
-pub hand-undos : (p : ℕ) (r : Option Request) (s : State) → undos-many (set-hand p r s .table) ≡ undos-many (s .table)
-unfolding set-hand
-hand-undos p r s = session-total-kept (λ t. length (t .undos)) p (with-hand r) s (λ x. refl)
-
-pub undo-pins : (k p : ℕ) (b : Undo) (s : State) → total (pins-by k) (add-undo p b s .table) ≡ total (pins-by k) (s .table)
-unfolding add-undo
-undo-pins k p b s = session-total-kept (pins-by k) p (with-undo b) s (λ x. refl)
-
-pub undo-undos : (p : ℕ) (b : Undo) (s : State) → p < length (s .table) → undos-many (add-undo p b s .table) ≡ suc (undos-many (s .table))
-unfolding add-undo
-undo-undos p b s h = omega (arith, session-total (λ t. length (t .undos)) p (with-undo b) s h)
-
--- ---- holders
-
--- They are read of entries and tree alone.
-pub frame-holders : (s t : State) → t .entries ≡ s .entries → seen t ≡ seen s → (k : Kind) (m : Mode) (p z : ℕ) → holders t k m p z ≡ holders s k m p z
-frame-holders s t e h L.entry weak p z = ap (λ x. holds (x .share) p) (entry-same s t e z)
-frame-holders s t e h L.entry strong p z = ap (λ x. holds (x .exclusive) p) (entry-same s t e z)
-frame-holders s t e h L.group weak p z = ap (λ l. holds (locate-word z l) p) h
-frame-holders s t e h L.group strong p z = ap (λ l. holds (update-word z l) p) h
+use Rattle.machine.specs.Housekeeping.{Ordered, lvs}
+use Rattle.machine.specs.Keys.{Kept, kept, put-reads, shown-reads, put-shown, put-group, put-group-other, was-group}
+use Rattle.machine.specs.Totals.{total-put, total-least}
+use Rattle.machine.specs.Entries.{Fit}
 
 -- ---- lists of descriptors
+
+-- Every descriptor changed, its key or its members kept.
+pub stored-map : (f : Desc → Desc) → ((d : Desc) → f d .key ≡ d .key) → (k : ℕ) (l : List Desc) → stored-in k (map f l) ≡ stored-in k l
+unfolding stored-in
+stored-map f e k [] = refl
+stored-map f e k (d ∷ l) = ap₂ (λ x y. cond (eqb x k) true y) (e d) (stored-map f e k l)
+
+pub listed-map : (f : Desc → Desc) → ((d : Desc) → f d .members ≡ d .members) → (m : ℕ) (l : List Desc) → ListedTo m l → ListedTo m (map f l)
+listed-map f e m [] u = tt
+listed-map f e m (d ∷ l) u = (subst (UpTo 1 m) (sym (e d)) (u .0), listed-map f e m l (u .1))
 
 -- Where a stored key of a list can lie.
 pub stored-range : (k lo e : ℕ) (l : List Desc) → In lo e l → stored-in k l ≡ true → (lo ≤ k) × (k < e)
@@ -150,7 +48,7 @@ stored-range k lo e [] i h = absurd (true≢false h refl)
 stored-range k lo e (d ∷ l) i h = go (eqb (d .key) k) refl h (stored-range k lo e l (i .1))
   where
     go : (o : Bool) → eqb (d .key) k ≡ o → cond o true (stored-in k l) ≡ true → (stored-in k l ≡ true → (lo ≤ k) × (k < e)) → (lo ≤ k) × (k < e)
-    go true q h ih = let z = eqb→eq (d .key) k (rw q tt) in (omega (arith, z, i .0 .0), omega (arith, z, i .0 .1))
+    go true q h ih = let z = eqb-is (d .key) k q in (omega (arith, z, i .0 .0), omega (arith, z, i .0 .1))
     go false q h ih = ih h
 
 -- A key of two lists with a descriptor between.
@@ -159,7 +57,7 @@ unfolding stored-in
 stored-parts k [] d B h = go (eqb (d .key) k) refl h
   where
     go : (o : Bool) → eqb (d .key) k ≡ o → cond o true (stored-in k B) ≡ true → (false ≡ true) ⊎ ((d .key ≡ k) ⊎ (stored-in k B ≡ true))
-    go true q h = inr (inl (eqb→eq (d .key) k (rw q tt)))
+    go true q h = inr (inl (eqb-is (d .key) k q))
     go false q h = inr (inr h)
 stored-parts k (a ∷ A) d B h = go (eqb (a .key) k) h (stored-parts k A d B)
   where
@@ -195,23 +93,6 @@ unfolding pins-in
 pins-at k from d e [] B i = rw (eqb-yes (d .key) k e) refl
 pins-at k from d e (a ∷ A) B i = rw (eqb-no (a .key) k (λ q. omega (arith, q, i .0 .1))) (pins-at k from d e A B (i .1))
 
--- The word read at a key: π of its descriptor, or the gap's that it lies in.
-abbrev reads : (G.Desc → ℕ) → ℕ → List G.Desc → ℕ → ℕ
-reads π g [] k = g
-reads π g (x ∷ l) k = by-tri (ℕ-tri k (x .key)) g (π x) (reads π (x .gap) l k)
-
-reads-gap : (g : ℕ) (l : List G.Desc) (k : ℕ) → gaps g l k ≡ reads (λ x. x .gap) g l k
-reads-gap g [] k = refl
-reads-gap g (x ∷ l) k = ap (λ w. by-tri (ℕ-tri k (x .key)) g (x .gap) w) (reads-gap (x .gap) l k)
-
-reads-locate : (g : ℕ) (l : List G.Desc) (k : ℕ) → locators g l k ≡ reads (λ x. x .locate) g l k
-reads-locate g [] k = refl
-reads-locate g (x ∷ l) k = ap (λ w. by-tri (ℕ-tri k (x .key)) g (x .locate) w) (reads-locate (x .gap) l k)
-
-pub gap-at : (k from : ℕ) (d : Desc) → d .key ≡ k → (g : ℕ) (A B : List Desc) → In from k A → gaps g (words (A ++ d ∷ B)) k ≡ d .gap
-gap-at k from d e g [] B i = at-equal (ℕ-tri k (d .key)) g (d .gap) (gaps (d .gap) (words B) k) (sym e)
-gap-at k from d e g (a ∷ A) B i = at-greater (ℕ-tri k (a .key)) g (a .gap) (gaps (a .gap) (words (A ++ d ∷ B)) k) (i .0 .1) ∙ gap-at k from d e (a .gap) A B (i .1)
-
 -- The descriptor d becomes c, with the same key.
 module _ (d c : Desc) (e : c .key ≡ d .key) where
   pub stored-kept : (A B : List Desc) (j : ℕ) → stored-in j (A ++ c ∷ B) ≡ stored-in j (A ++ d ∷ B)
@@ -224,32 +105,6 @@ module _ (d c : Desc) (e : c .key ≡ d .key) where
   pins-other [] B j n = rw (e, eqb-no (d .key) j n) refl
   pins-other (a ∷ A) B j n = ap (λ w. cond (eqb (a .key) j) (a .pins) w) (pins-other A B j n)
 
-  -- Words that R relates at the descriptor are related wherever they are read.
-  module _ (π : G.Desc → ℕ) (R : ℕ → ℕ → Type 0) (same-word : (w : ℕ) → R w w) (g : R (c .gap) (d .gap)) (h : R (π (holder-words c)) (π (holder-words d))) where
-    reads-like : (v w : ℕ) (l : List G.Desc) (j : ℕ) → R v w → R (reads π v l j) (reads π w l j)
-    reads-like v w [] j r = r
-    reads-like v w (x ∷ l) j r = go (ℕ-tri j (x .key))
-      where
-        go : (t : Tri _<_ j (x .key)) → R (by-tri t v (π x) (reads π (x .gap) l j)) (by-tri t w (π x) (reads π (x .gap) l j))
-        go (less q) = r
-        go (equal q) = same-word (π x)
-        go (greater q) = same-word (reads π (x .gap) l j)
-
-    reads-kept : (w : ℕ) (A B : List Desc) (j : ℕ) → R (reads π w (words (A ++ c ∷ B)) j) (reads π w (words (A ++ d ∷ B)) j)
-    reads-kept w [] B j = subst (λ k. R (by-tri (ℕ-tri j k) w (π (holder-words c)) (reads π (c .gap) (words B) j)) (reads π w (words (d ∷ B)) j)) (sym e) (go (ℕ-tri j (d .key)))
-      where
-        go : (t : Tri _<_ j (d .key)) → R (by-tri t w (π (holder-words c)) (reads π (c .gap) (words B) j)) (by-tri t w (π (holder-words d)) (reads π (d .gap) (words B) j))
-        go (less q) = same-word w
-        go (equal q) = h
-        go (greater q) = reads-like (c .gap) (d .gap) (words B) j g
-    reads-kept w (a ∷ A) B j = go (ℕ-tri j (a .key)) (reads-kept (a .gap) A B j)
-      where
-        go : (t : Tri _<_ j (a .key)) → R (reads π (a .gap) (words (A ++ c ∷ B)) j) (reads π (a .gap) (words (A ++ d ∷ B)) j)
-            → R (by-tri t w (π (holder-words a)) (reads π (a .gap) (words (A ++ c ∷ B)) j)) (by-tri t w (π (holder-words a)) (reads π (a .gap) (words (A ++ d ∷ B)) j))
-        go (less q) ih = same-word w
-        go (equal q) ih = same-word (π (holder-words a))
-        go (greater q) ih = ih
-
 pub listed-put : (m : ℕ) (d c : Desc) → UpTo 1 m (c .members) → (A B : List Desc) → ListedTo m (A ++ d ∷ B) → ListedTo m (A ++ c ∷ B)
 listed-put m d c u [] B l = (u, l .1)
 listed-put m d c u (a ∷ A) B l = (l .0, listed-put m d c u A B (l .1))
@@ -257,14 +112,6 @@ listed-put m d c u (a ∷ A) B l = (l .0, listed-put m d c u A B (l .1))
 pub listed-here : (m : ℕ) (d : Desc) (A B : List Desc) → ListedTo m (A ++ d ∷ B) → UpTo 1 m (d .members)
 listed-here m d [] B l = l .0
 listed-here m d (a ∷ A) B l = listed-here m d A B (l .1)
-
-pub total-put : (F : Desc → ℕ) (d c : Desc) (A B : List Desc) → total F (A ++ c ∷ B) + F d ≡ total F (A ++ d ∷ B) + F c
-total-put F d c [] B = omega arith
-total-put F d c (a ∷ A) B = omega (arith, total-put F d c A B)
-
-length-put : (d c : Desc) (A B : List Desc) → length (A ++ c ∷ B) ≡ length (A ++ d ∷ B)
-length-put d c [] B = refl
-length-put d c (a ∷ A) B = ap suc (length-put d c A B)
 
 -- ---- order
 
@@ -276,6 +123,9 @@ pub shaped-ordered : (h least lo hi : ℕ) (t : Tree h) → Shaped h least lo hi
 unfolding Shaped Ord
 shaped-ordered zero least lo hi t S = S
 shaped-ordered (suc h) least lo hi t S = seg-map (Shaped h 3) (Ord h) (shaped-ordered h 3) lo (suc hi) (t .sons) (S .3)
+
+pub shaped-le : (h least lo hi : ℕ) (t : Tree h) → Shaped h least lo hi t → lo ≤ suc hi
+shaped-le h least lo hi t S = ord-le h lo hi t (shaped-ordered h least lo hi t S)
 
 pub sound-ordered : {s : State} → Sound s → Ordered s
 unfolding Ordered
@@ -304,15 +154,16 @@ ordered-put k f e s o = ord-on-leaf k f e (suc (s .root .height)) 0 top (s .root
 
 -- ---- stored keys
 
+pub stored-most : (s : State) → Ordered s → (x : ℕ) → stored-in x (lvs s) ≡ true → x ≤ top
+unfolding Ordered
+stored-most s o x h = let w = stored-range x 0 (suc top) (lvs s) (ord-in (suc (s .root .height)) 0 top (s .root .node) o) h .1 in omega (arith, w)
+
 pub kept-at : (k : ℕ) (s : State) → Ordered s → stored-in k (lvs s) ≡ true → Kept k s
 unfolding Ordered descOf
 kept-at k s o h =
-    let hi : k ≤ top = le (stored-range k 0 (suc top) (lvs s) (ord-in (suc (s .root .height)) 0 top (s .root .node) o) h .1) in
+    let hi = stored-most s o k h in
     kept k s o hi (key (cut k (suc (s .root .height)) (s .root .node) 0 top o (omega arith) hi))
   where
-    le : k < suc top → k ≤ top
-    le q = omega (arith, q)
-
     key : Cut k (suc (s .root .height)) (s .root .node) 0 (suc top) → descOf k s .key ≡ k
     key C = ap (λ o. or-none o .key) (C .leaf) ∙ go (stored-parts k (C .A) (C .d) (C .B) (subst (λ l. stored-in k l ≡ true) (C .was) h))
       where
@@ -331,20 +182,40 @@ module _ (k : ℕ) (s : State) (K : Kept k s) where
   pub kept-pins : pins-in k (lvs s) ≡ K .d .pins
   kept-pins = ap (pins-in k) (K .was) ∙ pins-at k 0 (K .d) (K .key) (K .A) (K .B) (K .low)
 
-  pub kept-group : group-in k (lvs s) ≡ K .d .members
-  kept-group = ap (group-in k) (K .was) ∙ group-at k 0 (K .d) (K .key) (K .A) (K .B) (K .low)
-
   pub kept-listed : (m : ℕ) → ListedTo m (lvs s) → UpTo 1 m (K .d .members)
   kept-listed m l = listed-here m (K .d) (K .A) (K .B) (subst (ListedTo m) (K .was) l)
 
--- ---- a descriptor changed in place; its update word, locate word and group are in Changes
+-- ---- groups as cells, one cell changed
+
+module _ (k e : ℕ) (b : Bool) (c : Cells) where
+  pub set-here : set-cell k e b c k e ≡ b
+  set-here = ap₂ (λ x y. cond x (cond y b (c k e)) (c k e)) (eqb-yes k k refl) (eqb-yes e e refl)
+
+  set-key : (j f : ℕ) → ¬ (k ≡ j) → set-cell k e b c j f ≡ c j f
+  set-key j f n = ap (λ x. cond x (cond (eqb f e) b (c j f)) (c j f)) (eqb-no j k (λ z. n (sym z)))
+
+  pub set-entry : (j f : ℕ) → ¬ (e ≡ f) → set-cell k e b c j f ≡ c j f
+  set-entry j f n = go (eqb j k) (eqb f e) (eqb-no f e (λ z. n (sym z)))
+    where
+      go : (x y : Bool) → y ≡ false → cond x (cond y b (c j f)) (c j f) ≡ c j f
+      go true true q = absurd (true≢false refl q)
+      go true false q = refl
+      go false y q = refl
+
+-- Set, and set as it was.
+pub set-back : (k e : ℕ) (b o : Bool) (c d : Cells) → ((j f : ℕ) → d j f ≡ set-cell k e b c j f) → c k e ≡ o → (j f : ℕ) → set-cell k e o d j f ≡ c j f
+set-back k e b o c d h q j f = go (ℕ-discrete k j) (ℕ-discrete e f)
+  where
+    go : Dec (k ≡ j) → Dec (e ≡ f) → set-cell k e o d j f ≡ c j f
+    go (no n) y = set-key k e o d j f n ∙ h j f ∙ set-key k e b c j f n
+    go (yes x) (no n) = set-entry k e o d j f n ∙ h j f ∙ set-entry k e b c j f n
+    go (yes x) (yes y) = subst (λ i. set-cell k e o d i f ≡ c i f) x (subst (λ i. set-cell k e o d k i ≡ c k i) y (set-here k e o d ∙ sym q))
+
+-- ---- a descriptor changed in place; its update word, locate word and group are in Keys
 
 module _ (k : ℕ) (s : State) (K : Kept k s) (f : Desc → Desc) where
   abbrev v : State
   v = on-desc k f s
-
-  pub put-many : length (lvs v) ≡ length (lvs s)
-  put-many = ap length (K .put f) ∙ length-put (K .d) (f (K .d)) (K .A) (K .B) ∙ sym (ap length (K .was))
 
   pub put-members : members-many (lvs v) + length (K .d .members) ≡ members-many (lvs s) + length (f (K .d) .members)
   put-members =
@@ -371,42 +242,36 @@ module _ (k : ℕ) (s : State) (K : Kept k s) (f : Desc → Desc) where
         at (yes q) = subst (λ i. pins-in i (lvs v) ≡ pins-in i (lvs s)) q (put-pins ∙ e ∙ sym (kept-pins k s K))
         at (no n) = put-pins-other j n
 
-    v-words : words (seen v) ≡ words (K .A ++ f (K .d) ∷ K .B)
-    v-words = seen-words v ∙ ap words (K .put f)
-
-    s-words : words (seen s) ≡ words (K .A ++ K .d ∷ K .B)
-    s-words = seen-words s ∙ ap words (K .was)
-
-    related : (R : ℕ → ℕ → Type 0) {a b x y : ℕ} → a ≡ x → b ≡ y → R x y → R a b
-    related R {a} {b} {x} {y} p q r = subst (λ n. R a n) (sym q) (subst (λ n. R n y) (sym p) r)
-
-    -- What R relates at the descriptor it relates at every key: more of a word, or (next) the same of it.
+    -- What R relates at the gap it relates at every key: more of a word, or (next) the same of it.
     pub put-gaps-by : (R : ℕ → ℕ → Type 0) → ((w : ℕ) → R w w) → R (f (K .d) .gap) (K .d .gap) → (j : ℕ) → R (gap-word j (seen v)) (gap-word j (seen s))
     unfolding gap-word
-    put-gaps-by R i g j = related R
-        (ap (λ w. gaps 0 w j) v-words ∙ reads-gap 0 (words (K .A ++ f (K .d) ∷ K .B)) j) (ap (λ w. gaps 0 w j) s-words ∙ reads-gap 0 (words (K .A ++ K .d ∷ K .B)) j)
-        (reads-kept (K .d) (f (K .d)) fk (λ x. x .gap) R i g g 0 (K .A) (K .B) j)
-
-    pub put-locates-by : (R : ℕ → ℕ → Type 0) → ((w : ℕ) → R w w) → R (f (K .d) .gap) (K .d .gap) → R (f (K .d) .locate) (K .d .locate) → (j : ℕ)
-        → R (locate-word j (seen v)) (locate-word j (seen s))
-    unfolding locate-word
-    put-locates-by R i g l j = related R
-        (ap (λ w. locators 0 w j) v-words ∙ reads-locate 0 (words (K .A ++ f (K .d) ∷ K .B)) j) (ap (λ w. locators 0 w j) s-words ∙ reads-locate 0 (words (K .A ++ K .d ∷ K .B)) j)
-        (reads-kept (K .d) (f (K .d)) fk (λ x. x .locate) R i g l 0 (K .A) (K .B) j)
+    put-gaps-by R i g j =
+        subst (λ n. R (gaps 0 (words (seen v)) j) n) (sym (reads-gap 0 (words (seen s)) j))
+        (subst (λ n. R n (reads (λ x. x .gap) (λ w. w) 0 (words (seen s)) j)) (sym (reads-gap 0 (words (seen v)) j))
+        (put-reads k s K f fk (λ x. x .gap) (λ w. w) R i j (λ e. g) (λ h. g)))
 
     -- With φ = same the whole words; with φ w = holds w q what one party sees of them.
     pub put-gaps : {X : Type 0} (φ : ℕ → X) → φ (f (K .d) .gap) ≡ φ (K .d .gap) → (j : ℕ) → φ (gap-word j (seen v)) ≡ φ (gap-word j (seen s))
     put-gaps φ g j = put-gaps-by (λ a b. φ a ≡ φ b) (λ w. refl) g j
 
-    pub put-locates : {X : Type 0} (φ : ℕ → X) → φ (f (K .d) .gap) ≡ φ (K .d .gap) → φ (f (K .d) .locate) ≡ φ (K .d .locate) → (j : ℕ) → φ (locate-word j (seen v)) ≡ φ (locate-word j (seen s))
-    put-locates φ g l j = put-locates-by (λ a b. φ a ≡ φ b) (λ w. refl) g l j
-
     pub put-gap : gap-word k (seen v) ≡ f (K .d) .gap
     unfolding gap-word
-    put-gap = ap (λ w. gaps 0 w k) v-words ∙ gap-at k 0 (f (K .d)) (fk ∙ K .key) 0 (K .A) (K .B) (K .low)
+    put-gap = reads-gap 0 (words (seen v)) k ∙ shown-reads (put-shown k s K f fk) (λ x. x .gap) (λ w. w)
 
-    pub put-group-kept : f (K .d) .members ≡ K .d .members → (j : ℕ) → group-in j (seen v) ≡ group-in j (seen s)
-    put-group-kept m j = seen-group j v ∙ ap (group-in j) (K .put f) ∙ group-kept (K .d) (f (K .d)) fk m (K .A) (K .B) j ∙ sym (seen-group j s ∙ ap (group-in j) (K .was))
+    -- The entry e is a member or not, by b, and the other members stay.
+    pub put-cells : (e : ℕ) (b : Bool) → elem e (f (K .d) .members) ≡ b → ((x : ℕ) → ¬ (x ≡ e) → elem x (f (K .d) .members) ≡ elem x (K .d .members))
+        → (j x : ℕ) → cells v j x ≡ set-cell k e b (cells s) j x
+    put-cells e b here there j x = at (ℕ-discrete k j) (ℕ-discrete x e)
+      where
+        now : (y : ℕ) → cells v k y ≡ elem y (f (K .d) .members)
+        now y = ap (elem y) (put-group k s K f fk)
+
+        at : Dec (k ≡ j) → Dec (x ≡ e) → cells v j x ≡ set-cell k e b (cells s) j x
+        at (yes q) (yes w) = subst (λ j. cells v j x ≡ set-cell k e b (cells s) j x) q
+            (rw (eqb-yes k k refl, eqb-yes x e w) (now x ∙ ap (λ y. elem y (f (K .d) .members)) w ∙ here))
+        at (yes q) (no n) = subst (λ j. cells v j x ≡ set-cell k e b (cells s) j x) q
+            (rw (eqb-yes k k refl, eqb-no x e n) (now x ∙ there x n ∙ sym (ap (elem x) (was-group k s K))))
+        at (no n) w = rw (eqb-no j k (λ q. n (sym q))) (ap (elem x) (put-group-other k s K f fk j n))
 
 -- ---- members
 
@@ -437,11 +302,11 @@ with-upto e lo hi (x ∷ l) a b u = go (ltb e x) refl (eqb e x) refl (λ q. with
   where
     go : (o : Bool) → ltb e x ≡ o → (c : Bool) → eqb e x ≡ c → (suc x ≤ e → UpTo (suc x) hi (with-member e l))
         → UpTo lo hi (cond o (e ∷ x ∷ l) (cond c (x ∷ l) (x ∷ with-member e l)))
-    go true q c r ih = (a, b, (leb→le (suc e) x (rw q tt), u .1, u .2))
+    go true q c r ih = (a, b, (leb-is (suc e) x q, u .1, u .2))
     go false q true r ih = u
     go false q false r ih =
-        let ge = nleb→lt (suc e) x (rw q tt) in
-        let ne : ¬ (e ≡ x) = λ z. true≢false (eqb-yes e x z) r in
+        let ge = leb-not (suc e) x q in
+        let ne = eqb-not e x r in
         (u .0, u .1, ih (omega (arith, ge, ne)))
 
 upto-from : (lo m hi : ℕ) (l : List ℕ) → m ≤ lo → UpTo lo hi l → UpTo m hi l
@@ -475,12 +340,22 @@ begun-party {s} S p b = (first p b, (let q = begun-seat p s b in let n = S .seat
     first zero e = absurd (true≢false e (S .zero-unmarked))
     first (suc q) e = omega arith
 
-pub hand-begun : {s : State} → Sound s → (m : ℕ) (r : Request) → sessionOf (suc m) s .hand ≡ some r → sessionOf (suc m) s .begun ≡ true
-hand-begun {s} S m r e = go (sessionOf (suc m) s .begun) refl
+-- Who has a request in hand is begun, or the housekeeper.
+pub begun-of : (s : State) → ((m : ℕ) → sessionOf (suc m) s .begun ≡ false → sessionOf (suc m) s .hand ≡ none) → (p : ℕ) (r : Request) → sessionOf p s .hand ≡ some r → ¬ (p ≡ 0)
+    → sessionOf p s .begun ≡ true
+begun-of s f p r e n = go p n e (sessionOf p s .begun) refl
   where
-    go : (b : Bool) → sessionOf (suc m) s .begun ≡ b → b ≡ true
-    go true q = refl
-    go false q = absurd (true≢false {b = true} refl (ap is-some (sym e ∙ S .unbegun-hand m q)))
+    go : (q : ℕ) → ¬ (q ≡ 0) → sessionOf q s .hand ≡ some r → (b : Bool) → sessionOf q s .begun ≡ b → b ≡ true
+    go q n e true b = refl
+    go zero n e false b = absurd (n refl)
+    go (suc m) n e false b = absurd (Option·none-ne-some r (sym (f m b) ∙ e))
+
+pub hand-begun : {s : State} → Sound s → (m : ℕ) (r : Request) → sessionOf (suc m) s .hand ≡ some r → sessionOf (suc m) s .begun ≡ true
+hand-begun {s} S m r e = begun-of s (S .unbegun-hand) (suc m) r e (λ q. omega (arith, q))
+
+pub unbegun-hand : {s : State} → Sound s → (p : ℕ) → ¬ (p ≡ 0) → sessionOf p s .begun ≡ false → sessionOf p s .hand ≡ none
+unbegun-hand S zero n b = absurd (n refl)
+unbegun-hand S (suc m) n b = S .unbegun-hand m b
 
 pub fit-of : {s : State} → Sound s → Fit s
 fit-of {s} S = record {
@@ -491,6 +366,14 @@ fit-of {s} S = record {
   few = λ k m p z h. begun-party S p (S .only-begun k m p z h);
   seats = S .seats;
 }
+
+-- Nobody else excludes an entry.
+pub excludes-alone : {s : State} → Sound s → (p q e : ℕ) → holders s L.entry strong p e ≡ true → holders s L.entry strong q e ≡ true → p ≡ q
+excludes-alone S p q e h i = go (S .agree L.entry strong strong p q e h i)
+  where
+    go : (p ≡ q) ⊎ (rule L.entry strong strong ≡ true) → p ≡ q
+    go (inl w) = w
+    go (inr w) = absurd (true≢false w refl)
 
 -- ---- keys that requests pin
 
@@ -523,47 +406,5 @@ take-stored {s} S p r x e g = (stored (r .first) (at-first (eqb (r .first) (r .s
     at-first false = omega (arith, here (r .first) (r .first) refl)
 
     at-second : (b : Bool) → eqb (r .first) (r .second) ≡ b → 0 < times (r .second) (cond b (r .first ∷ []) (r .first ∷ r .second ∷ []))
-    at-second true q = omega (arith, here (r .first) (r .second) (eqb→eq (r .first) (r .second) (rw q tt)))
+    at-second true q = omega (arith, here (r .first) (r .second) (eqb-is (r .first) (r .second) q))
     at-second false q = omega (arith, here (r .second) (r .second) refl)
-
--- ---- what the checks of a request tell
-
-neither : (a b : Bool) → (a || b) ≡ false → (a ≡ false) × (b ≡ false)
-neither true b e = absurd (true≢false refl e)
-neither false b e = (refl, e)
-
-not-both : (a b : Bool) → a ≡ true → (a && b) ≡ false → b ≡ false
-not-both true b p e = e
-not-both false b p e = absurd (true≢false p refl)
-
-pub checked-entry : (p c e f g : ℕ) (s : State) → Passes (request-checks p c e f g s) → c ≤ 4 → (1 ≤ e) × (e ≤ length (s .entries))
-checked-entry p c e f g s h le =
-    let n = neither (eqb e 0) (ltb (length (s .entries)) e) (not-both (leb c 4) (eqb e 0 || ltb (length (s .entries)) e) (leb-yes c 4 le) (h .1 .0)) in
-    let z : ¬ (e ≡ 0) = λ q. true≢false (eqb-yes e 0 q) (n .0) in
-    let u = nleb→lt (suc (length (s .entries))) e (rw (n .1) tt) in
-    (omega (arith, z), omega (arith, u))
-
-proper : (k : ℕ) → infinite k ≡ false → (1 ≤ k) × (k < top)
-proper k i =
-    let n = neither (eqb k 0) (leb top k) i in
-    let z : ¬ (k ≡ 0) = λ q. true≢false (eqb-yes k 0 q) (n .0) in
-    (omega (arith, z), nleb→lt top k (rw (n .1) tt))
-
--- The keys of an insert, a remove and a locate lie between 0 and the upper infinity.
-pub checked-first : (p c e f g : ℕ) (s : State) → Passes (request-checks p c e f g s) → 3 ≤ c → c ≤ 5 → (1 ≤ f) × (f < top)
-checked-first p c e f g s h lo hi = proper f
-    (go (leb 3 c) (leb c 5) (infinite f) (leb-yes 3 c lo) (leb-yes c 5 hi) (neither (leb 3 c && leb c 5 && infinite f) (eqb c 5 && infinite g) (h .1 .1 .0) .0))
-  where
-    go : (a b i : Bool) → a ≡ true → b ≡ true → (a && b && i) ≡ false → i ≡ false
-    go true true i p q e = e
-    go true false i p q e = absurd (true≢false q refl)
-    go false b i p q e = absurd (true≢false p refl)
-
-pub checked-second : (p c e f g : ℕ) (s : State) → Passes (request-checks p c e f g s) → c ≡ 5 → (1 ≤ g) × (g < top)
-checked-second p c e f g s h q = proper g
-    (not-both (eqb c 5) (infinite g) (eqb-yes c 5 q) (neither (leb 3 c && leb c 5 && infinite f) (eqb c 5 && infinite g) (h .1 .1 .0) .1))
-
-pub checked-order : (p c e f g : ℕ) (s : State) → Passes (request-checks p c e f g s) → c ≡ 5 → f ≤ g
-checked-order p c e f g s h q =
-    let u = nleb→lt (suc g) f (rw (not-both (eqb c 5) (ltb g f) (eqb-yes c 5 q) (h .1 .1 .1 .0)) tt) in
-    omega (arith, u)

@@ -1,17 +1,18 @@
 -- At the lowest node: where a descriptor put in, or taken out, stands among the stored ones.
-use mathlib.Core.Path.{_≡_, refl, ap, ap₂, sym, _∙_, subst}
+use mathlib.Core.Path.{_≡_, refl, sym, _∙_, subst, ap}
 use mathlib.Core.Bool.{Bool, true, false, cond}
-use mathlib.Core.List.{List, [], _∷_, _++_, append-assoc, append-nil, map}
-use mathlib.Core.Option.{Option, none, some}
-use Prim.Native.Nat.{ℕ, zero, suc, _+_, _-_, _≤_, _<_}
+use mathlib.Core.List.{List, [], _∷_, _++_, append-assoc}
+use mathlib.Core.Option.{none, some}
+use Prim.Native.Nat.{suc, _≤_, ℕ}
 use native.Mathlib.Omega.{arith}
-use lib.Dec.{leb, eqb, leb→le, nleb→lt}
-use Rattle.machine.specs.Tree.{Node, T, onp, pick, flat, Seg, leaves, leafAt, flat-append, Below, Hit, hit, onp-hit, pick-hit}
+use lib.Dec.{leb}
+use Rattle.machine.specs.Logic.{leb-is, leb-not}
+use Rattle.machine.specs.Tree.{onp, pick, flat, leaves, leafAt, flat-append, Hit, hit, onp-hit, pick-hit}
 use Rattle.machine.specs.State.{Desc, Tree, no-desc, same}
-use Rattle.machine.specs.Descent.{Sons, node, on-last, bound-of, put-in, taken-out, on-latch}
+use Rattle.machine.specs.Descent.{Sons, bound-of, put-in, taken-out, on-latch}
 use Rattle.machine.specs.Steps.{made, on-lowest}
 use Rattle.machine.specs.Keeps.{flat-last}
-use Rattle.machine.specs.Order.{Ord, In, in-append, in-wide, ord-le, ord-in, seg-le, seg-in, lv, Found}
+use Rattle.machine.specs.Order.{Ord, in-append, in-wide, ord-le, ord-in, seg-le, seg-in, Found, In, lv}
 
 -- The stored descriptors are C ++ D, and then n stands between.
 pub record Placed (from x upto : ℕ) (n : Desc) (without with-it : List Desc) : Type 0 where
@@ -92,7 +93,7 @@ module _ (w x h : ℕ) (t : Tree h) (u : Tree 1) (from upto : ℕ) (F : Found w 
             → lv h (on-latch w x (on-lowest (put-in (made x g))) h t) ≡ (F .A ++ fl (H .pre)) ++ (fl (cond c ((made x g, x) ∷ (H .a, H .u) ∷ []) ((H .a, H .a .key) ∷ (made x g, H .u) ∷ [])) ++ (fl (H .post) ++ F .B))
             → Placed from x upto (made x g) (lv h t) (lv h (on-latch w x (on-lowest (put-in (made x g))) h t))
         go true e q =
-            let le = leb→le x (H .a .key) (rw e tt) in
+            let le = leb-is x (H .a .key) e in
             let up = H .upto in
             record {
               C = F .A ++ fl (H .pre);
@@ -106,7 +107,7 @@ module _ (w x h : ℕ) (t : Tree h) (u : Tree 1) (from upto : ℕ) (F : Found w 
               );
             }
         go false e q =
-            let lt = nleb→lt x (H .a .key) (rw e tt) in
+            let lt = leb-not x (H .a .key) e in
             let up = H .upto in
             record {
               C = (F .A ++ fl (H .pre)) ++ H .a ∷ [];
@@ -119,7 +120,7 @@ module _ (w x h : ℕ) (t : Tree h) (u : Tree 1) (from upto : ℕ) (F : Found w 
             }
 
     taken-placed : H .a .key ≡ x → Placed from x upto (H .a) (lv h (on-latch w x (on-lowest (taken-out x)) h t)) (lv h t)
-    unfolding taken-out leaves
+    unfolding taken-out
     taken-placed e =
         let none-here : Desc → ℕ → Sons 0 = λ _ _. [] in
         let up = H .upto in

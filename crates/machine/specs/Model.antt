@@ -1,24 +1,24 @@
 -- The logical database that a state holds: values of entries, and memberships rising by key then entry.
-use mathlib.Core.Path.{_≡_, refl, sym, ap, ap₂, _∙_, subst}
-use mathlib.Core.Bool.{Bool, true, false, cond, not, _&&_, _||_}
-use mathlib.Core.List.{List, [], _∷_, _++_}
+use mathlib.Core.Path.{_≡_, refl, sym, _∙_, ap₂, subst, ap}
+use mathlib.Core.Bool.{Bool, true, false, cond, _&&_, _||_}
+use mathlib.Core.List.{List, [], _∷_}
 use mathlib.Core.Logic.{_⊎_, inl, inr}
-use Prim.Native.Nat.{ℕ, zero, suc, _+_, _-_, _≤_, _<_}
-use native.Mathlib.Decide.{ℕ-discrete, decLe}
+use Prim.Native.Nat.{suc, _≤_, _<_, ℕ}
+use native.Mathlib.Decide.{ℕ-discrete}
 use native.Mathlib.Omega.{arith}
-use lib.Dec.{leb, eqb, eqb→eq, eqb-refl, leb→le, nleb→lt}
-use Rattle.serial.specs.Serial.{pick, pick-yes, pick-no, true≢false}
+use lib.Dec.{leb, eqb}
+use Rattle.serial.specs.Serial.{pick, pick-yes, pick-no}
 use Rattle.serial.specs.Rising.{has, only, Above, Rising, same?}
-use Rattle.serial.specs.Model.{Item, Db, Pair, by-key, get, in-range, InRange, located}
-use Rattle.serial.specs.Footprints.{Good}
+use Rattle.serial.specs.Model.{Item, Pair, by-key, get, in-range, Db}
 use Rattle.serial.specs.Model as R
-use Rattle.machine.specs.Tree.{leb-yes, leb-no}
+use Rattle.serial.specs.Footprints.{Good}
+use Rattle.machine.specs.Logic.{eqb-yes, eqb-no, leb-is, leb-not}
 use Rattle.machine.specs.Holders.{elem}
 use Rattle.machine.specs.State.{Desc, State, entryOf}
 use Rattle.machine.specs.Steps.{pairs-of, memberships}
-use Rattle.machine.specs.View.{seen, group-in, items}
+use Rattle.machine.specs.View.{group-in, items, seen}
 use Rattle.machine.specs.Order.{In}
-use Rattle.machine.specs.Groups.{Rises, rises-in, rises-wide, group-none}
+use Rattle.machine.specs.Groups.{Rises, rises-in}
 use Rattle.machine.specs.Housekeeping.{lvs, seen-group}
 
 -- Every membership.
@@ -34,20 +34,6 @@ Up lo (e ∷ es) = (lo ≤ e) × Up (suc e) es
 abbrev pub Listed : List Desc → Type 0
 Listed [] = Unit {0}
 Listed (d ∷ l) = Up 1 (d .members) × Listed l
-
-pub eqb-yes : (m n : ℕ) → m ≡ n → eqb m n ≡ true
-eqb-yes m n e = subst (λ k. eqb m k ≡ true) e (at-true (eqb m m) (eqb-refl m))
-  where
-    at-true : (b : Bool) → lib.Dec.T b → b ≡ true
-    at-true true t = refl
-    at-true false t = absurd t
-
-pub eqb-no : (m n : ℕ) → ¬ (m ≡ n) → eqb m n ≡ false
-eqb-no m n h = go (eqb m n) refl
-  where
-    go : (c : Bool) → eqb m n ≡ c → c ≡ false
-    go true e = absurd (h (eqb→eq m n (rw e tt)))
-    go false e = refl
 
 -- ---- which memberships there are
 
@@ -131,9 +117,9 @@ memberships-are lo hi (d ∷ l) = go (leb lo (d .key)) refl (leb (d .key) hi) re
     go : (a : Bool) → leb lo (d .key) ≡ a → (b : Bool) → leb (d .key) hi ≡ b → memberships lo hi l ≡ only by-key (in-range lo hi) (pairs l)
         → cond (a && b) (pairs-of (d .key) (d .members) (memberships lo hi l)) (memberships lo hi l) ≡ only by-key (in-range lo hi) (pairs-of (d .key) (d .members) (pairs l))
     go true p true q ih = ap (pairs-of (d .key) (d .members)) ih
-        ∙ sym (only-in lo hi (d .key) (d .members) (pairs l) (leb→le lo (d .key) (rw p tt)) (leb→le (d .key) hi (rw q tt)))
-    go true p false q ih = ih ∙ sym (only-out lo hi (d .key) (d .members) (pairs l) (λ z. omega (arith, z .1, nleb→lt (d .key) hi (rw q tt))))
-    go false p b q ih = ih ∙ sym (only-out lo hi (d .key) (d .members) (pairs l) (λ z. omega (arith, z .0, nleb→lt lo (d .key) (rw p tt))))
+        ∙ sym (only-in lo hi (d .key) (d .members) (pairs l) (leb-is lo (d .key) p) (leb-is (d .key) hi q))
+    go true p false q ih = ih ∙ sym (only-out lo hi (d .key) (d .members) (pairs l) (λ z. omega (arith, z .1, leb-not (d .key) hi q)))
+    go false p b q ih = ih ∙ sym (only-out lo hi (d .key) (d .members) (pairs l) (λ z. omega (arith, z .0, leb-not lo (d .key) p)))
 
 -- ---- the database
 
@@ -146,3 +132,15 @@ model-good lo hi s r u = rising-pairs lo hi (lvs s) r u
 pub model-is : (lo hi : ℕ) (s : State) → Rises lo hi (lvs s) → (i : Item) → get (model s) i ≡ items s i
 model-is lo hi s r (R.value e) = refl
 model-is lo hi s r (R.cell k e) = has-pairs k e lo hi (lvs s) r ∙ ap (λ g. cond (elem e g) 1 0) (sym (seen-group k s))
+
+-- One membership set to b: every other item stays.
+pub items-set : (k e : ℕ) (b : Bool) (t u : State) → ((z : ℕ) → entryOf z u .value ≡ entryOf z t .value) → elem e (group-in k (seen u)) ≡ b
+    → ((x : ℕ) → ¬ (x ≡ e) → elem x (group-in k (seen u)) ≡ elem x (group-in k (seen t))) → ((j : ℕ) → ¬ (k ≡ j) → group-in j (seen u) ≡ group-in j (seen t))
+    → (i : Item) (d : Dec (R.cell k e ≡ i)) → items u i ≡ pick d (cond b 1 0) (items t i)
+items-set k e b t u v here there other i (yes q) = subst (λ z. items u z ≡ cond b 1 0) q (ap (λ c. cond c 1 0) here)
+items-set k e b t u v here there other (R.value z) (no n) = v z
+items-set k e b t u v here there other (R.cell j x) (no n) = at (ℕ-discrete k j)
+  where
+    at : Dec (k ≡ j) → items u (R.cell j x) ≡ items t (R.cell j x)
+    at (yes q) = subst (λ z. items u (R.cell z x) ≡ items t (R.cell z x)) q (ap (λ c. cond c 1 0) (there x (λ w. n (ap₂ (λ a c. R.cell a c) q (sym w)))))
+    at (no m) = ap (λ g. cond (elem x g) 1 0) (other j m)

@@ -1,26 +1,24 @@
 -- Every call, refused or accepted, moves the lock machine as its answer says. What is asked of a state is one record, Safe.
-use mathlib.Core.Path.{_≡_, refl, sym, ap, ap₂, _∙_, subst}
-use mathlib.Core.Bool.{Bool, true, false, cond, not, _&&_, _||_}
-use mathlib.Core.List.{List, [], _∷_, _++_, map}
+use mathlib.Core.Path.{_≡_, refl}
+use mathlib.Core.Bool.{Bool, true, false}
+use mathlib.Core.List.{[], _∷_}
 use mathlib.Core.Option.{Option, none, some}
-use Prim.Native.Nat.{ℕ, zero, suc, _+_, _-_, _≤_, _<_}
+use Prim.Native.Nat.{zero, suc, _≤_, _<_, ℕ}
 use native.Mathlib.Omega.{arith}
-use lib.Dec.{leb, ltb, eqb, eqb·suc-zero, eqb→eq, nleb→lt}
+use lib.Dec.{eqb·suc-zero}
 use lib.ListN.{length}
-use Rattle.serial.specs.Serial.{true≢false}
-use Rattle.serial.specs.Model.{Req}
-use Rattle.serial.specs.Locks.{strong, weak}
 use Rattle.serial.specs.LockMachine.{Opened, Committed, Aborted, Unseen}
-use Rattle.machine.specs.Holders.{width, latch-word}
-use Rattle.machine.specs.State.{Desc, Stage, start, enter, at, change, take, Request, Session, State, Answer, ok, more, wait, done, refused, Outcome, top, descOf, sessionOf, fresh, set-hand}
-use Rattle.machine.specs.Keeps.{either}
-use Rattle.machine.specs.Steps.{answer, finished, next-step, first-step, enter-step, at-step, read-step, write-step, entry-step}
-use Rattle.machine.specs.View.{view, Same, same-refl, same-unseen, set-hand-same}
+use Rattle.machine.specs.Logic.{not-false, leb-no}
+use Rattle.machine.specs.Holders.{width}
+use Rattle.machine.specs.State.{start, enter, Request, State, Answer, more, wait, done, refused, Outcome, top, descOf, sessionOf, fresh, at, ok}
+use Rattle.machine.specs.Steps.{finished, next-step, first-step, enter-step, at-step, answer}
+use Rattle.machine.specs.Calls.{Call, format, begin, put, step, commit, abort, call, refusing, has-begun, put-checks, step-checks, begin-checks, commit-checks, abort-checks, format-checks, records-for, accepted, begins, commits, aborts, steps, end-hand, first-stage}
+use Rattle.machine.specs.View.{view, same-refl, same-unseen, set-hand-same}
 use Rattle.machine.specs.Descents.{finished-same}
 use Rattle.machine.specs.Housekeeping.{like-unseen, at-step-like, enter-step-like}
+use Rattle.machine.specs.Checks.{refusing-cases, party-number, session-number, party-seat, session-begun, session-unbegun}
 use Rattle.machine.specs.Entries.{Fit}
 use Rattle.machine.specs.Events.{Does, unfinished, asked}
-use Rattle.machine.specs.Calls.{Call, format, begin, put, step, commit, abort, call, refusing, has-begun, in-hand, no-party, no-session, put-checks, request-checks, step-checks, begin-checks, commit-checks, abort-checks, format-checks, records-for, accepted, begins, commits, aborts, steps, end-hand}
 use Rattle.machine.specs.Ends.{begin-opened, commit-committed}
 use Rattle.machine.specs.Abort.{Chain, abort-aborted}
 use Rattle.machine.specs.Session.{Ready, req-of, session-step}
@@ -29,7 +27,7 @@ use Rattle.machine.specs.Session.{Ready, req-of, session-step}
 pub data Tidying (s : State) : Request → Type 0 where
   nothing-above : (e f g : ℕ) → Tidying s (asked 6 e f g start)
   entering : (e f g x : ℕ) → Tidying s (asked 6 e f g (enter x))
-  walking : (e f g x : ℕ) → x ≤ top → descOf x s .key ≡ x → Tidying s (asked 6 e f g (at x))
+  descending : (e f g x : ℕ) → x ≤ top → descOf x s .key ≡ x → Tidying s (asked 6 e f g (at x))
 
 pub record Safe (s : State) : Type 0 where
   pub fit : Fit s
@@ -56,7 +54,7 @@ silent (abort p) a = halted a
 
 -- What a call did, as the lock machine sees it.
 pub data Moves (s : State) (o : Outcome) : Call → Type 0 where
-  -- Refused, waiting, put, a step of a walk or of a tidy: nothing is seen.
+  -- Refused, waiting, put, a step of a descent or of a tidy: nothing is seen.
   quiet : (c : Call) → silent c (o .answer) ≡ true → Unseen (view s) (view (o .next)) → Moves s o c
   tidied : (n : ℕ) → Unseen (view s) (view (o .next)) → Moves s o (step 0 n)
   began : (p : ℕ) → o .answer ≡ ok → Opened p (view s) (view (o .next)) → Moves s o (begin p)
@@ -67,19 +65,6 @@ pub data Moves (s : State) (o : Outcome) : Call → Type 0 where
   formatted : (m words : ℕ) → o .answer ≡ ok → o .next ≡ fresh m (records-for m words) → Moves s o (format m words)
 
 -- ---- refusals
-
-abbrev pub Passed : List (ℕ × Bool) → Type 0
-Passed [] = Unit {0}
-Passed (c ∷ cs) = (c .1 ≡ false) × Passed cs
-
-pub refusing-cases : (P : Outcome → Type 0) (cs : List (ℕ × Bool)) (s : State) (o : Outcome) → ((n : ℕ) → P (answer (refused n 0) s)) → (Passed cs → P o) → P (refusing cs s o)
-unfolding refusing
-refusing-cases P [] s o r d = d tt
-refusing-cases P (c ∷ cs) s o r d = go (c .1) refl (refusing-cases P cs s o r)
-  where
-    go : (b : Bool) → c .1 ≡ b → ((Passed cs → P o) → P (refusing cs s o)) → P (cond b (answer (refused (c .0) 0) s) (refusing cs s o))
-    go true e f = r (c .0)
-    go false e f = f (λ q. d (e, q))
 
 refused-quiet : (c : Call) (s : State) (n : ℕ) → Moves s (answer (refused n 0) s) c
 refused-quiet c s n = quiet c (told c) (same-unseen s s (same-refl s))
@@ -92,84 +77,55 @@ refused-quiet c s n = quiet c (told c) (same-unseen s s (same-refl s))
     told (commit p) = refl
     told (abort p) = refl
 
-pub or-false : (a b : Bool) → (a || b) ≡ false → (a ≡ false) × (b ≡ false)
-or-false true b e = absurd (true≢false {b = true} refl e)
-or-false false b e = (refl, e)
-
-pub not-false : (a : Bool) → not a ≡ false → a ≡ true
-not-false true e = refl
-not-false false e = absurd (true≢false {b = true} refl e)
-
-pub is-session : (p : ℕ) → no-session p ≡ false → (m : ℕ) × (p ≡ suc m) × (suc m ≤ width)
-is-session zero e = absurd (true≢false {b = true} refl e)
-is-session (suc m) e = (m, refl, let w = nleb→lt (suc width) (suc m) (rw (or-false (eqb (suc m) 0) (ltb width (suc m)) e .1) tt) in omega arith)
-
-pub below : (p : ℕ) → ltb width p ≡ false → p ≤ width
-below p e = let w = nleb→lt (suc width) p (rw e tt) in omega arith
-
-pub session-begun : (m : ℕ) (s : State) → has-begun (suc m) s ≡ true → sessionOf (suc m) s .begun ≡ true
-session-begun m s e = sym (ap (λ b. b || sessionOf (suc m) s .begun) (eqb·suc-zero m)) ∙ e
-
-seat : (m : ℕ) (s : State) → Fit s → suc m ≤ width → suc m < length (s .table)
-seat m s F h = let q = F .seats in omega arith
-
 -- ---- the calls
 
 begin-moves : (p : ℕ) (s : State) → Safe s → Moves s (call (begin p) s) (begin p)
 unfolding call
-begin-moves p s S = refusing-cases (λ o. Moves s o (begin p)) (begin-checks p s) s (answer ok (begins p s)) (refused-quiet (begin p) s) λ k. go (is-session p (k .0)) (k .1 .0)
-  where
-    at-suc : (m : ℕ) → suc m ≤ width → has-begun (suc m) s ≡ false → Moves s (answer ok (begins (suc m) s)) (begin (suc m))
-    at-suc m h e = began (suc m) refl (begin-opened (suc m) s (seat m s (S .fit) h) (or-false (eqb (suc m) 0) (sessionOf (suc m) s .begun) e .1))
-
-    go : (m : ℕ) × (p ≡ suc m) × (suc m ≤ width) → has-begun p s ≡ false → Moves s (answer ok (begins p s)) (begin p)
-    go q e = subst (λ n. has-begun n s ≡ false → Moves s (answer ok (begins n s)) (begin n)) (sym (q .1)) (at-suc (q .0) (q .2)) e
+begin-moves p s S = refusing-cases (λ o. Moves s o (begin p)) (begin-checks p s) s (answer ok (begins p s)) (refused-quiet (begin p) s)
+    λ k. began p refl (begin-opened p s (party-seat p s (S .fit .seats) (session-number p (k .0) .1)) (session-unbegun p s (k .1 .0)))
 
 commit-moves : (p : ℕ) (s : State) → Safe s → Moves s (call (commit p) s) (commit p)
 unfolding call
-commit-moves p s S = refusing-cases (λ o. Moves s o (commit p)) (commit-checks p s) s (answer ok (commits p s)) (refused-quiet (commit p) s) λ k. go (is-session p (k .0)) (not-false (has-begun p s) (k .1 .0))
-  where
-    at-suc : (m : ℕ) → suc m ≤ width → has-begun (suc m) s ≡ true → Moves s (answer ok (commits (suc m) s)) (commit (suc m))
-    at-suc m h e = committed (suc m) refl (commit-committed (suc m) s (seat m s (S .fit) h) (session-begun m s e))
-
-    go : (m : ℕ) × (p ≡ suc m) × (suc m ≤ width) → has-begun p s ≡ true → Moves s (answer ok (commits p s)) (commit p)
-    go q e = subst (λ n. has-begun n s ≡ true → Moves s (answer ok (commits n s)) (commit n)) (sym (q .1)) (at-suc (q .0) (q .2)) e
+commit-moves p s S = refusing-cases (λ o. Moves s o (commit p)) (commit-checks p s) s (answer ok (commits p s)) (refused-quiet (commit p) s) λ k.
+    let n = session-number p (k .0) in
+    committed p refl (commit-committed p s (party-seat p s (S .fit .seats) (n .1)) (session-begun p s (n .0) (not-false (has-begun p s) (k .1 .0))))
 
 abort-moves : (p : ℕ) (s : State) → Safe s → Moves s (call (abort p) s) (abort p)
 unfolding call
-abort-moves p s S = refusing-cases (λ o. Moves s o (abort p)) (abort-checks p s) s (answer ok (aborts p s)) (refused-quiet (abort p) s) λ k. go (is-session p (k .0)) (not-false (has-begun p s) (k .1 .0))
+abort-moves p s S = refusing-cases (λ o. Moves s o (abort p)) (abort-checks p s) s (answer ok (aborts p s)) (refused-quiet (abort p) s) λ k.
+    go p (session-number p (k .0)) (not-false (has-begun p s) (k .1 .0))
   where
-    at-suc : (m : ℕ) → suc m ≤ width → has-begun (suc m) s ≡ true → Moves s (answer ok (aborts (suc m) s)) (abort (suc m))
-    at-suc m h e = aborted (suc m) refl (abort-aborted (suc m) s (S .seats m h) (session-begun m s e) (S .chains m (session-begun m s e)))
-
-    go : (m : ℕ) × (p ≡ suc m) × (suc m ≤ width) → has-begun p s ≡ true → Moves s (answer ok (aborts p s)) (abort p)
-    go q e = subst (λ n. has-begun n s ≡ true → Moves s (answer ok (aborts n s)) (abort n)) (sym (q .1)) (at-suc (q .0) (q .2)) e
+    go : (q : ℕ) → ¬ (q ≡ 0) × (q ≤ width) → has-begun q s ≡ true → Moves s (answer ok (aborts q s)) (abort q)
+    go zero n b = absurd (n .0 refl)
+    go (suc m) n b = let w = session-begun (suc m) s (n .0) b in aborted (suc m) refl (abort-aborted (suc m) s (S .seats m (n .1)) w (S .chains m w))
 
 -- An abort of a session that is begun is accepted.
 pub abort-accepted : (m : ℕ) (s : State) → suc m ≤ width → sessionOf (suc m) s .begun ≡ true → call (abort (suc m)) s .answer ≡ ok
 unfolding call refusing
-abort-accepted m s h e = rw (eqb·suc-zero m, Rattle.machine.specs.Tree.leb-no 17 (suc m) (omega (arith, h)), e) refl
+abort-accepted m s h e = rw (eqb·suc-zero m, leb-no 17 (suc m) (omega (arith, h)), e) refl
 
 put-moves : (p c e f g : ℕ) (s : State) → Moves s (call (put p c e f g) s) (put p c e f g)
 unfolding call accepted
 put-moves p c e f g s = refusing-cases (λ o. Moves s o (put p c e f g)) (put-checks p c e f g s) s (answer ok (accepted p c e f g s)) (refused-quiet (put p c e f g) s) λ k.
-    quiet (put p c e f g) refl (same-unseen s (accepted p c e f g s) (set-hand-same p (some (record { code = c; entry = e; first = f; second = g; stage = Rattle.machine.specs.Calls.first-stage c f s })) s))
+    quiet (put p c e f g) refl (same-unseen s (accepted p c e f g s) (set-hand-same p (some (record { code = c; entry = e; first = f; second = g; stage = first-stage c f s })) s))
 
 tidy-unseen : (n : ℕ) (s : State) → Fit s → (r : Request) → Tidying s r → Unseen (view s) (view (next-step n 0 r s (r .stage) .next))
 unfolding next-step first-step
 tidy-unseen n s F r (nothing-above e f g) = same-unseen s (finished 0 (asked 6 e f g start) (0 ∷ 0 ∷ []) s .next) (finished-same 0 (asked 6 e f g start) (0 ∷ 0 ∷ []) s s (same-refl s))
 tidy-unseen n s F r (entering e f g x) = like-unseen s (enter-step 0 (asked 6 e f g (enter x)) x s .next) (enter-step-like 0 (asked 6 e f g (enter x)) x s)
-tidy-unseen n s F r (walking e f g x h q) = like-unseen s (at-step 0 (asked 6 e f g (at x)) x s .next) (at-step-like 0 (asked 6 e f g (at x)) x s (F .ordered) h (λ z. q))
+tidy-unseen n s F r (descending e f g x h q) = like-unseen s (at-step 0 (asked 6 e f g (at x)) x s .next) (at-step-like 0 (asked 6 e f g (at x)) x s (F .ordered) h (λ z. q))
 
 step-moves : (p n : ℕ) (s : State) → Safe s → Moves s (call (step p n) s) (step p n)
 unfolding call steps
 step-moves p n s S = refusing-cases (λ o. Moves s o (step p n)) (step-checks p s) s (steps p n (sessionOf p s .hand) s) (refused-quiet (step p n) s) λ k.
-    go p (below p (k .0)) (not-false (has-begun p s) (k .1 .0)) (sessionOf p s .hand) refl
+    go p (party-number p (k .0)) (not-false (has-begun p s) (k .1 .0)) (sessionOf p s .hand) refl
   where
     go : (q : ℕ) → q ≤ width → has-begun q s ≡ true → (h : Option Request) → sessionOf q s .hand ≡ h → Moves s (steps q n h s) (step q n)
     go q le b none e = quiet (step q n) refl (same-unseen s s (same-refl s))
     go zero le b (some r) e = tidied n (tidy-unseen n s (S .fit) r (S .tidying r e))
-    go (suc m) le b (some r) e = stepped m n r e (session-step n m s (S .fit) (session-begun m s b) le r (S .ready m r (session-begun m s b) le e))
+    go (suc m) le b (some r) e =
+        let w = session-begun (suc m) s (λ z. omega (arith, z)) b in
+        stepped m n r e (session-step n m s (S .fit) w le r (S .ready m r w le e))
 
 format-moves : (m words : ℕ) (s : State) → Moves s (call (format m words) s) (format m words)
 unfolding call

@@ -1,29 +1,47 @@
--- The lowest stored descriptor from a key on, which a locate takes next; and what the locate holds below it.
-use mathlib.Core.Path.{_≡_, refl, sym, ap, _∙_, subst}
+-- The lowest stored descriptor from a key on: tidy's choice, and what a locate takes next; and what the locate holds below it.
+use mathlib.Core.Path.{_≡_, refl, sym, _∙_, subst, ap}
 use mathlib.Core.Bool.{Bool, true, false, cond}
 use mathlib.Core.List.{List, [], _∷_, _++_}
 use mathlib.Core.Logic.{inl, inr}
-use mathlib.Core.Option.{some}
-use Prim.Native.Nat.{ℕ, suc, _-_, _≤_, _<_}
+use mathlib.Core.Option.{some, Option·none-ne-some, Option·some-injective}
+use Prim.Native.Nat.{suc, _-_, _≤_, _<_, ℕ}
 use native.Mathlib.Decide.{ℕ-discrete}
 use native.Mathlib.Omega.{arith}
-use lib.Dec.{eqb, eqb→eq}
+use lib.Dec.{eqb, leb}
 use Rattle.serial.specs.Serial.{true≢false}
 use Rattle.serial.specs.Locks.{weak}
 use Rattle.serial.specs.Locks as L
-use Rattle.machine.specs.Gaps.{locators, gaps, Stored, locators-gap}
-use Rattle.machine.specs.Tree.{leb-yes, leb-no, Cmp, low, high, cmp}
+use Rattle.machine.specs.Logic.{leb-yes, leb-no, eqb-is, leb-is, eqb-yes}
 use Rattle.machine.specs.Holders.{holds}
+use Rattle.machine.specs.Tree.{Cmp, high, cmp, low}
 use Rattle.machine.specs.State.{Desc, take, Request, State, or-none, sessionOf, stored, lowest-from}
+use Rattle.machine.specs.Gaps.{locators, gaps, Stored, locators-gap}
 use Rattle.machine.specs.View.{seen, locate-word, holders}
+use Rattle.machine.specs.Sound.{gap-word, stored-in, Stands, Passing, Sound}
 use Rattle.machine.specs.Order.{In}
 use Rattle.machine.specs.Groups.{words, Rises, rises-in, rising-words}
 use Rattle.machine.specs.Housekeeping.{Ordered, lvs, seen-words}
 use Rattle.machine.specs.Keys.{Kept}
-use Rattle.machine.specs.Sound.{gap-word, stored-in, Stands, Passing, Sound}
 use Rattle.machine.specs.Looks.{stored-range, stored-behind, stored-here, sound-ordered, ordered-rises, kept-at, take-stored}
 
 -- ---- lists
+
+-- The lowest stored descriptor from a key on is stored.
+pub lowest-stored : (k : ℕ) (l : List Desc) (d : Desc) → lowest-from k l ≡ some d → (k ≤ d .key) × (stored-in (d .key) l ≡ true)
+unfolding lowest-from stored-in
+lowest-stored k [] d e = absurd (Option·none-ne-some d e)
+lowest-stored k (x ∷ l) d e = go (leb k (x .key)) refl e (lowest-stored k l d)
+  where
+    either-way : (b c : Bool) → c ≡ true → cond b true c ≡ true
+    either-way true c e = refl
+    either-way false c e = e
+
+    go : (o : Bool) → leb k (x .key) ≡ o → cond o (some x) (lowest-from k l) ≡ some d → (lowest-from k l ≡ some d → (k ≤ d .key) × (stored-in (d .key) l ≡ true))
+        → (k ≤ d .key) × (cond (eqb (x .key) (d .key)) true (stored-in (d .key) l) ≡ true)
+    go true q e ih =
+        let z = ap (λ y. y .key) (Option·some-injective x d e) in
+        (subst (λ n. k ≤ n) z (leb-is k (x .key) q), ap (λ b. cond b true (stored-in (d .key) l)) (eqb-yes (x .key) (d .key) z))
+    go false q e ih = (ih e .0, either-way (eqb (x .key) (d .key)) (stored-in (d .key) l) (ih e .1))
 
 pub record Nearest (x : ℕ) (l : List Desc) : Type 0 where
   pub d : Desc
@@ -39,7 +57,7 @@ unfolding stored-in
 stored-past x y a l b c i = at (eqb (a .key) y) refl i
   where
     at : (o : Bool) → eqb (a .key) y ≡ o → cond o true (stored-in y l) ≡ true → stored-in y l ≡ true
-    at true z w = absurd (omega (arith, eqb→eq (a .key) y (rw z tt), b, c))
+    at true z w = absurd (omega (arith, eqb-is (a .key) y z, b, c))
     at false z w = w
 
 head-least : (y lo e : ℕ) (a : Desc) (l : List Desc) → Rises lo e (a ∷ l) → stored-in y (a ∷ l) ≡ true → a .key ≤ y
@@ -47,7 +65,7 @@ unfolding stored-in
 head-least y lo e a l r i = at (eqb (a .key) y) refl i
   where
     at : (o : Bool) → eqb (a .key) y ≡ o → cond o true (stored-in y l) ≡ true → a .key ≤ y
-    at true z w = omega (arith, eqb→eq (a .key) y (rw z tt))
+    at true z w = omega (arith, eqb-is (a .key) y z)
     at false z w = omega (arith, stored-range y (suc (a .key)) e l (rises-in (suc (a .key)) e l (r .1)) w .0)
 
 lowest-head : (x : ℕ) (a : Desc) (l : List Desc) → x ≤ a .key → lowest-from x (a ∷ l) ≡ some a

@@ -1,12 +1,12 @@
 -- Keys in order: the node where a party stands, and the descriptor on the path to a key, cut the stored descriptors in three.
-use mathlib.Core.Path.{_≡_, refl, ap, ap₂, sym, _∙_, subst}
-use mathlib.Core.Bool.{Bool, true, false, cond, _&&_}
-use mathlib.Core.List.{List, [], _∷_, _++_, append-assoc, append-nil, map}
-use mathlib.Core.Option.{Option, none, some}
-use Prim.Native.Nat.{ℕ, zero, suc, _+_, _-_, _≤_, _<_}
+use mathlib.Core.Path.{_≡_, refl, sym, _∙_, ap}
+use mathlib.Core.Bool.{Bool, true, false, cond}
+use mathlib.Core.List.{List, [], _∷_, _++_, append-assoc, append-nil}
+use mathlib.Core.Option.{none, some}
+use Prim.Native.Nat.{zero, suc, _≤_, _<_, ℕ}
 use native.Mathlib.Omega.{arith}
-use lib.Dec.{leb, eqb, leb→le}
-use Rattle.machine.specs.Tree.{Node, T, onp, pick, flat, Seg, leaves, leafAt, flat-append, Below, Hit, hit, onp-hit, pick-hit}
+use lib.Dec.{eqb}
+use Rattle.machine.specs.Tree.{onp, pick, flat, Seg, leaves, leafAt, flat-append, Below, Hit, hit, onp-hit, pick-hit}
 use Rattle.machine.specs.State.{Desc, Tree, on-leaf}
 use Rattle.machine.specs.Descent.{Sons, at-latch, on-latch}
 
@@ -89,9 +89,72 @@ on-latch-below w x f h t pre a u post e q b le =
     rw e (ap (λ l. record { latch = t .latch; sons = l })
     (ap (onp x (λ c v. (on-latch w x f h c, v) ∷ [])) q ∙ onp-hit x (λ c v. (on-latch w x f h c, v) ∷ []) pre a u post b le))
 
+-- The son on the path to x, with what lies before and behind it.
+module _ (h : ℕ) {x from hi : ℕ} {es : Sons h} (H : Hit (Ord h) x from (suc hi) es) where
+  abbrev hit-before : List Desc
+  hit-before = flat (leaves Desc ℕ h) (H .pre)
+
+  abbrev hit-behind : List Desc
+  hit-behind = flat (leaves Desc ℕ h) (H .post)
+
+  hit-from : from ≤ H .m
+  hit-from = seg-le (Ord h) (ord-le h) from (H .m) (H .pre) (H .spre)
+
+  hit-upto : suc (H .u) ≤ suc hi
+  hit-upto = seg-le (Ord h) (ord-le h) (suc (H .u)) (suc hi) (H .post) (H .spost)
+
+  hit-low : (lo : ℕ) (A : List Desc) → H .m ≤ lo → In (H .m) lo A → In from lo (hit-before ++ A)
+  hit-low lo A le i = in-append from lo hit-before A
+      (in-wide from (H .m) from lo hit-before (seg-in (Ord h) (leaves Desc ℕ h) (ord-le h) (ord-in h) from (H .m) (H .pre) (H .spre)) (omega arith) le)
+      (in-wide (H .m) lo from lo A i hit-from (omega arith))
+
+  hit-high : (up : ℕ) (B : List Desc) → suc up ≤ suc (H .u) → In (suc up) (suc (H .u)) B → In (suc up) (suc hi) (B ++ hit-behind)
+  hit-high up B le i = in-append (suc up) (suc hi) B hit-behind
+      (in-wide (suc up) (suc (H .u)) (suc up) (suc hi) B i (omega arith) hit-upto)
+      (in-wide (suc (H .u)) (suc hi) (suc up) (suc hi) hit-behind (seg-in (Ord h) (leaves Desc ℕ h) (ord-le h) (ord-in h) (suc (H .u)) (suc hi) (H .post) (H .spost)) le (omega arith))
+
+module _ (w x h : ℕ) (t : Tree (suc h)) (from hi : ℕ) (o : Ord (suc h) from hi t) (a : from ≤ x) (b : x ≤ hi) where
+  found-here : eqb (t .latch) w ≡ true → Found w x (suc h) t h t from (suc hi)
+  found-here e = record {
+    A = [];
+    B = [];
+    lo = from;
+    hi = hi;
+    at-least = a;
+    at-most = b;
+    from-lo = omega arith;
+    hi-upto = omega arith;
+    ord = o;
+    low = tt;
+    high = tt;
+    was = sym (append-nil (lv (suc h) t));
+    leaf = refl;
+    put = λ f. unfold on-latch in (rw e (sym (append-nil (lv (suc h) (f h t)))));
+  }
+
+  found-below : eqb (t .latch) w ≡ false → (H : Hit (Ord h) x from (suc hi) (t .sons)) (k : ℕ) (u : Tree (suc k)) → Found w x h (H .a) k u (H .m) (suc (H .u)) → Found w x (suc h) t k u from (suc hi)
+  unfolding leaves leafAt
+  found-below e H k u F = record {
+    A = hit-before h H ++ F .A;
+    B = F .B ++ hit-behind h H;
+    lo = F .lo;
+    hi = F .hi;
+    at-least = F .at-least;
+    at-most = F .at-most;
+    from-lo = omega (arith, hit-from h H, F .from-lo);
+    hi-upto = omega (arith, hit-upto h H, F .hi-upto);
+    ord = F .ord;
+    low = hit-low h H (F .lo) (F .A) (F .from-lo) (F .low);
+    high = hit-high h H (F .hi) (F .B) (F .hi-upto) (F .high);
+    was = ap (flat (leaves Desc ℕ h)) (H .eq) ∙ flat-mid (leaves Desc ℕ h) (H .pre) (H .a) (H .u) (H .post) (F .A) (lv (suc k) u) (F .B) (F .was);
+    leaf = ap (pick x none (leafAt Desc ℕ x h)) (H .eq) ∙ pick-hit x none (leafAt Desc ℕ x h) (H .pre) (H .a) (H .u) (H .post) (H .below) (H .upto) ∙ F .leaf;
+    put = λ f. ap (lv (suc h)) (on-latch-below w x f h t (H .pre) (H .a) (H .u) (H .post) e (H .eq) (H .below) (H .upto))
+        ∙ flat-mid (leaves Desc ℕ h) (H .pre) (on-latch w x f h (H .a)) (H .u) (H .post) (F .A) (lv (suc k) (f k u)) (F .B) (F .put f);
+  }
+
 pub found-cases : {Z : Type 0} (P : Z → Type 0) (w x : ℕ) (z : Z) (g : (k : ℕ) → Tree (suc k) → Z) (h : ℕ) (t : Tree h) (from hi : ℕ) → Ord h from hi t → from ≤ x → x ≤ hi
     → P z → ((k : ℕ) (u : Tree (suc k)) → Found w x h t k u from (suc hi) → P (g k u)) → P (at-latch w x z g h t)
-unfolding at-latch Ord leaves leafAt
+unfolding at-latch Ord
 found-cases P w x z g zero t from hi o a b pz pg = pz
 found-cases P w x z g (suc h) t from hi o a b pz pg =
     let H = hit (Ord h) x from (suc hi) (t .sons) o a (omega (arith, b)) in
@@ -100,48 +163,8 @@ found-cases P w x z g (suc h) t from hi o a b pz pg =
     go : (c : Bool) → eqb (t .latch) w ≡ c → (H : Hit (Ord h) x from (suc hi) (t .sons))
         → (((k : ℕ) (u : Tree (suc k)) → Found w x h (H .a) k u (H .m) (suc (H .u)) → P (g k u)) → P (at-latch w x z g h (H .a)))
         → P (cond c (g h t) (pick x z (at-latch w x z g h) (t .sons)))
-    go true e H ih = pg h t (record {
-      A = [];
-      B = [];
-      lo = from;
-      hi = hi;
-      at-least = a;
-      at-most = b;
-      from-lo = omega arith;
-      hi-upto = omega arith;
-      ord = o;
-      low = tt;
-      high = tt;
-      was = sym (append-nil (lv (suc h) t));
-      leaf = refl;
-      put = λ f. unfold on-latch in (rw e (sym (append-nil (lv (suc h) (f h t)))));
-    })
-    go false e H ih =
-        let fm : from ≤ H .m = seg-le (Ord h) (ord-le h) from (H .m) (H .pre) (H .spre) in
-        let uh : suc (H .u) ≤ suc hi = seg-le (Ord h) (ord-le h) (suc (H .u)) (suc hi) (H .post) (H .spost) in
-        let pre = flat (leaves Desc ℕ h) (H .pre) in
-        let post = flat (leaves Desc ℕ h) (H .post) in
-        rw (H .eq, pick-hit x z (at-latch w x z g h) (H .pre) (H .a) (H .u) (H .post) (H .below) (H .upto)) (ih (λ k u F. pg k u (record {
-          A = pre ++ F .A;
-          B = F .B ++ post;
-          lo = F .lo;
-          hi = F .hi;
-          at-least = F .at-least;
-          at-most = F .at-most;
-          from-lo = omega (arith, fm, F .from-lo);
-          hi-upto = omega (arith, uh, F .hi-upto);
-          ord = F .ord;
-          low = in-append from (F .lo) pre (F .A)
-              (in-wide from (H .m) from (F .lo) pre (seg-in (Ord h) (leaves Desc ℕ h) (ord-le h) (ord-in h) from (H .m) (H .pre) (H .spre)) (omega arith) (F .from-lo))
-              (in-wide (H .m) (F .lo) from (F .lo) (F .A) (F .low) fm (omega arith));
-          high = in-append (suc (F .hi)) (suc hi) (F .B) post
-              (in-wide (suc (F .hi)) (suc (H .u)) (suc (F .hi)) (suc hi) (F .B) (F .high) (omega arith) uh)
-              (in-wide (suc (H .u)) (suc hi) (suc (F .hi)) (suc hi) post (seg-in (Ord h) (leaves Desc ℕ h) (ord-le h) (ord-in h) (suc (H .u)) (suc hi) (H .post) (H .spost)) (F .hi-upto) (omega arith));
-          was = ap (flat (leaves Desc ℕ h)) (H .eq) ∙ flat-mid (leaves Desc ℕ h) (H .pre) (H .a) (H .u) (H .post) (F .A) (lv (suc k) u) (F .B) (F .was);
-          leaf = ap (pick x none (leafAt Desc ℕ x h)) (H .eq) ∙ pick-hit x none (leafAt Desc ℕ x h) (H .pre) (H .a) (H .u) (H .post) (H .below) (H .upto) ∙ F .leaf;
-          put = λ f. ap (lv (suc h)) (on-latch-below w x f h t (H .pre) (H .a) (H .u) (H .post) e (H .eq) (H .below) (H .upto))
-              ∙ flat-mid (leaves Desc ℕ h) (H .pre) (on-latch w x f h (H .a)) (H .u) (H .post) (F .A) (lv (suc k) (f k u)) (F .B) (F .put f);
-        })))
+    go true e H ih = pg h t (found-here w x h t from hi o a b e)
+    go false e H ih = rw (H .eq, pick-hit x z (at-latch w x z g h) (H .pre) (H .a) (H .u) (H .post) (H .below) (H .upto)) (ih (λ k u F. pg k u (found-below w x h t from hi o a b e H k u F)))
 
 -- ---- the descriptor on the path to a key
 
@@ -162,6 +185,28 @@ pub record Cut (x h : ℕ) (t : Tree h) (from upto : ℕ) : Type 0 where
   pub was : lv h t ≡ A ++ d ∷ B
   pub leaf : leafAt Desc ℕ x h t ≡ some d
   pub put : (f : Desc → Desc) → lv h (on-leaf x f h t) ≡ A ++ f d ∷ B
+
+cut-below : (x h : ℕ) (t : Tree (suc h)) (from hi : ℕ) (H : Hit (Ord h) x from (suc hi) (t .sons)) → Cut x h (H .a) (H .m) (suc (H .u)) → Cut x (suc h) t from (suc hi)
+unfolding leaves leafAt on-leaf
+cut-below x h t from hi H C = record {
+  A = hit-before h H ++ C .A;
+  d = C .d;
+  B = C .B ++ hit-behind h H;
+  lo = C .lo;
+  hi = C .hi;
+  at-least = C .at-least;
+  at-most = C .at-most;
+  from-lo = omega (arith, hit-from h H, C .from-lo);
+  hi-upto = omega (arith, hit-upto h H, C .hi-upto);
+  key-lo = C .key-lo;
+  key-hi = C .key-hi;
+  low = hit-low h H (C .lo) (C .A) (C .from-lo) (C .low);
+  high = hit-high h H (C .hi) (C .B) (C .hi-upto) (C .high);
+  was = ap (flat (leaves Desc ℕ h)) (H .eq) ∙ flat-mid (leaves Desc ℕ h) (H .pre) (H .a) (H .u) (H .post) (C .A) (C .d ∷ []) (C .B) (C .was);
+  leaf = ap (pick x none (leafAt Desc ℕ x h)) (H .eq) ∙ pick-hit x none (leafAt Desc ℕ x h) (H .pre) (H .a) (H .u) (H .post) (H .below) (H .upto) ∙ C .leaf;
+  put = λ f. ap (flat (leaves Desc ℕ h)) (ap (onp x (λ c v. (on-leaf x f h c, v) ∷ [])) (H .eq) ∙ onp-hit x (λ c v. (on-leaf x f h c, v) ∷ []) (H .pre) (H .a) (H .u) (H .post) (H .below) (H .upto))
+      ∙ flat-mid (leaves Desc ℕ h) (H .pre) (on-leaf x f h (H .a)) (H .u) (H .post) (C .A) (f (C .d) ∷ []) (C .B) (C .put f);
+}
 
 pub cut : (x h : ℕ) (t : Tree h) (from hi : ℕ) → Ord h from hi t → from ≤ x → x ≤ hi → Cut x h t from (suc hi)
 unfolding Ord leaves leafAt on-leaf
@@ -185,31 +230,4 @@ cut x zero t from hi o a b = record {
 }
 cut x (suc h) t from hi o a b =
     let H = hit (Ord h) x from (suc hi) (t .sons) o a (omega (arith, b)) in
-    let C = cut x h (H .a) (H .m) (H .u) (H .here) (H .from) (H .upto) in
-    let fm : from ≤ H .m = seg-le (Ord h) (ord-le h) from (H .m) (H .pre) (H .spre) in
-    let uh : suc (H .u) ≤ suc hi = seg-le (Ord h) (ord-le h) (suc (H .u)) (suc hi) (H .post) (H .spost) in
-    let pre = flat (leaves Desc ℕ h) (H .pre) in
-    let post = flat (leaves Desc ℕ h) (H .post) in
-    record {
-      A = pre ++ C .A;
-      d = C .d;
-      B = C .B ++ post;
-      lo = C .lo;
-      hi = C .hi;
-      at-least = C .at-least;
-      at-most = C .at-most;
-      from-lo = omega (arith, fm, C .from-lo);
-      hi-upto = omega (arith, uh, C .hi-upto);
-      key-lo = C .key-lo;
-      key-hi = C .key-hi;
-      low = in-append from (C .lo) pre (C .A)
-          (in-wide from (H .m) from (C .lo) pre (seg-in (Ord h) (leaves Desc ℕ h) (ord-le h) (ord-in h) from (H .m) (H .pre) (H .spre)) (omega arith) (C .from-lo))
-          (in-wide (H .m) (C .lo) from (C .lo) (C .A) (C .low) fm (omega arith));
-      high = in-append (suc (C .hi)) (suc hi) (C .B) post
-          (in-wide (suc (C .hi)) (suc (H .u)) (suc (C .hi)) (suc hi) (C .B) (C .high) (omega arith) uh)
-          (in-wide (suc (H .u)) (suc hi) (suc (C .hi)) (suc hi) post (seg-in (Ord h) (leaves Desc ℕ h) (ord-le h) (ord-in h) (suc (H .u)) (suc hi) (H .post) (H .spost)) (C .hi-upto) (omega arith));
-      was = ap (flat (leaves Desc ℕ h)) (H .eq) ∙ flat-mid (leaves Desc ℕ h) (H .pre) (H .a) (H .u) (H .post) (C .A) (C .d ∷ []) (C .B) (C .was);
-      leaf = ap (pick x none (leafAt Desc ℕ x h)) (H .eq) ∙ pick-hit x none (leafAt Desc ℕ x h) (H .pre) (H .a) (H .u) (H .post) (H .below) (H .upto) ∙ C .leaf;
-      put = λ f. ap (flat (leaves Desc ℕ h)) (ap (onp x (λ c v. (on-leaf x f h c, v) ∷ [])) (H .eq) ∙ onp-hit x (λ c v. (on-leaf x f h c, v) ∷ []) (H .pre) (H .a) (H .u) (H .post) (H .below) (H .upto))
-          ∙ flat-mid (leaves Desc ℕ h) (H .pre) (on-leaf x f h (H .a)) (H .u) (H .post) (C .A) (f (C .d) ∷ []) (C .B) (C .put f);
-    }
+    cut-below x h t from hi H (cut x h (H .a) (H .m) (H .u) (H .here) (H .from) (H .upto))

@@ -1,22 +1,23 @@
 -- One level down, at the parent: the sons that take part, and the latches there before and after the step.
-use mathlib.Core.Path.{_≡_, refl, ap, sym, _∙_, subst}
+use mathlib.Core.Path.{_≡_, refl, sym, _∙_, subst, ap}
 use mathlib.Core.Bool.{Bool, true, false, cond, _||_, false≢true}
 use mathlib.Core.List.{List, [], _∷_, _++_, map}
 use mathlib.Core.Logic.{_⊎_, inl, inr}
-use Prim.Native.Nat.{ℕ, zero, suc, _+_, _-_, _≤_, _<_}
+use Prim.Native.Nat.{zero, suc, _+_, _-_, _≤_, _<_, ℕ}
 use native.Mathlib.Omega.{arith}
-use lib.Dec.{leb, eqb, eqb→eq}
+use lib.Dec.{leb, eqb}
 use lib.ListN.{length, getD, take, drop, length-append, length-take, length-drop}
-use Rattle.machine.specs.Tree.{onp, pick, sumE, sumE-append, Seg, Below, leb-yes, leb-no, Cmp, low, high, cmp, Hit, hit, onp-hit, pick-hit}
+use Rattle.machine.specs.Logic.{leb-yes, leb-no, eqb-yes, eqb-no, eqb-is}
 use Rattle.machine.specs.Holders.{latch-word, elem, latch-blockers}
+use Rattle.machine.specs.Tree.{onp, pick, sumE, sumE-append, Seg, Below, Cmp, low, high, cmp, Hit, hit, onp-hit, pick-hit}
 use Rattle.machine.specs.State.{Tree, same}
 use Rattle.machine.specs.Descent.{Sons, node, sons-of, halves, down-to, on-last, last-of, joined, moved-right, moved-left, joins, mended, on-pair, pick-pair}
 use Rattle.machine.specs.Steps.{stepped, taking-part, son-at, level-blockers, is-empty, descended}
 use Rattle.machine.specs.Sound.{Shaped, OnPath, Latched, latch-count}
-use Rattle.machine.specs.Model.{eqb-yes, eqb-no}
+use Rattle.machine.specs.Looks.{shaped-le}
 use Rattle.machine.specs.Fanout.{last-one, length-last, halves-seg, of-pair, mended-seg, PairHit, pair-hit}
 use Rattle.machine.specs.Paths.{path-swap, path-left, path-right, first-bound, last-bound}
-use Rattle.machine.specs.Latched.{shaped-le, no-leaf, bit-yes, bit-no, latched-here, latched-under, under-latched, Others}
+use Rattle.machine.specs.Latched.{no-leaf, bit-yes, bit-no, latched-here, latched-under, under-latched, Others}
 use Rattle.machine.specs.Regroup.{Grouped, Without, grouped-of, grouped-all, Regrouped, regroup-paths, regroup-below, own-count, count-parts, no-latches, regroup-count, relatched-regroup, halves-regroup, joined-regroup, right-regroup, left-regroup}
 
 -- ---- latches in the way
@@ -44,8 +45,8 @@ free-words p (w ∷ ws) e =
     rest false m q = absurd (nonempty q)
 
     word : (b : Bool) → eqb w 0 ≡ b → (c : Bool) → eqb w (latch-word p) ≡ c → cond (b || c || false) [] ((w - 1) ∷ []) ≡ [] → Free p w
-    word true f c g q = inl (eqb→eq w 0 (rw f tt))
-    word false f true g q = inr (eqb→eq w (latch-word p) (rw g tt))
+    word true f c g q = inl (eqb-is w 0 f)
+    word false f true g q = inr (eqb-is w (latch-word p) g)
     word false f false g q = absurd (nonempty q)
 
 pub free-other : (p q w : ℕ) → ¬ (p ≡ q) → Free p w → ¬ (w ≡ latch-word q)
@@ -317,7 +318,7 @@ part zero x h lo hi es s lx xh n bs = go (eqb (sons-of t) 3) refl bs
 
     go : (c : Bool) → eqb (sons-of t) 3 ≡ c → latch-blockers 0 (cond c (pick-pair x [] (λ a b. a .0 .latch ∷ b .0 .latch ∷ []) es) (t .latch ∷ [])) ≡ []
         → Part 0 x h es (cond c (on-pair x (mended 1 x h) es) (onp x (λ a u. (node 1 (a .sons), u) ∷ []) es))
-    go true e b = part-pair x h lo hi es s lx xh (n refl) (eqb→eq (sons-of t) 3 (rw e tt)) (free-words 0 (pick-pair x [] (λ a b. a .0 .latch ∷ b .0 .latch ∷ []) es) b)
+    go true e b = part-pair x h lo hi es s lx xh (n refl) (eqb-is (sons-of t) 3 e) (free-words 0 (pick-pair x [] (λ a b. a .0 .latch ∷ b .0 .latch ∷ []) es) b)
     go false e b = part-one 0 x h lo hi es s lx xh (λ a u. (node 1 (a .sons), u) ∷ []) (free-words 0 (t .latch ∷ []) b .0)
         (λ m u a q S l. relatched-swap 0 x h m u a l S (subst (λ c. 4 ≤ sons-of c) q four))
       where
@@ -335,7 +336,7 @@ part (suc k) x h lo hi es s lx xh n bs =
     go : (c : Bool) → eqb (sons-of t) 8 ≡ c → Free (suc k) (t .latch)
         → Part (suc k) x h es (cond c (onp x (halves (latch-word (suc k)) x h) es) (onp x (λ a u. (node (latch-word (suc k)) (a .sons), u) ∷ []) es))
     go true e b = part-one (suc k) x h lo hi es s lx xh (halves (latch-word (suc k)) x h) b
-        (λ m u a q S l. halves-swap (suc k) x h m u a l 3 S (sym (ap (λ c. sons-of c) q) ∙ eqb→eq (sons-of t) 8 (rw e tt)) (omega arith))
+        (λ m u a q S l. halves-swap (suc k) x h m u a l 3 S (sym (ap (λ c. sons-of c) q) ∙ eqb-is (sons-of t) 8 e) (omega arith))
     go false e b = part-one (suc k) x h lo hi es s lx xh (λ a u. (node (latch-word (suc k)) (a .sons), u) ∷ []) b
         (λ m u a q S l. relatched-swap (suc k) x h m u a l S (subst (λ c. sons-of c ≤ 7) q seven))
       where

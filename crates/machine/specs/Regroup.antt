@@ -1,9 +1,9 @@
 -- Sons that take part in a step, split, joined or moved between their nodes: the latches below them stay on the path to every key.
-use mathlib.Core.Path.{_≡_, refl, ap, sym, _∙_, subst}
+use mathlib.Core.Path.{_≡_, refl, sym, _∙_, subst, ap}
 use mathlib.Core.Bool.{cond}
 use mathlib.Core.List.{[], _∷_, _++_, append-assoc}
 use mathlib.Core.Logic.{_⊎_, inl, inr}
-use Prim.Native.Nat.{ℕ, zero, suc, _+_, _≤_}
+use Prim.Native.Nat.{zero, suc, _+_, _≤_, ℕ}
 use native.Mathlib.Omega.{arith}
 use lib.Dec.{eqb}
 use lib.ListN.{length, take, drop, take-append-drop}
@@ -12,9 +12,10 @@ use Rattle.machine.specs.State.{Tree}
 use Rattle.machine.specs.Descent.{Sons, node, sons-of, halves, down-to, on-last, last-of, but-last, bound-of, joined, moved-right, moved-left}
 use Rattle.machine.specs.Sound.{Shaped, OnPath, Latched, latch-count}
 use Rattle.machine.specs.Order.{seg-le}
+use Rattle.machine.specs.Looks.{shaped-le}
 use Rattle.machine.specs.Fanout.{cut-is, last-kept}
 use Rattle.machine.specs.Paths.{path-left, path-right, path-cut, path-upto, below-all, below-reach}
-use Rattle.machine.specs.Latched.{shaped-le, no-leaf, latched-under, under-latched}
+use Rattle.machine.specs.Latched.{no-leaf, latched-under, under-latched}
 
 -- A node whose sons fill its interval.
 abbrev pub Grouped : (h : ℕ) → ℕ → ℕ → Tree (suc h) → Type 0

@@ -1,53 +1,33 @@
 -- A sound state is safe: what is read off it as events is meant, every request in hand stands ready for its next step, and every session can abort.
-use mathlib.Core.Path.{_≡_, refl, sym, ap, _∙_, subst}
-use mathlib.Core.Bool.{true, false}
-use mathlib.Core.Option.{Option, none, some}
-use Prim.Native.Nat.{ℕ, zero, suc, _≤_}
+use mathlib.Core.Path.{_≡_, refl, sym, _∙_, subst, ap}
+use mathlib.Core.Bool.{true}
+use mathlib.Core.Option.{some}
+use Prim.Native.Nat.{zero, suc, _≤_, ℕ}
 use native.Mathlib.Decide.{ℕ-discrete}
 use native.Mathlib.Omega.{arith}
 use lib.ListN.{length}
-use Rattle.serial.specs.Serial.{true≢false}
 use Rattle.serial.specs.Locks.{strong}
 use Rattle.serial.specs.Locks as L
-use Rattle.machine.specs.Tree.{leb-yes}
-use Rattle.machine.specs.Holders.{width}
-use Rattle.machine.specs.State.{Stage, start, enter, at, change, take, Request, State, top, or-none, sessionOf, stored, lowest-from}
-use Rattle.machine.specs.Steps.{ended}
-use Rattle.machine.specs.Calls.{bad-code, end-hand}
+use Rattle.machine.specs.State.{Stage, start, enter, change, take, Request, State, top, or-none, sessionOf, stored, lowest-from, at}
 use Rattle.machine.specs.View.{holders}
-use Rattle.machine.specs.Groups.{rises-in}
-use Rattle.machine.specs.Housekeeping.{lvs}
-use Rattle.machine.specs.Model.{eqb-no}
+use Rattle.machine.specs.Sound.{Changing, Descends, Stands, Sound}
+use Rattle.machine.specs.Table.{end-many}
 use Rattle.machine.specs.Keys.{Kept}
-use Rattle.machine.specs.Events.{asked}
-use Rattle.machine.specs.Abort.{Chain}
-use Rattle.machine.specs.Sound.{stored-in, Changing, Descends, Stands, Sound}
-use Rattle.machine.specs.Looks.{stored-range, sound-ordered, ordered-rises, kept-of, fit-of, change-stored, checked-entry}
-use Rattle.machine.specs.Effects.{tidy-zero}
-use Rattle.machine.specs.Descending.{proper-key, keeper-code, keeper-stored}
+use Rattle.machine.specs.Checks.{checked-entry, session-code, keeper-code}
+use Rattle.machine.specs.Looks.{sound-ordered, kept-of, fit-of, change-stored, stored-most}
 use Rattle.machine.specs.Nearest.{Takes, takes-of}
-use Rattle.machine.specs.Session.{Ready, reads, writes, to-insert, to-remove, enters, walks, inserts, removes, takes}
-use Rattle.machine.specs.Moves.{Safe, Tidying, nothing-above, entering, walking}
-use Rattle.machine.specs.Ending.{ended-sound}
+use Rattle.machine.specs.Descending.{proper-key, keeper-stored}
 use Rattle.machine.specs.Leaving.{chain-of}
-
--- The codes of a session's requests.
-pub session-code : (m c : ℕ) → bad-code (suc m) c ≡ false → (1 ≤ c) × (c ≤ 5)
-session-code m c b =
-    let z : ¬ (c ≡ 0) = λ e. true≢false {b = true} refl (subst (λ y. bad-code (suc m) y ≡ false) e b) in
-    let u : ¬ (7 ≤ c) = λ h. true≢false {b = true} refl (rw (eqb-no c 0 z, leb-yes 7 c h) at b) in
-    let n : ¬ (c ≡ 6) = λ e. omega (arith, tidy-zero (suc m) c b e) in
-    (omega (arith, z), omega (arith, u, n))
+use Rattle.machine.specs.Events.{asked}
+use Rattle.machine.specs.Session.{Ready, reads, writes, to-insert, to-remove, enters, descends, inserts, removes, takes}
+use Rattle.machine.specs.Moves.{Safe, Tidying, nothing-above, entering, descending}
 
 -- ---- a sound state
 
 module _ (s : State) (S : Sound s) where
-  pub stored-most : (x : ℕ) → stored-in x (lvs s) ≡ true → x ≤ top
-  stored-most x h = let w = stored-range x 0 (suc top) (lvs s) (rises-in 0 (suc top) (lvs s) (ordered-rises s (sound-ordered S))) h .1 in omega (arith, w)
-
   -- A descent's key is no higher than the upper infinity.
   pub descent-most : (p : ℕ) (r : Request) (x : ℕ) → sessionOf p s .hand ≡ some r → Descends p s r x → x ≤ top
-  descent-most zero r x e D = stored-most x (keeper-stored s r x (keeper-code (r .code) (S .checked 0 r e .0)) D)
+  descent-most zero r x e D = stored-most s (sound-ordered S) x (keeper-stored s r x (keeper-code (r .code) (S .checked 0 r e .0)) D)
   descent-most (suc m) r x e D = let w = proper-key m r s (S .checked (suc m) r e) x D .1 in omega (arith, w)
 
   -- ---- a session's request
@@ -79,7 +59,7 @@ module _ (s : State) (S : Sound s) where
       let i = checked-entry (suc m) c e f g s (S .checked (suc m) (asked c e f g start) h) w in
       start-ready (suc m) c e f g (k .0) w (i .0) (i .1)
   session-ready m c e f g (enter x) h = enters c e f g x
-  session-ready m c e f g (at x) h = walks c e f g x (descent-most (suc m) (asked c e f g (at x)) x h (S .standing (suc m) (asked c e f g (at x)) h))
+  session-ready m c e f g (at x) h = descends c e f g x (descent-most (suc m) (asked c e f g (at x)) x h (S .standing (suc m) (asked c e f g (at x)) h))
   session-ready m c e f g change h =
       let C : Changing (suc m) s (asked c e f g change) = S .standing (suc m) (asked c e f g change) h in
       change-ready (suc m) c e f g (C .code-3-4 .0) (C .code-3-4 .1) (kept-of f s S (change-stored S (suc m) (asked c e f g change) h refl)) (C .excludes)
@@ -95,7 +75,7 @@ module _ (s : State) (S : Sound s) where
   tidying-six e f g (at x) h =
       let w = keeper-stored s (asked 6 e f g (at x)) x refl h in
       let K = kept-of x s S w in
-      walking e f g x (stored-most x w) (ap (λ d. d .key) (K .desc) ∙ K .key)
+      descending e f g x (stored-most s (sound-ordered S) x w) (ap (λ d. d .key) (K .desc) ∙ K .key)
   tidying-six e f g change h = absurd (omega (arith, h .code-3-4 .1))
   tidying-six e f g (take x) h = absurd (omega (arith, h .code-5))
 
@@ -105,16 +85,11 @@ module _ (s : State) (S : Sound s) where
 
 -- ---- the whole
 
-hand-seats : (p : ℕ) (s : State) → Sound s → (h : Option Request) → sessionOf p s .hand ≡ h → length (end-hand p h s .table) ≡ suc width
-unfolding end-hand
-hand-seats p s S none e = S .seats
-hand-seats p s S (some r) e = ended-sound p r s S e .seats
-
 pub safe-of : (s : State) → Sound s → Safe s
 safe-of s S = record {
   fit = fit-of S;
   ready = λ m r b w e. session-ready s S m (r .code) (r .entry) (r .first) (r .second) (r .stage) e;
   tidying = keeper-tidying s S;
   chains = λ m b. chain-of (suc m) s S b;
-  seats = λ m w. let n = hand-seats (suc m) s S (sessionOf (suc m) s .hand) refl in omega (arith, n, w);
+  seats = λ m w. let n = end-many (suc m) (sessionOf (suc m) s .hand) s in omega (arith, n, S .seats, w);
 }

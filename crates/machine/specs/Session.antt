@@ -1,32 +1,30 @@
 -- Every step of a session's request, together: what it does is an event of the lock machine, with the answer that the model gives.
-use mathlib.Core.Path.{_≡_, refl, sym, ap, ap₂, _∙_, subst}
-use mathlib.Core.Bool.{Bool, true, false, cond, not, _&&_, _||_}
-use mathlib.Core.List.{List, [], _∷_, _++_, map}
-use mathlib.Core.Option.{Option, none, some}
-use Prim.Native.Nat.{ℕ, zero, suc, _+_, _-_, _≤_, _<_}
+use mathlib.Core.Path.{_≡_, refl}
+use mathlib.Core.Bool.{true, cond}
+use mathlib.Core.List.{List, []}
+use Prim.Native.Nat.{zero, suc, _≤_, _<_, ℕ}
 use native.Mathlib.Omega.{arith}
-use lib.Dec.{leb, eqb, eqb·suc-zero}
+use lib.Dec.{eqb, eqb·suc-zero}
 use lib.ListN.{length}
 use Rattle.serial.specs.Model.{Req}
 use Rattle.serial.specs.Model as R
 use Rattle.serial.specs.Locks.{strong, weak}
 use Rattle.serial.specs.Locks as L
+use Rattle.machine.specs.Logic.{either}
+use Rattle.machine.specs.Holders.{width, latch-word}
 use Rattle.machine.specs.Tree.{pick}
-use Rattle.machine.specs.Holders.{width, latch-word, latch-blockers}
-use Rattle.machine.specs.State.{Desc, Tree, Stage, start, enter, at, change, take, Request, State, Answer, more, wait, refused, Outcome, top, no-desc, same, or-none, sessionOf, stored, descOf, lowest-from}
-use Rattle.machine.specs.Descent.{Sons, at-latch}
-use Rattle.machine.specs.Keeps.{either}
-use Rattle.machine.specs.Steps.{answer, ended, goes-on, guarded, enter-step, level-step, pin-step, make-step, lowest-step, stand-step, at-step, first-step, change-step, take-step, next-step, read-step, write-step, entry-step, insert-step, remove-step, take-desc}
-use Rattle.machine.specs.View.{holders, view}
-use Rattle.machine.specs.Descents.{guard-cases}
-use Rattle.machine.specs.Housekeeping.{Like, like-unseen, at-step-like, enter-step-like}
+use Rattle.machine.specs.State.{Tree, start, enter, change, take, Request, State, more, Outcome, top, no-desc, same, or-none, sessionOf, stored, lowest-from, at}
+use Rattle.machine.specs.Steps.{goes-on, guarded, enter-step, level-step, pin-step, make-step, lowest-step, stand-step, at-step, first-step, change-step, take-step, next-step, answer}
+use Rattle.machine.specs.View.{holders}
+use Rattle.machine.specs.Descents.{guard-cases, latch-cases}
+use Rattle.machine.specs.Housekeeping.{like-unseen, at-step-like, enter-step-like}
 use Rattle.machine.specs.Keys.{Kept}
 use Rattle.machine.specs.Entries.{Fit}
 use Rattle.machine.specs.Events.{Does, unseen, unfinished, asked, read-does, write-does, entry-step-does}
 use Rattle.machine.specs.Insert.{insert-does, remove-does}
 use Rattle.machine.specs.Locate.{take-does}
 
--- ---- no step of a session's walk finishes a request
+-- ---- no step of a session's descent finishes a request
 
 open-guard : (bs : List ℕ) (need p : ℕ) (r : Request) (s : State) (o : Outcome) → unfinished (o .answer) ≡ true → unfinished (guarded bs need p r s o .answer) ≡ true
 open-guard bs need p r s o h = guard-cases (λ x. unfinished (x .answer) ≡ true) bs need p r s o (λ b l. refl) refl h
@@ -41,17 +39,9 @@ open-stand m r x s zero t = rw (eqb·suc-zero m)
     (either (λ o. unfinished (o .answer) ≡ true) (eqb (pick x no-desc same (t .sons) .key) x) (pin-step (suc m) r x s) (make-step (suc m) r x s) refl (open-guard [] 1 (suc m) r s _ refl))
 open-stand m r x s (suc h) t = open-guard _ _ (suc m) r s _ refl
 
-open-at : (m : ℕ) (r : Request) (x : ℕ) (s : State) (h : ℕ) (t : Tree h) → unfinished (at-latch (latch-word (suc m)) x (answer more s) (stand-step (suc m) r x s) h t .answer) ≡ true
-unfolding at-latch
-open-at m r x s zero t = refl
-open-at m r x s (suc h) t = either (λ o. unfinished (o .answer) ≡ true) (eqb (t .latch) (latch-word (suc m))) (stand-step (suc m) r x s h t)
-    (pick x (answer more s) (at-latch (latch-word (suc m)) x (answer more s) (stand-step (suc m) r x s) h) (t .sons)) (open-stand m r x s h t) (go (t .sons) (open-at m r x s h))
-  where
-    go : (es : Sons h) → ((a : Tree h) → unfinished (at-latch (latch-word (suc m)) x (answer more s) (stand-step (suc m) r x s) h a .answer) ≡ true)
-        → unfinished (pick x (answer more s) (at-latch (latch-word (suc m)) x (answer more s) (stand-step (suc m) r x s) h) es .answer) ≡ true
-    go [] f = refl
-    go (p ∷ es) f = either (λ o. unfinished (o .answer) ≡ true) (leb x (p .1)) (at-latch (latch-word (suc m)) x (answer more s) (stand-step (suc m) r x s) h (p .0))
-        (pick x (answer more s) (at-latch (latch-word (suc m)) x (answer more s) (stand-step (suc m) r x s) h) es) (f (p .0)) (go es f)
+open-at : (m : ℕ) (r : Request) (x : ℕ) (s : State) → unfinished (at-step (suc m) r x s .answer) ≡ true
+unfolding at-step
+open-at m r x s = latch-cases (λ o. unfinished (o .answer) ≡ true) (latch-word (suc m)) x (answer more s) (stand-step (suc m) r x s) (suc (s .root .height)) (s .root .node) refl (open-stand m r x s)
 
 -- ---- where a request in hand stands
 
@@ -61,7 +51,7 @@ pub data Ready (p : ℕ) (s : State) : Request → Type 0 where
   to-insert : (i f g : ℕ) → i < length (s .entries) → Ready p s (asked 3 (suc i) f g start)
   to-remove : (i f g : ℕ) → i < length (s .entries) → Ready p s (asked 4 (suc i) f g start)
   enters : (c e f g x : ℕ) → Ready p s (asked c e f g (enter x))
-  walks : (c e f g x : ℕ) → x ≤ top → Ready p s (asked c e f g (at x))
+  descends : (c e f g x : ℕ) → x ≤ top → Ready p s (asked c e f g (at x))
   -- The key is stored, and the entry's lock is held.
   inserts : (e f g : ℕ) → Kept f s → holders s L.entry strong p e ≡ true → Ready p s (asked 3 e f g change)
   removes : (e f g : ℕ) → Kept f s → holders s L.entry strong p e ≡ true → Ready p s (asked 4 e f g change)
@@ -77,14 +67,14 @@ req-of r = cond (eqb (r .code) 1) (R.read (r .entry)) (cond (eqb (r .code) 2) (R
 -- Every step of a session: n words of list are lent.
 pub session-step : (n m : ℕ) (s : State) → Fit s → sessionOf (suc m) s .begun ≡ true → suc m ≤ width → (r : Request) → Ready (suc m) s r
     → Does (suc m) (req-of r) s (next-step n (suc m) r s (r .stage))
-unfolding next-step first-step change-step take-step req-of at-step
+unfolding next-step first-step change-step take-step req-of
 session-step n m s F b le r (reads i f g h) = read-does m i 1 f g start s F h b le
 session-step n m s F b le r (writes i f g h) = write-does m i 2 f g start s F h b le
 session-step n m s F b le r (to-insert i f g h) = entry-step-does m i 3 f g start (R.insert (suc i) f) s F h b
 session-step n m s F b le r (to-remove i f g h) = entry-step-does m i 4 f g start (R.remove (suc i) f) s F h b
 session-step n m s F b le r (enters c e f g x) = unseen (open-enter (suc m) (asked c e f g (enter x)) x s)
     (like-unseen s (enter-step (suc m) (asked c e f g (enter x)) x s .next) (enter-step-like (suc m) (asked c e f g (enter x)) x s))
-session-step n m s F b le r (walks c e f g x h) = unseen (open-at m (asked c e f g (at x)) x s (suc (s .root .height)) (s .root .node))
+session-step n m s F b le r (descends c e f g x h) = unseen (open-at m (asked c e f g (at x)) x s)
     (like-unseen s (at-step (suc m) (asked c e f g (at x)) x s .next) (at-step-like (suc m) (asked c e f g (at x)) x s (F .ordered) h (λ z. absurd (omega (arith, z)))))
 session-step n m s F b le r (inserts e f g K h) = insert-does m f e s F K b le h 3 g change
 session-step n m s F b le r (removes e f g K h) = remove-does m f e s F K b le h 4 g change

@@ -1,32 +1,30 @@
 -- Every step of a descent keeps the tree's shape and the count of records.
-use mathlib.Core.Path.{_≡_, refl, ap, sym, _∙_, subst}
+use mathlib.Core.Path.{_≡_, refl, sym, _∙_, subst, ap}
 use mathlib.Core.Bool.{Bool, true, false, cond, not, _&&_, false≢true, and-eq-true-iff}
 use mathlib.Core.List.{List, [], _∷_, _++_, append-nil}
 use mathlib.Core.Logic.{_⊎_, inl, inr}
-use Prim.Native.Nat.{ℕ, zero, suc, _+_, _-_, _≤_}
+use Prim.Native.Nat.{zero, suc, _+_, _-_, _≤_, ℕ}
 use native.Mathlib.Omega.{arith}
-use lib.Dec.{eqb, eqb→eq}
+use lib.Dec.{eqb}
 use lib.ListN.{length, length-append}
-use Rattle.machine.specs.Tree.{onp, pick, flat, sumE, sumE-append, Seg, seg-append, leaves, hit, onp-hit, pick-hit, leb-yes}
+use Rattle.machine.specs.Logic.{leb-yes, eqb-yes, eqb-no, eqb-is}
 use Rattle.machine.specs.Holders.{latch-word}
-use Rattle.machine.specs.State.{Desc, Tree, Root, Stage, at, Request, State, top, no-desc, same, stored, gap-below, with-root, with-free, on-tree, on-desc, pin-desc}
-use Rattle.machine.specs.Descent.{Sons, node, halves, sons-of, on-pair, pick-pair, joins, mended, put-in, taken-out, on-latch, lone, lone-son, drop-lone, entered, split-root}
+use Rattle.machine.specs.Tree.{onp, pick, flat, sumE, sumE-append, Seg, seg-append, leaves, hit, onp-hit, pick-hit}
+use Rattle.machine.specs.State.{Desc, Tree, Root, Stage, Request, State, top, no-desc, same, stored, gap-below, with-root, with-free, on-tree, on-desc, pin-desc, at}
+use Rattle.machine.specs.Descent.{Sons, halves, sons-of, on-pair, pick-pair, joins, mended, put-in, taken-out, on-latch, lone, lone-son, drop-lone, entered, split-root, node}
 use Rattle.machine.specs.Steps.{goes-on, finished, small, fills, root-left, root-gain, root-splits, root-need, whole-root, halved-root, stepped, son-at, descended, level-need, level-gain, level-state, pinned-state, made, on-lowest, made-state, tidied-state}
-use Rattle.machine.specs.Keeps.{under, leaves-under, under-descended, under-split-root}
-use Rattle.machine.specs.Order.{ord-le, lv}
-use Rattle.machine.specs.Housekeeping.{lvs}
-use Rattle.machine.specs.Model.{eqb-yes, eqb-no}
 use Rattle.machine.specs.Sound.{stored-in, nodes, members-many, Shaped, Sound, Formed, formed-of}
-use Rattle.machine.specs.Looks.{shaped-ordered}
 use Rattle.machine.specs.Context.{Ctx, hole, down, plug, Focus}
-use Rattle.machine.specs.Focus.{least-in, Whole, whole-least, Lens, shaped-plug, nodes-around, nodes-plug, before, behind, leaves-plug, keeper-room}
-use Rattle.machine.specs.Alike.{total-append, alike-latch, alike-son, on-desc-formed, unlatch-formed, goes-formed, finished-formed}
+use Rattle.machine.specs.Keeps.{under-descended, under-split-root, leaves-kept}
+use Rattle.machine.specs.Order.{lv}
+use Rattle.machine.specs.Housekeeping.{lvs}
+use Rattle.machine.specs.Totals.{total-append}
+use Rattle.machine.specs.Looks.{shaped-le}
+use Rattle.machine.specs.Focus.{least-in, Whole, whole-least, Lens, shaped-plug, nodes-around, nodes-plug, before, behind, leaves-plug, keeper-room, least-in-hole}
+use Rattle.machine.specs.Alike.{alike-latch, alike-son, on-desc-formed, unlatch-formed, goes-formed, finished-formed}
 use Rattle.machine.specs.Fanout.{halves-seg, halves-nodes, mended-seg, mended-many, mended-nodes, pair-hit, put-shaped, put-many, put-sum, taken-shaped, taken-many, taken-sum}
 
 -- ---- bounds in order
-
-shaped-le : (h lo hi : ℕ) (t : Tree h) → Shaped h 3 lo hi t → lo ≤ suc hi
-shaped-le h lo hi t S = ord-le h lo hi t (shaped-ordered h 3 lo hi t S)
 
 -- ---- the records of a tree
 
@@ -49,10 +47,6 @@ weight-plug {k} {h} c u =
       ap members-many (leaves-plug c u) ∙ total-append m (before c) (l ++ behind c),
       total-append m l (behind c),
     )
-
--- With the same leaves, nodes alone count.
-lv-under : (h : ℕ) (t : Tree h) (j : ℕ) (u : Tree j) → under (λ d. d ∷ []) j u ≡ under (λ d. d ∷ []) h t → lv j u ≡ lv h t
-lv-under h t j u e = leaves-under j u ∙ e ∙ sym (leaves-under h t)
 
 weight-same : (h : ℕ) (t : Tree h) (j : ℕ) (u : Tree j) (m n : ℕ) → lv j u ≡ lv h t → m + nodes j u ≡ n + nodes h t → m + weight j u ≡ n + weight h t
 weight-same h t j u m n e k = omega (arith, k, ap (length {A = Desc}) e, ap members-many e)
@@ -105,12 +99,12 @@ focus-formed p x s k u F G le f n g =
 -- ---- who mends, who splits
 
 pub small-is : (p h : ℕ) (t : Tree (suc h)) → small p h t ≡ true → (p ≡ 0) × (sons-of t ≡ 3)
-small-is p h t e = let k = and-eq-true-iff (eqb p 0) (eqb (sons-of t) 3) .0 e in (eqb→eq p 0 (rw (k .0) tt), eqb→eq (sons-of t) 3 (rw (k .1) tt))
+small-is p h t e = let k = and-eq-true-iff (eqb p 0) (eqb (sons-of t) 3) .0 e in (eqb-is p 0 (k .0), eqb-is (sons-of t) 3 (k .1))
 
 pub fills-is : (p h : ℕ) (t : Tree (suc h)) → fills p h t ≡ true → ¬ (p ≡ 0) × (sons-of t ≡ 8)
 fills-is p h t e =
     let k = and-eq-true-iff (not (eqb p 0)) (eqb (sons-of t) 8) .0 e in
-    ((λ z. false≢true (sym (ap not (eqb-yes p 0 z)) ∙ k .0)), eqb→eq (sons-of t) 8 (rw (k .1) tt))
+    ((λ z. false≢true (sym (ap not (eqb-yes p 0 z)) ∙ k .0)), eqb-is (sons-of t) 8 (k .1))
 
 -- ---- entering the root
 
@@ -158,7 +152,7 @@ halved-formed p x s F full enough =
       L .1,
       enough,
       weight-same (suc h) (r .node) (suc (suc h)) (r′ .node) 0 2
-          (lv-under (suc h) (r .node) (suc (suc h)) (r′ .node) (under-split-root (λ d. d ∷ []) w x r)) (omega (arith, halves-nodes w x h top (r .node))),
+          (leaves-kept (suc h) (r .node) (suc (suc h)) (r′ .node) (under-split-root (λ d. d ∷ []) w x r)) (omega (arith, halves-nodes w x h top (r .node))),
     ))
 
 pub enter-formed : (p : ℕ) (r : Request) (x : ℕ) (s : State) → Sound s → root-need p s ≤ s .free → x ≤ top
@@ -229,7 +223,7 @@ module _ (p x h : ℕ) (u : Tree (suc (suc h))) (least lo hi : ℕ) (S : Shaped 
       → Fine h least lo hi (u .sons) (on-pair x (mended w x h) (u .sons)) (cond (pick-pair x false (joins x h) (u .sons)) 1 0) 0
   unfolding Shaped
   pair-fine enough two three =
-      let H = pair-hit Q (λ l b t. shaped-le (suc h) l b t) x lo (suc hi) (u .sons) two (S .3) from (omega (arith, upto)) in
+      let H = pair-hit Q (shaped-le (suc h) 3) x lo (suc hi) (u .sons) two (S .3) from (omega (arith, upto)) in
       let old : Sons (suc h) = H .p ∷ H .q ∷ [] in
       let fresh = mended w x h (H .p) (H .q) in
       let is : on-pair x (mended w x h) (u .sons) ≡ H .pre ++ (fresh ++ H .post) = H .done (mended w x h) in
@@ -265,11 +259,6 @@ module _ (p x h : ℕ) (u : Tree (suc (suc h))) (least lo hi : ℕ) (S : Shaped 
 
 -- ---- the room of a node
 
--- The least number of sons in the hole.
-least-in-hole : {k h : ℕ} (c : Ctx k h) → (1 ≤ least-in c 1) × (least-in c 1 ≤ 3)
-least-in-hole hole = (omega arith, omega arith)
-least-in-hole (down v pre c b post) = (omega arith, omega arith)
-
 session-room : (p x : ℕ) (s : State) (k : ℕ) (u : Tree (suc k)) → Focus p x s k u → ¬ (p ≡ 0) → sons-of u ≤ 7
 session-room zero x s k u F n = absurd (n refl)
 session-room (suc p) x s k u F n = F .room
@@ -301,7 +290,7 @@ level-formed p r x s S le h u F need =
     let fine = stepped-fine p x h u (least-in (F .around) 1) lo hi R from upto (session-room p x s (suc h) u F) (room p F (least (least-in (F .around) 1) lo hi R)) in
     let u′ = descended p x (suc h) u in (
       fine .shaped,
-      weight-same (suc (suc h)) u (suc (suc h)) u′ n (s .free) (lv-under (suc (suc h)) u (suc (suc h)) u′ (under-descended (λ d. d ∷ []) p x (suc h) u)) (omega (arith, fine .counted, need)),
+      weight-same (suc (suc h)) u (suc (suc h)) u′ n (s .free) (leaves-kept (suc (suc h)) u (suc (suc h)) u′ (under-descended (λ d. d ∷ []) p x (suc h) u)) (omega (arith, fine .counted, need)),
     )))
   where
     least : (l lo hi : ℕ) → Shaped (suc (suc h)) l lo hi u → l ≤ sons-of u
@@ -338,7 +327,7 @@ two-sons x lo hi (p ∷ []) one s le nz z k =
     absurd (nz (sym here ∙ go (eqb (p .0 .key) 0) refl z))
   where
     go : (c : Bool) → eqb (p .0 .key) 0 ≡ c → cond c true false ≡ true → p .0 .key ≡ 0
-    go true e q = eqb→eq (p .0 .key) 0 (rw e tt)
+    go true e q = eqb-is (p .0 .key) 0 e
     go false e q = absurd (false≢true q)
 two-sons x lo hi (p ∷ q ∷ es) one s le nz z k = omega arith
 

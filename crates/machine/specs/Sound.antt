@@ -5,18 +5,18 @@ use mathlib.Core.Bool.{Bool, true, false, cond}
 use mathlib.Core.List.{List, [], _∷_}
 use mathlib.Core.Logic.{_⊎_}
 use mathlib.Core.Option.{Option, none, some}
-use Prim.Native.Nat.{ℕ, zero, suc, _+_, _-_, _≤_, _<_}
+use Prim.Native.Nat.{zero, suc, _+_, _-_, _≤_, _<_, ℕ}
 use lib.Dec.{eqb}
 use lib.ListN.{length}
 use Rattle.serial.specs.Locks.{Kind, Mode, weak, strong, Agree}
 use Rattle.serial.specs.Locks as L
-use Rattle.machine.specs.Gaps.{gaps}
-use Rattle.machine.specs.Tree.{Node, T, Seg, sumE}
 use Rattle.machine.specs.Holders.{width, holds, elem, latch-word}
-use Rattle.machine.specs.State.{Entry, Desc, Tree, Stage, start, enter, at, change, take, Request, Undo, value, added, taken, Session, State, top, entryOf, sessionOf}
+use Rattle.machine.specs.Tree.{Seg, sumE}
+use Rattle.machine.specs.State.{Desc, Tree, Stage, start, enter, change, take, Request, Undo, value, added, taken, Session, State, top, sessionOf, at}
 use Rattle.machine.specs.Descent.{Sons, sons-of}
 use Rattle.machine.specs.Steps.{rule, pinned}
 use Rattle.machine.specs.Calls.{request-checks}
+use Rattle.machine.specs.Gaps.{gaps}
 use Rattle.machine.specs.View.{holders, group-in, seen}
 use Rattle.machine.specs.Groups.{words}
 use Rattle.machine.specs.Housekeeping.{lvs}
@@ -31,7 +31,7 @@ unfoldable pub stored-in : ℕ → List Desc → Bool
 stored-in k [] = false
 stored-in k (d ∷ ds) = cond (eqb (d .key) k) true (stored-in k ds)
 
--- The pins (document 01: seize count) of a key; a key that is not stored has none.
+-- The pins of a key; a key that is not stored has none.
 unfoldable pub pins-in : ℕ → List Desc → ℕ
 pins-in k [] = 0
 pins-in k (d ∷ ds) = cond (eqb (d .key) k) (d .pins) (pins-in k ds)
@@ -97,7 +97,7 @@ times k (x ∷ l) = cond (eqb x k) 1 0 + times k l
 abbrev pub pins-by : ℕ → Session → ℕ
 pins-by k t = of-hand 0 (λ r. times k (pinned r (r .stage))) (t .hand)
 
--- ---- latches (document 01: short locks)
+-- ---- latches
 
 unfoldable pub latch-count : ℕ → (h : ℕ) → Tree h → ℕ
 latch-count w zero d = 0
@@ -166,7 +166,7 @@ Stands p s r (at x) = Descends p s r x
 Stands p s r change = Changing p s r
 Stands p s r (take x) = Passing p s r x
 
--- ---- undo records (document 01: take-backs)
+-- ---- undo records
 
 -- Whether an entry is in the group of a key, and that changed for one pair.
 abbrev pub Cells : Type 0

@@ -1,12 +1,12 @@
 -- The state of the abstract machine: what document 01's store and session table mean, record numbers and chain order left out.
-use mathlib.Core.Bool.{Bool, true, false, cond, not, _&&_, _||_}
-use mathlib.Core.List.{List, [], _∷_, _++_, map}
+use mathlib.Core.Bool.{Bool, false, cond}
+use mathlib.Core.List.{List, [], _∷_}
 use mathlib.Core.Option.{Option, none, some}
-use Prim.Native.Nat.{ℕ, zero, suc, _+_, _-_}
+use Prim.Native.Nat.{zero, suc, _-_, ℕ}
 use lib.Dec.{leb, ltb, eqb}
-use lib.ListN.{length, getD, set, replicate}
-use Rattle.machine.specs.Tree.{Node, T, onp, pick, flat, mapE, leaves, leafAt}
+use lib.ListN.{getD, set, replicate}
 use Rattle.machine.specs.Holders.{width}
+use Rattle.machine.specs.Tree.{onp, mapE, leaves, leafAt, T}
 
 -- The upper infinity.
 abbrev pub top : ℕ
@@ -18,7 +18,7 @@ pub record Entry : Type 0 where
   pub share : ℕ
   pub exclusive : ℕ
 
--- A group descriptor; its members rise.
+-- A group descriptor: its pins (document 01: seize count) are how often requests in hand pin it; its members rise.
 pub record Desc : Type 0 where
   pub key : ℕ
   pub locate : ℕ
@@ -27,7 +27,7 @@ pub record Desc : Type 0 where
   pub pins : ℕ
   pub members : List ℕ
 
--- A tree: leaves are descriptors, all at one depth; each node has its short-lock word, and sons with their upper bounds.
+-- A tree: leaves are descriptors, all at one depth; each node has its latch word, and sons with their upper bounds.
 -- The boundaries of a node are the bounds of its sons but the last, which is the node's own.
 abbrev pub Tree : ℕ → Type 0
 Tree h = T Desc ℕ h
@@ -41,12 +41,12 @@ pub record Root : Type 0 where
 pub data Stage : Type 0 where
   -- Before its first step, for reads, writes, inserts, removes, and for a tidy that found no descriptor.
   start : Stage
-  -- On its walk to a key: next it enters the root; or its short lock is on a node of the path.
+  -- On its descent (document 01: walk) to a key: next it enters the root; or its latch is on a node of the path.
   enter : ℕ → Stage
   at : ℕ → Stage
-  -- Insert, remove: the descriptor is seized.
+  -- Insert, remove: the descriptor is pinned.
   change : Stage
-  -- Locate: both ends are seized, and the next descriptor is the lowest stored from this key on: first, and then one more than the last key taken.
+  -- Locate: both ends are pinned, and the next descriptor is the lowest stored from this key on: first, and then one more than the last key taken.
   take : ℕ → Stage
 
 pub record Request : Type 0 where
@@ -56,7 +56,7 @@ pub record Request : Type 0 where
   pub second : ℕ
   pub stage : Stage
 
--- A take-back: an entry and its old value; an entry added to, or taken out of, the group of a key.
+-- An undo record (document 01: take-back): an entry and its old value; an entry added to, or taken out of, the group of a key.
 pub data Undo : Type 0 where
   value added taken : ℕ → ℕ → Undo
 
@@ -168,7 +168,7 @@ on-leaves f (suc h) t = record { latch = t .latch; sons = mapE (on-leaves f h) (
 abbrev pub on-desc : ℕ → (Desc → Desc) → State → State
 on-desc k f s = on-tree (on-leaf k f) s
 
--- A descriptor with other holders, another seize count, other members.
+-- A descriptor with other holders, other pins, other members.
 abbrev pub hold-desc : (ℕ → ℕ) → (ℕ → ℕ) → (ℕ → ℕ) → Desc → Desc
 hold-desc l u g d = record { key = d .key; locate = l (d .locate); update = u (d .update); gap = g (d .gap); pins = d .pins; members = d .members }
 

@@ -1,17 +1,17 @@
 -- The steps of a request in hand, one definition for each (document 01, "Steps"). p is the party, r its request, s the state.
-use mathlib.Core.Bool.{Bool, true, false, cond, not, _&&_, _||_}
-use mathlib.Core.List.{List, [], _∷_, _++_, map}
-use mathlib.Core.Option.{Option, none, some}
-use Prim.Native.Nat.{ℕ, zero, suc, _+_, _-_, _*_}
+use mathlib.Core.Bool.{Bool, true, false, cond, not, _&&_}
+use mathlib.Core.List.{List, [], _∷_}
+use mathlib.Core.Option.{none, some}
+use Prim.Native.Nat.{zero, suc, _+_, _-_, _*_, ℕ}
 use lib.Dec.{leb, ltb, eqb}
 use lib.ListN.{length}
-use Rattle.serial.specs.Locks.{Kind, Mode, weak, strong, Table, lock-rule}
+use Rattle.serial.specs.Locks.{Mode, weak, strong, Table, lock-rule}
 use Rattle.serial.specs.Locks as L
+use Rattle.machine.specs.Holders.{held-by, blockers, latch-word, elem, latch-blockers}
 use Rattle.machine.specs.Tree.{onp, pick}
-use Rattle.machine.specs.Holders.{held-by, left-by, blockers, latch-word, elem, latch-blockers}
-use Rattle.machine.specs.State.{Entry, Desc, Tree, Root, Stage, start, enter, at, change, take, Request, Undo, added, taken, Session, State, Answer, ok, more, wait, done, refused, Outcome, entryOf, sessionOf, stored, lowest-from, gap-below, or-none, no-desc, descOf, with-root, with-free, on-entry, on-tree, on-leaf, on-desc, hold-desc, pin-desc, group-desc, same, with-member, without-member, set-hand, in-stage, add-undo}
+use Rattle.machine.specs.State.{Entry, Desc, Tree, Root, Stage, start, enter, change, take, Request, added, taken, State, Answer, more, wait, done, refused, Outcome, entryOf, stored, lowest-from, gap-below, or-none, no-desc, descOf, with-root, with-free, on-entry, on-tree, on-desc, hold-desc, pin-desc, group-desc, same, with-member, without-member, set-hand, in-stage, add-undo, at}
 use Rattle.machine.specs.State as State
-use Rattle.machine.specs.Descent.{Sons, node, halves, pick-pair, on-pair, joins, mended, put-in, taken-out, at-latch, on-latch, unlatched, sons-of, lone, drop-lone, entered, split-root}
+use Rattle.machine.specs.Descent.{Sons, halves, pick-pair, on-pair, joins, mended, put-in, taken-out, at-latch, on-latch, unlatched, sons-of, lone, drop-lone, entered, split-root, node}
 
 -- The lock rule: entries and groups, the mode held and the mode asked.
 abbrev pub rule : Table
@@ -22,7 +22,7 @@ rule = lock-rule
 abbrev pub answer : Answer → State → Outcome
 answer a s = record { answer = a; next = s; written = [] }
 
--- The keys that a request has seized.
+-- The keys that a request pins.
 unfoldable pub pinned : Request → Stage → List ℕ
 pinned r start = []
 pinned r (enter x) = cond (eqb (r .code) 5 && not (eqb x (r .first))) (r .first ∷ []) []
@@ -34,7 +34,7 @@ unfoldable pub unpin : List ℕ → State → State
 unpin [] s = s
 unpin (k ∷ ks) s = unpin ks (on-desc k (pin-desc (λ n. n - 1)) s)
 
--- A party's short lock ends.
+-- A party's latch ends.
 unfoldable pub unlatch : ℕ → Stage → State → State
 unlatch p start s = s
 unlatch p (enter x) s = s
@@ -42,7 +42,7 @@ unlatch p (at x) s = on-tree (on-latch (latch-word p) x unlatched) s
 unlatch p change s = s
 unlatch p (take x) s = s
 
--- The request in hand, its short lock and its seizures end.
+-- The request in hand, its latch and its pins end.
 unfoldable pub ended : ℕ → Request → State → State
 ended p r s = set-hand p none (unpin (pinned r (r .stage)) (unlatch p (r .stage) s))
 
@@ -90,14 +90,14 @@ write-step p r s = guarded (entry-blockers strong p r s) 1 p r s (finished p r (
 
 -- ---- insert, remove
 
--- The entry's lock, and the walk begins.
+-- The entry's lock, and the descent begins.
 abbrev pub excluded-state : ℕ → Request → State → State
 excluded-state p r s = on-entry (r .entry) (λ e. exclude-by p (e .value) e) s
 
 unfoldable pub entry-step : ℕ → Request → State → Outcome
 entry-step p r s = guarded (entry-blockers strong p r s) 0 p r s (goes-on p r (enter (r .first)) (excluded-state p r s))
 
--- The group's lock and the change together. Adding takes 2 records; taking out makes the membership's record the take-back.
+-- The group's lock and the change together. Adding takes 2 records; taking out makes the membership's record the undo record.
 abbrev pub updating-state : ℕ → Request → State → State
 updating-state p r s = on-desc (r .first) (hold-desc same (held-by p) same) s
 
@@ -161,9 +161,9 @@ take-desc n p r d s =
 unfoldable pub take-step : ℕ → ℕ → Request → ℕ → State → Outcome
 take-step n p r x s = take-desc n p r (or-none (lowest-from x (stored s))) s
 
--- ---- the walk to x
+-- ---- the descent to x
 
--- What follows a walk: a locate goes to second, then takes; an insert or remove changes.
+-- What follows a descent: a locate goes to second, then takes; an insert or remove changes.
 unfoldable pub arrived : Request → ℕ → Stage
 arrived r x = cond (eqb (r .code) 5) (cond (eqb x (r .second)) (take (r .first)) (enter (r .second))) change
 
@@ -187,7 +187,7 @@ root-splits p s = fills p (root-left s .height) (root-left s .node)
 abbrev pub root-need : ℕ → State → ℕ
 root-need p s = cond (root-splits p s) (2 - root-gain s) 0
 
--- The root locked whole; the root split, and its proper half locked.
+-- The root latched whole; the root split, and its proper half latched.
 abbrev pub whole-root : ℕ → State → State
 whole-root p s = with-free (s .free + root-gain s) (with-root (entered (latch-word p) (root-left s)) s)
 
@@ -212,14 +212,14 @@ stepped p x h t es =
     let plain = onp x (λ a u. (node (latch-word p) (a .sons), u) ∷ []) es in
     cond (small p h t) pair (cond (fills p h t) split plain)
 
--- The short-lock words of the nodes that take part.
+-- The latch words of the nodes that take part.
 unfoldable pub taking-part : ℕ → ℕ → (h : ℕ) → Tree (suc h) → Sons (suc h) → List ℕ
 taking-part p x h t es = cond (small p h t) (pick-pair x [] (λ a b. a .0 .latch ∷ b .0 .latch ∷ []) es) (t .latch ∷ [])
 
 abbrev pub son-at : ℕ → (h : ℕ) → Sons (suc h) → Tree (suc h)
 son-at x h es = pick x (node 0 []) same es
 
--- The parent, released.
+-- The parent, unlatched.
 unfoldable pub descended : ℕ → ℕ → (h : ℕ) → Tree (suc h) → Tree (suc h)
 descended p x zero t = t
 descended p x (suc h) t = node 0 (stepped p x h (son-at x h (t .sons)) (t .sons))
@@ -240,7 +240,7 @@ level-blockers p x h es t = latch-blockers p (taking-part p x h t es)
 unfoldable pub level-step : ℕ → Request → ℕ → State → (h : ℕ) → Sons (suc h) → Tree (suc h) → Outcome
 level-step p r x s h es t = guarded (level-blockers p x h es t) (level-need p h t) p r s (goes-on p r (at x) (level-state p x s h es t))
 
--- (iii) At the lowest node: pin the descriptor, or make it in its gap, and release the latch.
+-- (iii) At the lowest node: pin the descriptor, or make it in its gap, and end the latch.
 abbrev pub pinned-state : ℕ → ℕ → State → State
 pinned-state p x s = unlatch p (at x) (on-desc x (pin-desc suc) s)
 
@@ -282,7 +282,7 @@ tidy-step p r x d s =
     (finished p r (x ∷ 1 ∷ []) (tidied-state p x s))
     (finished p r (x ∷ 0 ∷ []) s)
 
--- ---- where the walk stands
+-- ---- where the descent stands
 
 unfoldable pub lowest-step : ℕ → Request → ℕ → State → Desc → Outcome
 lowest-step p r x s d = cond (eqb p 0) (tidy-step p r x d s) (cond (eqb (d .key) x) (pin-step p r x s) (make-step p r x s))

@@ -1,13 +1,13 @@
 -- The abstract tree. `T D N h`: a tree of height h with leaves D and a word N at each node. All leaves are at one depth by type.
 -- A node's sons are entries (son, upper bound): the last entry's bound is the node's own upper bound (root: the upper infinity).
-use mathlib.Core.Path.{_≡_, refl, ap, sym, _∙_}
-use mathlib.Core.List.{List, [], _∷_, _++_, append-assoc}
+use mathlib.Core.Path.{_≡_, refl, sym, _∙_, ap}
 use mathlib.Core.Bool.{Bool, true, false, cond}
+use mathlib.Core.List.{List, [], _∷_, _++_, append-assoc}
 use mathlib.Core.Option.{Option, some, none}
-use Prim.Native.Nat.{ℕ, suc, zero, _+_, _≤_, _<_}
+use Prim.Native.Nat.{suc, zero, _+_, _≤_, _<_, ℕ}
 use native.Mathlib.Omega.{arith}
-use lib.Dec.{leb, eqb, leb→le, le→leb, nleb→lt}
-use lib.ListN.{length, take, drop}
+use lib.Dec.{leb}
+use Rattle.machine.specs.Logic.{leb-yes, leb-no, leb-is, leb-not}
 
 pub record Node (N A : Type 0) : Type 0 where
   pub latch : N
@@ -62,12 +62,6 @@ unfoldable pub leafAt : (D N : Type 0) → ℕ → (h : ℕ) → T D N h → Opt
 leafAt D N x zero t = some t
 leafAt D N x (suc h) t = pick x none (leafAt D N x h) (t .sons)
 
--- f done at depth d of the path to x
-unfoldable pub atd : (D N : Type 0) → ((h : ℕ) → T D N h → T D N h) → ℕ → ℕ → (h : ℕ) → T D N h → T D N h
-atd D N f zero x h t = f h t
-atd D N f (suc d) x zero t = t
-atd D N f (suc d) x (suc h) t = record { latch = t .latch; sons = onp x (λ a b. (atd D N f d x h a, b) ∷ []) (t .sons) }
-
 -- ---- lemmas on entries
 
 pub flat-append : {A B : Type 0} (g : A → List B) (es fs : List (A × ℕ)) → flat g (es ++ fs) ≡ flat g es ++ flat g fs
@@ -96,20 +90,6 @@ seg-below Q x lo m (p ∷ es) s b q = seg-below Q x (suc (p .1)) m es (s .1) (b 
 
 -- ---- the entry on the path
 
-pub leb-yes : (x b : ℕ) → x ≤ b → leb x b ≡ true
-leb-yes x b h = go (leb x b) (le→leb x b h)
-  where
-    go : (c : Bool) → lib.Dec.T c → c ≡ true
-    go true t = refl
-    go false t = absurd t
-
-pub leb-no : (x b : ℕ) → b < x → leb x b ≡ false
-leb-no x b h = go (leb x b) refl
-  where
-    go : (c : Bool) → leb x b ≡ c → c ≡ false
-    go true e = absurd (omega (arith, h, leb→le x b (rw e tt)))
-    go false e = refl
-
 pub data Cmp (x b : ℕ) : Type 0 where
   low : x ≤ b → Cmp x b
   high : b < x → Cmp x b
@@ -118,8 +98,8 @@ pub cmp : (x b : ℕ) → Cmp x b
 cmp x b = go (leb x b) refl
   where
     go : (c : Bool) → leb x b ≡ c → Cmp x b
-    go true e = low (leb→le x b (rw e tt))
-    go false e = high (nleb→lt x b (rw e tt))
+    go true e = low (leb-is x b e)
+    go false e = high (leb-not x b e)
 
 -- the entries cut at the one on the path to x, with what Seg says of each part
 pub record Hit {A : Type 0} (Q : ℕ → ℕ → A → Type 0) (x lo e : ℕ) (es : List (A × ℕ)) : Type 0 where

@@ -1,33 +1,31 @@
 -- One undo record undone keeps a sound state sound, where its session's chain goes on with the rest.
-use mathlib.Core.Path.{_≡_, refl, sym, ap, _∙_, subst}
-use mathlib.Core.Bool.{Bool, true, false, cond, _||_}
+use mathlib.Core.Path.{_≡_, refl, sym, _∙_, subst, ap}
+use mathlib.Core.Bool.{Bool, true, false}
 use mathlib.Core.List.{List, [], _∷_}
-use mathlib.Core.Logic.{_⊎_, inl, inr}
-use Prim.Native.Nat.{ℕ, zero, suc, _+_, _<_}
+use mathlib.Core.Logic.{inl}
+use Prim.Native.Nat.{zero, suc, _+_, _<_, ℕ}
 use native.Mathlib.Decide.{ℕ-discrete}
 use native.Mathlib.Omega.{arith}
-use lib.Dec.{eqb}
 use lib.ListN.{length, getD, set, length-set}
 use Rattle.serial.specs.Serial.{true≢false}
 use Rattle.serial.specs.Locks.{Kind, Mode, strong}
 use Rattle.serial.specs.Locks as L
 use Rattle.machine.specs.Holders.{holds, elem}
-use Rattle.machine.specs.State.{Desc, Undo, value, added, taken, Session, State, top, idle, entryOf, sessionOf, descOf, with-table, with-free, on-entry, on-tree, on-desc, group-desc, with-member, without-member}
-use Rattle.machine.specs.Steps.{rule}
+use Rattle.machine.specs.State.{Desc, Undo, added, taken, Session, State, top, idle, entryOf, sessionOf, descOf, with-table, with-free, on-entry, on-tree, on-desc, group-desc, with-member, without-member, on-session, value}
 use Rattle.machine.specs.Calls as C
-use Rattle.machine.specs.View.{holders, group-in, seen}
-use Rattle.machine.specs.Housekeeping.{lvs, seen-group}
+use Rattle.machine.specs.View.{holders, group-in, seen, frame-holders}
 use Rattle.machine.specs.Sound.{gap-word, stored-in, pins-in, total, nodes, members-many, UpTo, ListedTo, Shaped, pins-by, Cells, cells, set-cell, Holding, Undoable, Sound, Formed, Latches, formed-of, latches-of, keyed-of, sound-from}
 use Rattle.machine.specs.Effect.{Effect, Own}
-use Rattle.machine.specs.Entries.{get-set, get-set-other}
-use Rattle.machine.specs.Effects.{checks-kept, Remains, stands-kept, undoable-kept, keyed-after}
-use Rattle.machine.specs.Looks.{begun-seat, total-set, frame-holders, kept-of, kept-listed, put-listed, put-stored, put-pins-kept, put-gaps, with-many, without-many, with-upto, without-upto, upto-up}
-use Rattle.machine.specs.Model.{eqb-yes, eqb-no}
-use Rattle.machine.specs.Keys.{Kept, elem-with, elem-without-other, elem-without-same}
-use Rattle.machine.specs.Changes.{put-group, was-group, put-group-other}
+use Rattle.machine.specs.Table.{begun-seat, session-put, session-other, session-same}
+use Rattle.machine.specs.Housekeeping.{lvs, seen-group}
+use Rattle.machine.specs.Keys.{Kept, elem-without-other, elem-without-same, was-group, put-group-other, put-words-kept, elem-with-same, elem-with-other}
+use Rattle.machine.specs.Totals.{total-set}
+use Rattle.machine.specs.Checks.{checks-kept}
+use Rattle.machine.specs.Looks.{kept-of, kept-listed, put-listed, put-stored, put-pins-kept, put-gaps, with-many, without-many, with-upto, without-upto, upto-up, put-cells, set-entry, excludes-alone}
 use Rattle.machine.specs.Alike.{on-desc-shaped, on-desc-used}
-use Rattle.machine.specs.Latch.{hand-stands, desc-latches, hand-latches}
-use Rattle.machine.specs.Abort.{Undone, value-undone, mt-holders, added-undone, taken-undone}
+use Rattle.machine.specs.Latch.{desc-latches, kept-latches}
+use Rattle.machine.specs.Effects.{Remains, stands-kept, undoable-kept, keyed-after}
+use Rattle.machine.specs.Abort.{Undone, value-undone, added-undone, taken-undone}
 
 -- ---- what undoing a record does, the session's chain set aside
 
@@ -58,8 +56,7 @@ pub record Undid (p : ℕ) (us : List Undo) (s u : State) : Type 0 where
 
 -- Latches are read of the root and the session table.
 same-latches : (s t : State) → t .root ≡ s .root → t .table ≡ s .table → Latches s → Latches t
-unfolding sessionOf
-same-latches s t e f L = hand-latches s t e (λ q. ap (λ l. hand-stands (getD l q idle .hand)) f) (λ q r x g h. (r, sym (ap (λ l. getD l q idle .hand) f) ∙ g, h)) L
+same-latches s t e f = kept-latches s t e (λ q. ap (λ x. x .hand) (session-same s t f q))
 
 value-did : (p i v : ℕ) (us : List Undo) (s : State) → Sound s → Undoable p s (value (suc i) v ∷ us) (cells s) → Undid p us s (C.undo (value (suc i) v) s)
 unfolding C.undo on-entry
@@ -97,27 +94,6 @@ module _ (p k e : ℕ) (us : List Undo) (s : State) (S : Sound s) (H : Holding p
   abbrev v : State
   v = on-desc k f s
 
-  group-cells : (b : Bool) → elem e (M (K .d .members)) ≡ b → ((x : ℕ) → ¬ (x ≡ e) → elem x (M (K .d .members)) ≡ elem x (K .d .members))
-      → (j x : ℕ) → cells v j x ≡ set-cell k e b (cells s) j x
-  group-cells b here there j x = at (ℕ-discrete k j) (ℕ-discrete x e)
-    where
-      now : (y : ℕ) → cells v k y ≡ elem y (M (K .d .members))
-      now y = ap (elem y) (put-group k s K f refl)
-
-      at : Dec (k ≡ j) → Dec (x ≡ e) → cells v j x ≡ set-cell k e b (cells s) j x
-      at (yes q) (yes w) = subst (λ j. cells v j x ≡ set-cell k e b (cells s) j x) q
-          (rw (eqb-yes k k refl, eqb-yes x e w) (now x ∙ ap (λ y. elem y (M (K .d .members))) w ∙ here))
-      at (yes q) (no n) = subst (λ j. cells v j x ≡ set-cell k e b (cells s) j x) q
-          (rw (eqb-yes k k refl, eqb-no x e n) (now x ∙ there x n ∙ sym (ap (elem x) (was-group k s K f refl))))
-      at (no n) w = rw (eqb-no j k (λ q. n (sym q))) (ap (elem x) (put-group-other k s K f refl j n))
-
-  group-others : (b : Bool) (j x : ℕ) → ¬ (x ≡ e) → set-cell k e b (cells s) j x ≡ cells s j x
-  group-others b j x n = rw (eqb-no x e n) (both (eqb j k))
-    where
-      both : (o : Bool) → cond o (cells s j x) (cells s j x) ≡ cells s j x
-      both true = refl
-      both false = refl
-
   -- The state has n free records then.
   group-did : (n : ℕ) (b : Bool) → elem e (M (K .d .members)) ≡ b → ((x : ℕ) → ¬ (x ≡ e) → elem x (M (K .d .members)) ≡ elem x (K .d .members))
       → UpTo 1 (length (s .entries)) (M (K .d .members)) → n + length (M (K .d .members)) ≡ suc (s .free + length (K .d .members))
@@ -126,7 +102,7 @@ module _ (p k e : ℕ) (us : List Undo) (s : State) (S : Sound s) (H : Holding p
   group-did n b here there upto many follow = record {
     many = refl;
     records-same = refl;
-    holders-same = λ l m q z. frame-holders v (with-free n v) refl refl l m q z ∙ mt-holders k e s K M l m q z;
+    holders-same = frame-holders s (with-free n v) refl (put-words-kept k s K f refl);
     gaps-same = put-gaps k s K f refl (λ w. w) refl;
     stored-same = put-stored k s K f refl;
     pins-same = put-pins-kept k s K f refl refl;
@@ -135,8 +111,8 @@ module _ (p k e : ℕ) (us : List Undo) (s : State) (S : Sound s) (H : Holding p
     e = e;
     held = H .entry-held;
     rest = set-cell k e b (cells s);
-    cells-are = group-cells b here there;
-    only = group-others b;
+    cells-are = put-cells k s K f refl e b here there;
+    only = λ j x n. set-entry k e b (cells s) j x (λ q. n (sym q));
     undoable = follow;
     shaped = on-desc-shaped f (λ d. refl) k s (formed-of S);
     freed = omega (arith, many, on-desc-used f (λ d. refl) k s K);
@@ -147,7 +123,7 @@ module _ (p k e : ℕ) (us : List Undo) (s : State) (S : Sound s) (H : Holding p
 -- The group of a key, in its descriptor.
 module _ (p k e : ℕ) (us : List Undo) (s : State) (S : Sound s) where
   in-desc : (H : Holding p s e k) (b : Bool) → cells s k e ≡ b → elem e (kept-of k s S (H .key-stored) .d .members) ≡ b
-  in-desc H b c = let K = kept-of k s S (H .key-stored) in ap (elem e) (sym (was-group k s K (λ d. d) refl)) ∙ c
+  in-desc H b c = let K = kept-of k s S (H .key-stored) in ap (elem e) (sym (was-group k s K)) ∙ c
 
   members-upto : (H : Holding p s e k) → UpTo 1 (length (s .entries)) (kept-of k s S (H .key-stored) .d .members)
   members-upto H = kept-listed k s (kept-of k s S (H .key-stored)) (length (s .entries)) (S .listed)
@@ -164,8 +140,7 @@ module _ (p k e : ℕ) (us : List Undo) (s : State) (S : Sound s) where
   unfolding C.undo on-tree
   taken-did w =
       let m = kept-of k s S (w .0 .key-stored) .d .members in
-      group-did p k e us s S (w .0) (with-member e) (s .free) true (elem-with e e m ∙ ap (λ b. b || elem e m) (eqb-yes e e refl))
-      (λ x n. elem-with x e m ∙ ap (λ b. b || elem x m) (eqb-no x e n))
+      group-did p k e us s S (w .0) (with-member e) (s .free) true (elem-with-same e m) (λ x n. elem-with-other x e m n)
       (with-upto e 1 (length (s .entries)) m (w .0 .in-store .0) (w .0 .in-store .1) (members-upto (w .0))) (omega (arith, with-many e m (in-desc (w .0) false (w .1)))) (w .2)
 
 pub undo-did : (p : ℕ) (b : Undo) (us : List Undo) (s : State) → Sound s → Undoable p s (b ∷ us) (cells s) → Undid p us s (C.undo b s)
@@ -201,12 +176,12 @@ module _ (p : ℕ) (b : Undo) (us : List Undo) (s : State) (S : Sound s) (chain 
   h = begun-seat p s begun
 
   mine : sessionOf p undid ≡ with-undos us (sessionOf p s)
-  unfolding sessionOf
-  mine = get-set (s .table) p x idle h
+  unfolding on-session sessionOf
+  mine = session-same (on-session p (λ _. x) s) undid refl p ∙ session-put p (λ _. x) s h
 
   theirs : (q : ℕ) → ¬ (p ≡ q) → sessionOf q undid ≡ sessionOf q s
-  unfolding sessionOf
-  theirs q n = get-set-other (s .table) p q x idle n
+  unfolding on-session
+  theirs q n = session-same (on-session p (λ _. x) s) undid refl q ∙ session-other p q (λ _. x) s n
 
   hands : (q : ℕ) → sessionOf q undid .hand ≡ sessionOf q s .hand
   hands q = go (ℕ-discrete p q)
@@ -220,11 +195,7 @@ module _ (p : ℕ) (b : Undo) (us : List Undo) (s : State) (S : Sound s) (chain 
 
   -- Another session does not exclude the entry.
   cells-same : (q k f : ℕ) → ¬ (p ≡ q) → holders s L.entry strong q f ≡ true → cells undid k f ≡ cells s k f
-  cells-same q k f n i = U .cells-are k f ∙ U .only k f (λ e. alone (S .agree L.entry strong strong p q (U .e) (U .held) (subst (λ f. holders s L.entry strong q f ≡ true) e i)))
-    where
-      alone : (p ≡ q) ⊎ (rule L.entry strong strong ≡ true) → ⊥
-      alone (inl e) = n e
-      alone (inr e) = true≢false e refl
+  cells-same q k f n i = U .cells-are k f ∙ U .only k f (λ e. n (excludes-alone S p q (U .e) (U .held) (subst (λ f. holders s L.entry strong q f ≡ true) e i)))
 
   undid-effect : Effect p s undid
   undid-effect = record {
@@ -279,10 +250,7 @@ module _ (p : ℕ) (b : Undo) (us : List Undo) (s : State) (S : Sound s) (chain 
   }
 
   undid-latches : Latches undid
-  undid-latches = hand-latches u undid refl (λ q. ap hand-stands (hands q ∙ sym (were q))) (λ q r y e f. (r, were q ∙ sym (hands q) ∙ e, f)) (U .latches)
-    where
-      were : (q : ℕ) → sessionOf q u .hand ≡ sessionOf q s .hand
-      were q = unfold sessionOf in (ap (λ l. getD l q idle .hand) (U .table-same))
+  undid-latches = kept-latches u undid refl (λ q. hands q ∙ sym (ap (λ y. y .hand) (session-same s u (U .table-same) q))) (U .latches)
 
   pub undid-sound : Sound undid
   undid-sound = sound-from undid-formed undid-latches (keyed-after p s undid (keyed-of S) undid-effect undid-own)

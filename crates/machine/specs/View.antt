@@ -1,27 +1,26 @@
--- What the lock machine sees of a state: values and memberships, unfinished sessions, long locks by entry and by key, take-backs.
-use mathlib.Core.Path.{_≡_, refl, ap, ap₂, sym, _∙_}
-use mathlib.Core.Bool.{Bool, true, false, cond}
-use mathlib.Core.List.{List, [], _∷_, _++_, map}
-use mathlib.Core.Option.{Option, none, some}
-use Prim.Native.Nat.{ℕ, zero, suc, _+_, _-_}
+-- What the lock machine sees of a state: values and memberships, unfinished sessions, long locks by entry and by key, undo records.
+use mathlib.Core.Path.{_≡_, refl, _∙_, ap}
+use mathlib.Core.Bool.{cond}
+use mathlib.Core.List.{List, [], _∷_, map}
+use mathlib.Core.Option.{Option, none}
+use Prim.Native.Nat.{zero, suc, _-_, ℕ}
 use lib.Dec.{eqb}
-use lib.ListN.{getD, set}
-use Rattle.serial.specs.Serial.{Log}
+use lib.ListN.{getD}
 use Rattle.serial.specs.Model.{Item}
-use Rattle.serial.specs.Footprints.{store}
 use Rattle.serial.specs.Model as R
 use Rattle.serial.specs.Locks.{Kind, Mode, weak, strong, Holds}
 use Rattle.serial.specs.Locks as L
-use Rattle.serial.specs.LockMachine.{Store, Stays, Unseen}
+use Rattle.serial.specs.LockMachine.{Store, Unseen}
+use Rattle.machine.specs.Holders.{elem, holds}
+use Rattle.machine.specs.State.{Tree, Root, Stage, start, enter, change, take, Request, Undo, added, taken, State, no-entry, entryOf, sessionOf, pin-desc, on-session, on-tree, on-leaf, on-desc, with-root, with-free, set-hand, Desc, value, at}
+use Rattle.machine.specs.Descent.{on-latch, unlatched}
+use Rattle.machine.specs.Steps.{pinned, unpin, unlatch, ended}
 use Rattle.machine.specs.Gaps.{locators, updaters}
 use Rattle.machine.specs.Gaps as G
-use Rattle.machine.specs.Holders.{holds, elem}
-use Rattle.machine.specs.State.{Entry, Desc, Tree, Root, Stage, start, enter, at, change, take, Request, Undo, value, added, taken, Session, State, no-entry, idle, entryOf, sessionOf, stored, pin-desc, on-session, on-tree, on-leaf, on-desc, with-root, with-free, with-table, set-hand, add-undo}
-use Rattle.machine.specs.Descent.{on-latch, unlatched}
-use Rattle.machine.specs.Keeps.{under, under-on-leaf, under-on-lock, under-unlocked}
-use Rattle.machine.specs.Steps.{pinned, unpin, unlatch, ended}
+use Rattle.machine.specs.Table.{session-kept, with-hand, released}
+use Rattle.machine.specs.Keeps.{under, under-on-leaf, under-on-latch, under-unlatched}
 
--- A descriptor without its seize count.
+-- A descriptor without its pins.
 abbrev pub plain : Desc → Desc
 plain d = pin-desc (λ n. 0) d
 
@@ -96,15 +95,27 @@ unfolding entryOf
 entry-same s t h zero = refl
 entry-same s t h (suc i) = ap (λ l. getD l i no-entry) h
 
+pub entry-holders : (s t : State) → t .entries ≡ s .entries → (m : Mode) (p z : ℕ) → holders t L.entry m p z ≡ holders s L.entry m p z
+entry-holders s t e weak p z = ap (λ x. holds (x .share) p) (entry-same s t e z)
+entry-holders s t e strong p z = ap (λ x. holds (x .exclusive) p) (entry-same s t e z)
+
+-- Holders are read of the entries and of the descriptors' words alone.
+pub frame-holders : (s t : State) → t .entries ≡ s .entries → map holder-words (seen t) ≡ map holder-words (seen s) → (k : Kind) (m : Mode) (p z : ℕ)
+    → holders t k m p z ≡ holders s k m p z
+unfolding locate-word update-word
+frame-holders s t e h L.entry m p z = entry-holders s t e m p z
+frame-holders s t e h L.group weak p z = ap (λ l. holds (locators 0 l z) p) h
+frame-holders s t e h L.group strong p z = ap (λ l. holds (updaters l z) p) h
+
 pub same-holders : (s t : State) → Same s t → (k : Kind) (m : Mode) (p z : ℕ) → holders t k m p z ≡ holders s k m p z
-same-holders s t h L.entry weak p e = ap (λ x. holds (x .share) p) (entry-same s t (h .entries-same) e)
-same-holders s t h L.entry strong p e = ap (λ x. holds (x .exclusive) p) (entry-same s t (h .entries-same) e)
-same-holders s t h L.group weak p k = ap (λ l. holds (locate-word k l) p) (h .seen-same)
-same-holders s t h L.group strong p k = ap (λ l. holds (update-word k l) p) (h .seen-same)
+same-holders s t h = frame-holders s t (h .entries-same) (ap (map holder-words) (h .seen-same))
+
+pub frame-items : (s t : State) → t .entries ≡ s .entries → seen t ≡ seen s → (i : Item) → items t i ≡ items s i
+frame-items s t e h (R.value z) = ap (λ x. x .value) (entry-same s t e z)
+frame-items s t e h (R.cell k z) = ap (λ l. cond (elem z (group-in k l)) 1 0) h
 
 pub same-items : (s t : State) → Same s t → (i : Item) → items t i ≡ items s i
-same-items s t h (R.value e) = ap (λ x. x .value) (entry-same s t (h .entries-same) e)
-same-items s t h (R.cell k e) = ap (λ l. cond (elem e (group-in k l)) 1 0) (h .seen-same)
+same-items s t h = frame-items s t (h .entries-same) (h .seen-same)
 
 pub same-unseen : (s t : State) → Same s t → Unseen (view s) (view t)
 same-unseen s t h = record {
@@ -115,21 +126,13 @@ same-unseen s t h = record {
 
 -- ---- what leaves a state looking the same
 
-pub put-session : {B : Type 0} (π : Session → B) (f : Session → Session) → ((x : Session) → π (f x) ≡ π x)
-    → (l : List Session) (p q : ℕ) → π (getD (set l p (f (getD l p idle))) q idle) ≡ π (getD l q idle)
-put-session π f e [] p q = refl
-put-session π f e (x ∷ l) zero zero = e x
-put-session π f e (x ∷ l) zero (suc q) = refl
-put-session π f e (x ∷ l) (suc p) zero = refl
-put-session π f e (x ∷ l) (suc p) (suc q) = put-session π f e l p q
-
 pub set-hand-same : (p : ℕ) (r : Option Request) (s : State) → Same s (set-hand p r s)
-unfolding set-hand on-session sessionOf
+unfolding set-hand on-session
 set-hand-same p r s = record {
   entries-same = refl;
   seen-same = refl;
-  begun-same = λ q. put-session (λ t. t .begun) (λ t. record { begun = t .begun; hand = r; undos = t .undos }) (λ x. refl) (s .table) p q;
-  undos-same = λ q. put-session (λ t. t .undos) (λ t. record { begun = t .begun; hand = r; undos = t .undos }) (λ x. refl) (s .table) p q;
+  begun-same = session-kept (λ t. t .begun) p (with-hand r) s (λ x. refl);
+  undos-same = session-kept (λ t. t .undos) p (with-hand r) s (λ x. refl);
 }
 
 pub free-same : (n : ℕ) (s : State) → Same s (with-free n s)
@@ -147,9 +150,9 @@ tree-same f s e = record { entries-same = refl; seen-same = e (suc (s .root .hei
 pub pin-same : (k : ℕ) (f : ℕ → ℕ) (s : State) → Same s (on-desc k (pin-desc f) s)
 pin-same k f s = tree-same (on-leaf k (pin-desc f)) s (under-on-leaf plains k (pin-desc f) (λ d. refl))
 
-pub lock-same : (w x : ℕ) (k : (h : ℕ) → Tree (suc h) → Tree (suc h)) (s : State) → ((h : ℕ) (t : Tree (suc h)) → under plains (suc h) (k h t) ≡ under plains (suc h) t)
+pub latch-same : (w x : ℕ) (k : (h : ℕ) → Tree (suc h) → Tree (suc h)) (s : State) → ((h : ℕ) (t : Tree (suc h)) → under plains (suc h) (k h t) ≡ under plains (suc h) t)
     → Same s (on-tree (on-latch w x k) s)
-lock-same w x k s e = tree-same (on-latch w x k) s (under-on-lock plains w x k e)
+latch-same w x k s e = tree-same (on-latch w x k) s (under-on-latch plains w x k e)
 
 pub unpin-same : (ks : List ℕ) (s : State) → Same s (unpin ks s)
 unfolding unpin
@@ -160,13 +163,13 @@ pub unlatch-same : (p : ℕ) (g : Stage) (s : State) → Same s (unlatch p g s)
 unfolding unlatch
 unlatch-same p start s = same-refl s
 unlatch-same p (enter x) s = same-refl s
-unlatch-same p (at x) s = lock-same (suc p) x unlatched s (under-unlocked plains)
+unlatch-same p (at x) s = latch-same (suc p) x unlatched s (under-unlatched plains)
 unlatch-same p change s = same-refl s
 unlatch-same p (take x) s = same-refl s
 
+pub released-same : (p : ℕ) (r : Request) (s : State) → Same s (released p r s)
+released-same p r s = same-trans (unlatch-same p (r .stage) s) (unpin-same (pinned r (r .stage)) (unlatch p (r .stage) s))
+
 pub ended-same : (p : ℕ) (r : Request) (s : State) → Same s (ended p r s)
 unfolding ended
-ended-same p r s =
-    let a = unlatch p (r .stage) s in
-    let b = unpin (pinned r (r .stage)) a in
-    same-trans (unlatch-same p (r .stage) s) (same-trans (unpin-same (pinned r (r .stage)) a) (set-hand-same p none b))
+ended-same p r s = same-trans (released-same p r s) (set-hand-same p none (released p r s))

@@ -1,21 +1,20 @@
 -- Demand 2, waiting: a step waits exactly if another party's lock is in its way, and then changes nothing; the asker is never in its own way.
-use mathlib.Core.Path.{_≡_, refl, sym, ap, _∙_, subst}
+use mathlib.Core.Path.{_≡_, refl, sym, subst}
 use mathlib.Core.Bool.{Bool, true, false, cond, not, _&&_, _||_}
-use mathlib.Core.List.{List, [], _∷_, _++_, map}
-use mathlib.Core.Option.{Option, none, some}
-use Prim.Native.Nat.{ℕ, zero, suc, _+_, _-_, _*_, _≤_, _<_}
+use mathlib.Core.List.{List, [], _∷_}
+use Prim.Native.Nat.{zero, suc, _-_, _*_, ℕ}
 use native.Mathlib.Omega.{arith}
-use lib.Dec.{leb, ltb, eqb, eqb→eq}
+use lib.Dec.{leb, ltb, eqb}
 use lib.ListN.{length}
 use Rattle.serial.specs.Serial.{true≢false}
-use Rattle.serial.specs.Locks.{Kind, Mode, weak, strong, Table}
+use Rattle.serial.specs.Locks.{Kind, Mode, weak, strong}
+use Rattle.machine.specs.Logic.{eqb-no, eqb-is, either, eqb-not}
+use Rattle.machine.specs.Holders.{width, holds, count-from, filter, in-the-way, blockers, latch-word, elem, latch-blockers}
 use Rattle.machine.specs.Tree.{pick}
-use Rattle.machine.specs.Holders.{width, holds, count-from, filter, in-the-way, blockers, latch-word, elem, add-latch, latch-blockers}
-use Rattle.machine.specs.State.{Desc, Tree, Stage, start, enter, at, change, take, Request, State, Answer, ok, more, wait, done, refused, Outcome, no-desc, same, or-none, stored, lowest-from, gap-below, descOf}
+use Rattle.machine.specs.State.{Desc, Tree, Stage, start, enter, change, take, Request, State, Answer, more, wait, done, refused, no-desc, same, or-none, stored, lowest-from, gap-below, descOf, at, ok, Outcome}
 use Rattle.machine.specs.Descent.{Sons, at-latch}
-use Rattle.machine.specs.Steps.{rule, answer, ended, goes-on, finished, guarded, entry-blockers, group-blockers, read-step, write-step, entry-step, insert-step, remove-step, change-step, memberships, last-take, take-desc, take-step, root-blockers, root-need, root-splits, whole-root, halved-root, enter-step, level-blockers, level-step, son-at, pin-step, make-step, removable, tidied-state, tidy-step, lowest-step, stand-step, at-step, first-step, next-step, inserted-state, updating-state, removed-state, passed-state, located-state}
-use Rattle.machine.specs.Keeps.{either}
-use Rattle.machine.specs.Model.{eqb-yes, eqb-no}
+use Rattle.machine.specs.Steps.{rule, ended, goes-on, finished, guarded, entry-blockers, group-blockers, read-step, write-step, entry-step, insert-step, remove-step, change-step, memberships, last-take, take-desc, take-step, root-blockers, root-need, enter-step, level-blockers, level-step, son-at, pin-step, make-step, removable, tidied-state, tidy-step, lowest-step, stand-step, at-step, first-step, next-step, updating-state, removed-state, answer}
+use Rattle.machine.specs.Descents.{latch-cases}
 
 -- ---- the parties in the way of the next step
 
@@ -62,7 +61,7 @@ same-test c s ws o q z f g k = go (leb c 4) refl (eqb c 2) refl
     go : (b : Bool) → leb c 4 ≡ b → (d : Bool) → eqb c 2 ≡ d → WaitsFor s (cond b ws []) (cond d o (cond b q z))
     go true e true u = f
     go true e false u = g
-    go false e true u = absurd (true≢false (subst (λ n. leb n 4 ≡ true) (sym (eqb→eq c 2 (rw u tt))) refl) e)
+    go false e true u = absurd (true≢false (subst (λ n. leb n 4 ≡ true) (sym (eqb-is c 2 u)) refl) e)
     go false e false u = k
 
 first-waits : (p : ℕ) (r : Request) (s : State) → WaitsFor s (step-blockers p r s start) (first-step p r s)
@@ -145,7 +144,7 @@ blockers-others k m p hw hs = go (count-from 1 width)
   where
     skip : (t : ℕ) (l : List ℕ) → elem p l ≡ false → (b : Bool) → eqb t p ≡ b → (c : Bool) → elem p (cond (not b && c) (t ∷ l) l) ≡ false
     skip t l h true e c = h
-    skip t l h false e true = rw (eqb-no p t (λ q. true≢false (eqb-yes t p (sym q)) e)) h
+    skip t l h false e true = rw (eqb-no p t (λ q. eqb-not t p e (sym q))) h
     skip t l h false e false = h
 
     go : (l : List ℕ) → elem p (filter (in-the-way rule k m p hw hs) l) ≡ false
@@ -165,23 +164,12 @@ latch-others p (w ∷ ws) = add w (latch-blockers p ws) (latch-others p ws) (eqb
       where
         other : (v : ℕ) → eqb v 0 ≡ false → eqb v (latch-word p) ≡ false → ¬ (p ≡ v - 1)
         other zero i j q = true≢false {b = true} refl i
-        other (suc v) i j q = true≢false (eqb-yes (suc v) (latch-word p) (omega (arith, q))) j
+        other (suc v) i j q = eqb-not (suc v) (latch-word p) j (omega (arith, q))
 
 stand-others : (p x h : ℕ) (t : Tree (suc h)) → elem p (stand-blockers p x h t) ≡ false
 unfolding stand-blockers
 stand-others p x zero t = refl
 stand-others p x (suc h) t = latch-others p _
-
-at-others : (p x h : ℕ) (t : Tree h) → elem p (at-latch (latch-word p) x [] (stand-blockers p x) h t) ≡ false
-unfolding at-latch
-at-others p x zero t = refl
-at-others p x (suc h) t = either (λ l. elem p l ≡ false) (eqb (t .latch) (latch-word p)) (stand-blockers p x h t)
-    (pick x [] (at-latch (latch-word p) x [] (stand-blockers p x) h) (t .sons)) (stand-others p x h t) (go (t .sons) (at-others p x h))
-  where
-    go : (es : Sons h) → ((a : Tree h) → elem p (at-latch (latch-word p) x [] (stand-blockers p x) h a) ≡ false) → elem p (pick x [] (at-latch (latch-word p) x [] (stand-blockers p x) h) es) ≡ false
-    go [] f = refl
-    go (e ∷ es) f = either (λ l. elem p l ≡ false) (leb x (e .1)) (at-latch (latch-word p) x [] (stand-blockers p x) h (e .0))
-        (pick x [] (at-latch (latch-word p) x [] (stand-blockers p x) h) es) (f (e .0)) (go es f)
 
 pub never-the-asker : (p : ℕ) (r : Request) (s : State) (g : Stage) → elem p (step-blockers p r s g) ≡ false
 unfolding step-blockers entry-blockers group-blockers
@@ -189,6 +177,6 @@ never-the-asker p r s start =
     either (λ l. elem p l ≡ false) (eqb (r .code) 1) (entry-blockers weak p r s) (cond (leb (r .code) 4) (entry-blockers strong p r s) []) (blockers-others _ weak p _ _)
     (either (λ l. elem p l ≡ false) (leb (r .code) 4) (entry-blockers strong p r s) [] (blockers-others _ strong p _ _) refl)
 never-the-asker p r s (enter x) = latch-others p _
-never-the-asker p r s (at x) = at-others p x (suc (s .root .height)) (s .root .node)
+never-the-asker p r s (at x) = latch-cases (λ l. elem p l ≡ false) (latch-word p) x [] (stand-blockers p x) (suc (s .root .height)) (s .root .node) refl (stand-others p x)
 never-the-asker p r s change = blockers-others _ strong p _ _
 never-the-asker p r s (take x) = blockers-others _ weak p _ _

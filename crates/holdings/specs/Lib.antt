@@ -1,0 +1,3 @@
+-- The specifications of the crate holdings.
+pub mod Holdings
+pub mod Passed
