@@ -1,10 +1,19 @@
-// Soundness: the computed test of store and table is true exactly if they are sound as document 01 says.
+// Soundness: the test of a store and its session table is true exactly if they are sound as document 01 says.
 //
-// It promises (specs/): the test's definition finds no fault exactly if `meaning.Sound` holds. It rests on the crates of the test for its definition,
-// on `meaning` for what is sound.
-// How many records a test can tell apart.
-pub fn most_records() -> u32
-    ensures { λ r. ⌜ r ≡ 4096 ⌝ }
+// It promises: `is_sound` answers exactly whether `meaning.Sound` holds. specs/: Tested (the test is its passes), a file for each pass, Walked (all of them
+// together), Sounds and Exactly (the two directions, `test-sound` and `sound-test`). It rests on the crates of the test for its definition, on `meaning`
+// for what is sound.
+ghost use mathlib.Core.Path.{_≡_};
+ghost use mathlib.Core.Bool.{true};
+ghost use mathlib.Core.Logic.{_↔_};
+ghost use Rattle.meaning.specs.Sound.{Sound};
+ghost use Rattle.soundness.specs.Sounds.{Table};
+use sessions::PARTIES;
+use sessions::Session;
+
+// Whether a store and its table are sound. Every array of 17 session records is a `Table`.
+pub fn is_sound(store: &[u32], t: [Session; PARTIES]) -> bool
+    ensures { λ b. ⌜ (Table t → ((b ≡ true) ↔ Sound (now (store .entry)) t)) ⌝ }
 {
-    0
+    sound::is_sound(store, t)
 }
