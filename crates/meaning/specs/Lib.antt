@@ -1,2 +1,16 @@
 pub mod Reading
 pub mod Sound
+pub mod Numbers
+pub mod Frame
+pub mod Parts
+pub mod Writes
+pub mod Around
+pub mod Stand
+pub mod Table
+pub mod Latched
+pub mod Lens
+pub mod Grouping
+pub mod Owned
+pub mod Hole
+pub mod Naming
+pub mod Again
