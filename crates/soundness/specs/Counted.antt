@@ -16,7 +16,8 @@ use Rattle.machine.specs.Looks.{with-many}
 use Rattle.meaning.specs.Reading.{gather, member-chain, member-entries, desc-at, Leaf, M-of, R-of, height-of, tree-of, free-chain, meaning}
 use Rattle.meaning.specs.Sound.{All, Apart, Once, leaves-of, undo-chains}
 use Rattle.soundness.specs.GroupsPass.{members-of}
-use Rattle.soundness.specs.Counts.{lvs-leaves, leaves-read, numbers-many, joined-many, undos-are}
+use Rattle.soundness.specs.UndoLeaves.{leaves-meant, leaves-read}
+use Rattle.soundness.specs.Counts.{numbers-many, joined-many, undos-are}
 use Rattle.soundness.specs.Reach.{tree-records, undo-records, member-records, met, undos-joined}
 
 gather-apart : (e : ℕ) (l : List ℕ) → Apart e l → elem e (gather l) ≡ false
@@ -31,10 +32,6 @@ gather-many (e ∷ l) o = with-many e (gather l) (gather-apart e l (o .0)) ∙ a
 -- No group lists an entry twice.
 abbrev pub Single : List ℕ → ℕ → Type 0
 Single s d = Once (member-entries s (M-of s) (member-chain s (M-of s) (R-of s) d))
-
-pub all-read : (s : List ℕ) → All (λ l. l .desc ≡ desc-at s (M-of s) (R-of s) (l .num)) (leaves-of s)
-unfolding tree-of
-all-read s = leaves-read s (M-of s) (R-of s) (suc (height-of s)) _ _
 
 module _ (s : List ℕ) (t : List Session) where
   members-count : (ls : List Leaf) → All (λ l. l .desc ≡ desc-at s (M-of s) (R-of s) (l .num)) ls → All (λ l. Single s (l .num)) ls
@@ -56,7 +53,7 @@ module _ (s : List ℕ) (t : List Session) where
       let c = length-append (undo-records s t) (member-records s t ++ free-chain s) in
       let d = length-append (member-records s t) (free-chain s) in
       let e = numbers-many (suc (height-of s)) (tree-of s) in
-      let f = ap length (lvs-leaves s t) ∙ length-map (leaves-of s) (λ (l : Leaf). l .desc) in
-      let g = ap members-many (lvs-leaves s t) ∙ members-count (leaves-of s) (all-read s) b in
+      let f = ap length (leaves-meant s t) ∙ length-map (leaves-of s) (λ (l : Leaf). l .desc) in
+      let g = ap members-many (leaves-meant s t) ∙ members-count (leaves-of s) (leaves-read s) b in
       let h = undos-are s t ∙ sym (joined-many (undo-chains s t)) ∙ ap length (undos-joined s t table) in
       omega arith

@@ -29,8 +29,7 @@ use Rattle.soundness.specs.ListsPass.{come}
 use Rattle.soundness.specs.UndosPass.{Each-session}
 use Rattle.soundness.specs.RootPass.{RootInOrder}
 use Rattle.soundness.specs.TreeKnown.{TreeKnown}
-use Rattle.soundness.specs.Counts.{lvs-leaves}
-use Rattle.soundness.specs.Counted.{all-read}
+use Rattle.soundness.specs.UndoLeaves.{leaves-meant, leaves-read}
 use Rattle.soundness.specs.Leaves.{stored-records, entries-meaning}
 use Rattle.soundness.specs.MembersHeld.{MembersCome, all-map, sound-come}
 use Rattle.soundness.specs.GroupsHeld.{Taking, GroupsSound, PinsCounted, LocateHeld, sound-groups, locate-passed, locate-ahead, GroupUndoes, parts-groups}
@@ -108,12 +107,12 @@ module _ (s : List ℕ) (t : List Session) (T : Table t) (D : S.Sound s t) where
 
   lowest : lowestOk s m r ≡ true
   lowest =
-      lowest-walks s m r (leaves-of s) 4294967296 (all-read s) (D .chained)
+      lowest-walks s m r (leaves-of s) 4294967296 (leaves-read s) (D .chained)
       (all-map (λ d. d ≤ r) (λ (l : Leaf). l .num) (leaves-of s) .0 (all-as (λ d (b : Among r d). b .1) (stored-records s) leaf-among))
-      (subst (Rises 0 4294967296) (lvs-leaves s t) rises)
+      (subst (Rises 0 4294967296) (leaves-meant s t) rises)
       (all-as (λ (l : Leaf) (c : Members s (l .num)). c .ends) (leaves-of s) (D .members))
-      (sym (ap (stored-in 0) (lvs-leaves s t)) ∙ D .state .zero-stored)
-      (sym (ap (group-in 0) (lvs-leaves s t)) ∙ D .state .zero-empty)
+      (sym (ap (stored-in 0) (leaves-meant s t)) ∙ D .state .zero-stored)
+      (sym (ap (group-in 0) (leaves-meant s t)) ∙ D .state .zero-empty)
 
   requests : Requests s t
   requests = requests-of s t (D .state) (D .hands)
@@ -127,7 +126,7 @@ module _ (s : List ℕ) (t : List Session) (T : Table t) (D : S.Sound s t) where
   -- ---- holders
 
   pins-counted : PinsCounted s t (stood s t .held)
-  pins-counted = all-map _ (λ (l : Leaf). l .num) (leaves-of s) .1 (go (leaves-of s) (all-read s) tallied)
+  pins-counted = all-map _ (λ (l : Leaf). l .num) (leaves-of s) .1 (go (leaves-of s) (leaves-read s) tallied)
     where
       go : (ls : List Leaf) → All (λ l. l .desc ≡ desc-at s m r (l .num)) ls
           → All (λ l. getD (stood s t .held) (l .num) 0 ≡ M.total (M.pins-by (l .desc .key)) (σ s t .table)) ls

@@ -17,7 +17,7 @@ abbrev pub stored-records : List ℕ → List ℕ
 stored-records s = map (λ (l : Leaf). l .num) (leaves-of s)
 
 -- Without the numbers the leaves are the descriptors.
-erase-leaves : (h : ℕ) (t : Numbered h) → leaves Desc ℕ h (erase h t) ≡ map (λ (l : Leaf). l .desc) (leaves Leaf Mark h t)
+pub erase-leaves : (h : ℕ) (t : Numbered h) → leaves Desc ℕ h (erase h t) ≡ map (λ (l : Leaf). l .desc) (leaves Leaf Mark h t)
 unfolding leaves erase
 erase-leaves zero t = refl
 erase-leaves (suc h) t = go (erase-leaves h) (t .sons)

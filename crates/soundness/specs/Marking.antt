@@ -12,6 +12,7 @@ use lib.Seq.{getD-set-same, getD-set-other, set-comm}
 use borrow.Author.Tests.{eq-eqb, ne-eqb, le-leb, eqb-true, eqb-false, leb-true, not-true}
 use Rattle.machine.specs.Sound.{times}
 use Rattle.meaning.specs.Sound.{All, Apart, Once}
+pub use Rattle.meaning.specs.Numbers.{In, in?, not-in, apart-from, all-append, all-left, all-right, all-as, all-of, all-in, all-from, apart-append, apart-left, apart-right, once-apart, times-append, times-apart, times-in, in-times, apart-times}
 use Rattle.marks.specs.Marks.{Visit, isNew, meet, isMet}
 use Rattle.marks.specs.Steps.{no as never, both, met-in}
 
@@ -34,27 +35,6 @@ Unmarked seen i = getD seen i 0 ≡ 0
 
 -- ---- membership
 
-abbrev pub In : ℕ → List ℕ → Type 0
-In j [] = ⊥
-In j (i ∷ l) = (j ≡ i) ⊎ In j l
-
-pub in? : (j : ℕ) (l : List ℕ) → In j l ⊎ Apart j l
-in? j [] = inr tt
-in? j (i ∷ l) = go (ℕ-discrete j i) (in? j l)
-  where
-    go : Dec (j ≡ i) → In j l ⊎ Apart j l → In j (i ∷ l) ⊎ Apart j (i ∷ l)
-    go (yes e) o = inl (inl e)
-    go (no n) (inl h) = inl (inr h)
-    go (no n) (inr h) = inr (n, h)
-
-pub not-in : (j : ℕ) (l : List ℕ) → Apart j l → In j l → ⊥
-not-in j (i ∷ l) a (inl e) = a .0 e
-not-in j (i ∷ l) a (inr h) = not-in j l (a .1) h
-
-pub apart-from : (j : ℕ) (l : List ℕ) → (In j l → ⊥) → Apart j l
-apart-from j [] n = tt
-apart-from j (i ∷ l) n = (λ e. n (inl e), apart-from j l (λ h. n (inr h)))
-
 pub in-left : (j : ℕ) (a b : List ℕ) → In j a → In j (a ++ b)
 in-left j (i ∷ a) b (inl e) = inl e
 in-left j (i ∷ a) b (inr h) = inr (in-left j a b h)
@@ -72,50 +52,7 @@ in-append j (i ∷ a) b (inr h) = go (in-append j a b h)
     go (inl x) = inl (inr x)
     go (inr y) = inr y
 
--- ---- all of a list
-
-module _ {A : Type 0} where
-  pub all-append : (P : A → Type 0) (a b : List A) → All P a → All P b → All P (a ++ b)
-  all-append P [] b p q = q
-  all-append P (x ∷ a) b p q = (p .0, all-append P a b (p .1) q)
-
-  pub all-left : (P : A → Type 0) (a b : List A) → All P (a ++ b) → All P a
-  all-left P [] b p = tt
-  all-left P (x ∷ a) b p = (p .0, all-left P a b (p .1))
-
-  pub all-right : (P : A → Type 0) (a b : List A) → All P (a ++ b) → All P b
-  all-right P [] b p = p
-  all-right P (x ∷ a) b p = all-right P a b (p .1)
-
-  pub all-as : {P Q : A → Type 0} → ((x : A) → P x → Q x) → (l : List A) → All P l → All Q l
-  all-as f [] p = tt
-  all-as f (x ∷ l) p = (f x (p .0), all-as f l (p .1))
-
-  pub all-of : {P : A → Type 0} → ((x : A) → P x) → (l : List A) → All P l
-  all-of f [] = tt
-  all-of f (x ∷ l) = (f x, all-of f l)
-
-pub all-in : (P : ℕ → Type 0) (l : List ℕ) → All P l → (j : ℕ) → In j l → P j
-all-in P (i ∷ l) p j (inl e) = subst P (sym e) (p .0)
-all-in P (i ∷ l) p j (inr h) = all-in P l (p .1) j h
-
-pub all-from : {P : ℕ → Type 0} (l : List ℕ) → ((j : ℕ) → In j l → P j) → All P l
-all-from [] f = tt
-all-from (i ∷ l) f = (f i (inl refl), all-from l (λ j h. f j (inr h)))
-
 -- ---- none twice
-
-pub apart-append : (j : ℕ) (a b : List ℕ) → Apart j a → Apart j b → Apart j (a ++ b)
-apart-append j [] b p q = q
-apart-append j (i ∷ a) b p q = (p .0, apart-append j a b (p .1) q)
-
-pub apart-left : (j : ℕ) (a b : List ℕ) → Apart j (a ++ b) → Apart j a
-apart-left j [] b p = tt
-apart-left j (i ∷ a) b p = (p .0, apart-left j a b (p .1))
-
-pub apart-right : (j : ℕ) (a b : List ℕ) → Apart j (a ++ b) → Apart j b
-apart-right j [] b p = p
-apart-right j (i ∷ a) b p = apart-right j a b (p .1)
 
 pub once-append : (a b : List ℕ) → Once a → Once b → ((j : ℕ) → In j a → Apart j b) → Once (a ++ b)
 once-append [] b p q d = q
@@ -129,43 +66,17 @@ pub once-right : (a b : List ℕ) → Once (a ++ b) → Once b
 once-right [] b p = p
 once-right (i ∷ a) b p = once-right a b (p .1)
 
-pub once-apart : (a b : List ℕ) → Once (a ++ b) → (j : ℕ) → In j a → Apart j b
-once-apart (i ∷ a) b p j (inl e) = subst (λ x. Apart x b) (sym e) (apart-right i a b (p .0))
-once-apart (i ∷ a) b p j (inr h) = once-apart a b (p .1) j h
-
 -- The other way round: what is in b is not in a.
 pub once-before : (a b : List ℕ) → Once (a ++ b) → (j : ℕ) → In j b → Apart j a
 once-before a b p j h = apart-from j a (λ k. not-in j b (once-apart a b p j k) h)
 
 -- ---- how often a number stands in a list
 
-pub times-append : (k : ℕ) (a b : List ℕ) → times k (a ++ b) ≡ times k a + times k b
-times-append k [] b = omega arith
-times-append k (i ∷ a) b = omega (arith, times-append k a b)
-
 one-is : (x k : ℕ) → x ≡ k → _≡_ {A = ℕ} (cond (eqb x k) 1 0) 1
 one-is x k e = ap (λ (b : Bool). cond {A = ℕ} b 1 0) (eq-eqb x k e)
 
 one-not : (x k : ℕ) → (x ≡ k → ⊥) → _≡_ {A = ℕ} (cond (eqb x k) 1 0) 0
 one-not x k n = ap (λ (b : Bool). cond {A = ℕ} b 1 0) (ne-eqb x k n)
-
-pub times-apart : (k : ℕ) (l : List ℕ) → Apart k l → times k l ≡ 0
-times-apart k [] a = refl
-times-apart k (i ∷ l) a = omega (arith, one-not i k (λ e. a .0 (sym e)), times-apart k l (a .1))
-
-pub times-in : (k : ℕ) (l : List ℕ) → In k l → 1 ≤ times k l
-times-in k (i ∷ l) (inl e) = omega (arith, one-is i k (sym e))
-times-in k (i ∷ l) (inr h) = omega (arith, times-in k l h)
-
-pub in-times : (k : ℕ) (l : List ℕ) → 1 ≤ times k l → In k l
-in-times k l h = go (in? k l)
-  where
-    go : In k l ⊎ Apart k l → In k l
-    go (inl i) = i
-    go (inr a) = absurd (omega (arith, h, times-apart k l a))
-
-pub apart-times : (k : ℕ) (l : List ℕ) → times k l ≡ 0 → Apart k l
-apart-times k l e = apart-from k l (λ i. omega (arith, e, times-in k l i))
 
 pub once-times : (l : List ℕ) → Once l → (k : ℕ) → times k l ≤ 1
 once-times [] o k = omega arith

@@ -35,8 +35,8 @@ use Rattle.soundness.specs.ListsPass.{come}
 use Rattle.soundness.specs.UndosPass.{Needed, chain-of}
 use Rattle.soundness.specs.RootPass.{RootInOrder}
 use Rattle.soundness.specs.TreeKnown.{TreeKnown, tree-known}
-use Rattle.soundness.specs.Counts.{lvs-leaves}
-use Rattle.soundness.specs.Counted.{all-read, met-many}
+use Rattle.soundness.specs.UndoLeaves.{leaves-meant, leaves-read}
+use Rattle.soundness.specs.Counted.{met-many}
 use Rattle.soundness.specs.Leaves.{stored-records, entries-meaning}
 use Rattle.soundness.specs.MembersHeld.{MembersSound, come-sound, all-map}
 use Rattle.soundness.specs.GroupsHeld.{Taking, GroupsSound, PinsCounted, GroupParts, groups-parts, groups-sound, leaf-pins, sound-locate}
@@ -263,7 +263,7 @@ module _ (s : List ℕ) (t : List Session) (T : Table t) (W : Walked s t) where
           }
 
   leaf-pinned : Leaf-pins s t
-  leaf-pinned = go (leaves-of s) (all-read s) (all-map _ (λ (l : Leaf). l .num) (leaves-of s) .0 (leaf-pins s t rises)) (all-map _ (λ (l : Leaf). l .num) (leaves-of s) .0 (held .1)) tallied
+  leaf-pinned = go (leaves-of s) (leaves-read s) (all-map _ (λ (l : Leaf). l .num) (leaves-of s) .0 (leaf-pins s t rises)) (all-map _ (λ (l : Leaf). l .num) (leaves-of s) .0 (held .1)) tallied
     where
       go : (ls : List Leaf) → All (λ l. l .desc ≡ desc-at s m r (l .num)) ls
           → All (λ (l : Leaf). M.pins-in (wordOf s m (l .num) 1) (lvs (σ s t)) ≡ wordOf s m (l .num) 5) ls
@@ -278,14 +278,14 @@ module _ (s : List ℕ) (t : List Session) (T : Table t) (W : Walked s t) where
   unfolding meaning tree-of
   state-sound =
       let n = entries-meaning s t in
-      let low = lowest-found s m r (leaves-of s) (all-read s) (W .tree .chained) (W .lowest) in
+      let low = lowest-found s m r (leaves-of s) (leaves-read s) (W .tree .chained) (W .lowest) in
       record {
         sizes = (omega (arith, n, Z .entries .0), omega (arith, n, Z .entries .1), Z .records .0, Z .records .1);
         seats = seats-meant s t (T .seats);
         counted = met-many s t (T .seats) (all-as (λ (l : Leaf) (c : Members s (l .num)). c .once) (leaves-of s) (members .members)) ∙ W .many;
         shaped = W .tree .shaped;
-        zero-stored = ap (stored-in 0) (lvs-leaves s t) ∙ low .0;
-        zero-empty = ap (group-in 0) (lvs-leaves s t) ∙ low .1;
+        zero-stored = ap (stored-in 0) (leaves-meant s t) ∙ low .0;
+        zero-empty = ap (group-in 0) (leaves-meant s t) ∙ low .1;
         top-free = W .tree .top-free;
         listed = members .listed;
         only-begun = only-begun;

@@ -23,8 +23,9 @@ use Rattle.standing.specs.Standing.{descendFrom, hasKey, isStored}
 use Rattle.soundness.specs.Marking.{Among, In, all-in, all-right, all-as, is-met, met-is}
 use Rattle.soundness.specs.TreePaths.{leaf-number, Node-at, Known, Reads}
 use Rattle.soundness.specs.TreePaths as P
+use Rattle.soundness.specs.Leaves.{erase-leaves}
 use Rattle.soundness.specs.UndoLeaves.{descs, nums, Read, leaves-read}
-use Rattle.soundness.specs.TreeLeaves.{Split, split, stored-split, split-stored, record-at, Says, key-range, number-split, in-mid, leaves-erase}
+use Rattle.soundness.specs.TreeLeaves.{Split, split, stored-split, split-stored, record-at, Says, key-range, number-split, in-mid}
 use Rattle.soundness.specs.TreeRecords.{leaf-in, TreeMarks, is-leaf}
 use Rattle.soundness.specs.TreeWalked.{Few}
 use Rattle.soundness.specs.RootPass.{root-tree, RootInOrder}
@@ -115,7 +116,7 @@ module _ (s seen : List ℕ) (K : TreeKnown s seen) where
   keys-low =
       let h = suc (height-of s) in
       let t = erase h (tree-of s) in
-      subst (Order.In 0 (suc top)) (leaves-erase h (tree-of s)) (ord-in h 0 top t (shaped-ordered h 1 0 top t (K .shaped)))
+      subst (Order.In 0 (suc top)) (erase-leaves h (tree-of s)) (ord-in h 0 top t (shaped-ordered h 1 0 top t (K .shaped)))
 
   pub leaf-low : (i : ℕ) → In i (nums (leaves-of s)) → key-word s i ≤ top
   leaf-low i n = let q = key-range (key-word s) 0 (suc top) i (leaves-of s) keys-low says n .1 in omega (arith, q)

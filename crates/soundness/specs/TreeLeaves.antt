@@ -8,13 +8,14 @@ use native.Mathlib.Omega.{arith}
 use borrow.Author.Tests.{eq-eqb, ne-eqb}
 use Rattle.machine.specs.Tree.{pick, flat, flat-append, mapE, Seg, hit, pick-hit, leaves}
 use Rattle.machine.specs.State.{Desc}
-use Rattle.machine.specs.Order.{Ord, In, in-append, in-wide, seg-le, seg-in, ord-le, ord-in, lv}
+use Rattle.machine.specs.Order.{Ord, In, in-append, in-wide, seg-le, seg-in, ord-le, ord-in}
 use Rattle.machine.specs.Sound.{stored-in}
 use Rattle.machine.specs.Looks.{stored-range, stored-parts, stored-here}
 use Rattle.meaning.specs.Reading.{Leaf, Mark, Numbered, erase}
 use Rattle.meaning.specs.Sound.{All, record-of}
 use Rattle.soundness.specs.Marking as G
 use Rattle.soundness.specs.Marking.{all-left, all-right}
+use Rattle.soundness.specs.Leaves.{erase-leaves}
 use Rattle.soundness.specs.UndoLeaves.{descs, nums}
 use Rattle.soundness.specs.TreePaths.{leaf-number}
 
@@ -22,17 +23,6 @@ abbrev pub lvn : (h : ℕ) → Numbered h → List Leaf
 lvn h t = leaves Leaf Mark h t
 
 -- ---- without the numbers
-
-flat-erase : {A B : Type 0} (f : A → B) (g : A → List Leaf) (k : B → List Desc) → ((a : A) → k (f a) ≡ descs (g a)) → (es : List (A × ℕ)) → flat k (mapE f es) ≡ descs (flat g es)
-flat-erase f g k e [] = refl
-flat-erase f g k e (p ∷ es) =
-    ap (λ (l : List Desc). l ++ flat k (mapE f es)) (e (p .0)) ∙ ap (λ (l : List Desc). descs (g (p .0)) ++ l) (flat-erase f g k e es)
-    ∙ sym (map-append (λ (x : Leaf). x .desc) (g (p .0)) (flat g es))
-
-pub leaves-erase : (h : ℕ) (t : Numbered h) → lv h (erase h t) ≡ descs (lvn h t)
-unfolding erase leaves
-leaves-erase zero t = refl
-leaves-erase (suc h) t = flat-erase (erase h) (leaves Leaf Mark h) (leaves Desc ℕ h) (leaves-erase h) (t .sons)
 
 -- ---- the descriptor on the path to x
 
@@ -71,7 +61,7 @@ flat-descs h (p ∷ es) = ap (λ (l : List Desc). descs (lvn h (p .0)) ++ l) (fl
 within-in : (h lo e : ℕ) (es : List (Numbered h × ℕ)) → Seg (Within h) lo e es → In lo e (descs (flat (lvn h) es))
 within-in h lo e es g =
     subst (In lo e) (flat-descs h es)
-    (seg-in (Within h) (λ a. descs (lvn h a)) (within-le h) (λ l u a o. subst (In l (suc u)) (leaves-erase h a) (ord-in h l u (erase h a) o)) lo e es g)
+    (seg-in (Within h) (λ a. descs (lvn h a)) (within-le h) (λ l u a o. subst (In l (suc u)) (erase-leaves h a) (ord-in h l u (erase h a) o)) lo e es g)
 
 in-both : (lo e : ℕ) (a b : List Leaf) → In lo e (descs a) → In lo e (descs b) → In lo e (descs (a ++ b))
 in-both lo e a b p q = subst (In lo e) (sym (map-append (λ (x : Leaf). x .desc) a b)) (in-append lo e (descs a) (descs b) p q)
