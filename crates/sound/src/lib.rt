@@ -3,7 +3,7 @@
 // `first_fault` runs the passes one after the other and answers the first part that is broken, or that none is and how many records are
 // free; `is_sound` answers whether none is. Neither asks anything of the words that it is given. Each result EQUALS a definition
 // of specs/Sound (`firstFault`, `isSound`); specs/Sizes has the sizes that format gives, specs/Faults the numbers of the parts. The time is
-// linear in the words of the store. It rests on the crates words, groups, sessions, marks, undo_chains, lists, parties, tree_walk and holdings.
+// linear in the words of the store. It rests on the crates words, groups, sessions, marks, undo_chains, parties, tree_walk and holdings.
 ghost use mathlib.Core.Path.{_≡_};
 ghost use Prim.Native.Nat.{_+_, _*_, _≤_, _<_};
 ghost use lib.ListN.{length};
@@ -37,7 +37,7 @@ pub const TREE: u32 = 4;
 // the checks that put makes on code and arguments, and stands where its own steps can bring it": a request does not
 pub const REQUESTS: u32 = 5;
 
-// "short locks .. match the requests in hand": there are more of them
+// "short locks .. match the requests in hand": a node has one that no request has
 pub const LATCHES: u32 = 6;
 
 // "each take-back chain can be undone .. under locks that its session holds"; no record is reached twice
