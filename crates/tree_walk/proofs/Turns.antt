@@ -6,7 +6,7 @@ use Prim.Native.Nat.{ℕ, zero, suc, _+_, _-_, _≤_, _<_}
 use native.Mathlib.Omega.{arith}
 use lib.Dec.{eqb, leb}
 use lib.ListN.{getD, set}
-use borrow.Author.Tests.{eq-eqb, ne-eqb, le-leb, lt-leb, leb-true}
+use borrow.Author.Tests.{eq-eqb, ne-eqb, le-leb, lt-leb, leb-true, le-ltb, lt-ltb}
 use Rattle.words.specs.Header.{headerWord, rootPlace, heightPlace, firstPlace}
 use Rattle.nodes.specs.declared.Node.{Node}
 use Rattle.nodes.specs.Node.{nodeAt}
@@ -22,6 +22,24 @@ to-tour t e = record { is = t .is ∙ sym e }
 
 one-less : (k : ℕ) → 0 < k → k ≡ suc (k - 1)
 one-less k h = omega arith
+
+-- a node of these words
+abbrev pub nodeOf : ℕ → ℕ → List ℕ → List ℕ → Node
+nodeOf latch count b s = record { latch = latch; count = count; bounds = b; sons = s }
+
+-- the highest key below a son that has a boundary behind it, and below the last
+module _ (n : Node) (k hi : ℕ) {top : ℕ} where
+  pub top-inner : k + 1 < n .count → top ≡ getD (n .bounds) k 0 → top ≡ topOf n k hi
+  unfolding topOf
+  top-inner h e = simp (lt-ltb (k + 1) (n .count) h, e)
+
+  pub top-last : n .count ≤ k + 1 → top ≡ hi → top ≡ topOf n k hi
+  unfolding topOf
+  top-last h e = simp (le-ltb (k + 1) (n .count) h, e)
+
+pub least-as : (n : Node) (k : ℕ) {least : ℕ} → least ≡ topOf n k 0 → least ≡ leastOf n k
+unfolding topOf leastOf
+least-as n k e = e
 
 pub record Touring (whole : Tour) (s : List ℕ) (m r : ℕ) (n : Node) (hi k rest : ℕ) (t : Tour) : Type 0 where
   pub is : leavesFrom s m r n hi k rest t ≡ whole

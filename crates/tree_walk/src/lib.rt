@@ -7,10 +7,10 @@
 // groups and marks.
 ghost use mathlib.Core.Path.{_≡_};
 ghost use Prim.Native.Nat.{_≤_, _<_};
-ghost use lib.ListN.{length, getD};
+ghost use lib.ListN.{length};
 ghost use Rattle.words.specs.Store.{HasRecord};
 ghost use Rattle.marks.specs.Marks.{HasRecords};
-ghost use Rattle.tree_walk.specs.TreeWalk.{Toured, Entered, tour, stop, raise, topOf, leastOf, leafWords, metWalk, leafTour, leavesFrom, enterTour, countLatch, fanoutOk, sonsFrom, treeFrom, startWalk, rootTour};
+ghost use Rattle.tree_walk.specs.TreeWalk.{Toured, Entered, tour, stop, raise, leafWords, metWalk, leafTour, leavesFrom, enterTour, countLatch, fanoutOk, sonsFrom, treeFrom, startWalk, rootTour};
 use nodes::Node;
 
 // A walk: whether all is in order so far, how many records may still be met, how many nodes are latched, the record of the descriptor
@@ -39,40 +39,6 @@ fn stopped(w: Walk) -> Walk
 }
 
 // ---- descriptors
-
-// The highest key below son k of a node whose own highest is hi.
-fn top_of(n: Node, k: usize, hi: usize) -> usize
-    requires { ⌜ (n .count ≤ 8) × (k < n .count) × (hi < 4294967296) ⌝ }
-    ensures { λ t. ⌜ (t ≡ topOf n k hi) × (t < 4294967296) ⌝ }
-{
-    let b = n.bounds;
-    let count = n.count as usize;
-    if k + 1 < count {
-        return b[k] as usize;
-    }
-    hi
-}
-
-// The lowest key of son k at a lowest node: the boundary behind it, which is its key; the last son has none.
-fn least_of(n: Node, k: usize) -> usize
-    requires { ⌜ (n .count ≤ 8) × (k < n .count) ⌝ }
-    ensures { λ t. ⌜ t ≡ leastOf n k ⌝ }
-{
-    let b = n.bounds;
-    let count = n.count as usize;
-    if k + 1 < count {
-        return b[k] as usize;
-    }
-    0
-}
-
-fn son_of(n: Node, k: usize) -> usize
-    requires { ⌜ k < 8 ⌝ }
-    ensures { λ t. ⌜ t ≡ getD (n .sons) k 0 ⌝ }
-{
-    let s = n.sons;
-    s[k] as usize
-}
 
 // Descriptor i's key is above the one before it, and from least to top; the chain goes on behind it.
 fn leaf_words(store: &[u32], m: usize, i: usize, least: usize, top: usize, w: Walk) -> Walk
@@ -146,7 +112,7 @@ fn walk_leaf(
     leaf_words(store, m, i, least, top, v)
 }
 
-// A lowest node's sons.
+// A lowest node's sons. The boundary behind a son is its key: the lowest and the highest that it may have; the last son has none.
 fn walk_leaves(
     store: &[u32],
     seen: &mut [u8],
@@ -161,12 +127,18 @@ fn walk_leaves(
     ensures { λ v. ⌜ Toured (leavesFrom (now (store .entry)) m r n hi 0 (n .count) (tour w (now (seen .entry)) (now (order .entry)))) v (now (seen .exit)) (now (order .exit)) ⌝ }
 {
     let count = n.count as usize;
+    let b = n.bounds;
+    let s = n.sons;
     let mut v = w;
     let mut k = 0;
     while k < count {
-        let i = son_of(n, k);
-        let least = least_of(n, k);
-        let top = top_of(n, k, hi);
+        let i = s[k] as usize;
+        let mut least = 0;
+        let mut top = hi;
+        if k + 1 < count {
+            least = b[k] as usize;
+            top = least;
+        }
         v = walk_leaf(store, seen, order, m, r, i, least, top, v);
         if !v.ok {
             return v;
@@ -272,7 +244,7 @@ fn walk_node(
     walk_sons(store, seen, order, m, r, depth - 1, n, hi, u)
 }
 
-// A node's sons, which are nodes.
+// A node's sons, which are nodes. The highest key below a son is the boundary behind it, and below the last the node's own.
 fn walk_sons(
     store: &[u32],
     seen: &mut [u8],
@@ -288,11 +260,16 @@ fn walk_sons(
     ensures { λ v. ⌜ Toured (sonsFrom (treeFrom (now (store .entry)) m r depth 3) n hi 0 (n .count) (tour w (now (seen .entry)) (now (order .entry)))) v (now (seen .exit)) (now (order .exit)) ⌝ }
 {
     let count = n.count as usize;
+    let b = n.bounds;
+    let s = n.sons;
     let mut v = w;
     let mut k = 0;
     while k < count {
-        let i = son_of(n, k);
-        let top = top_of(n, k, hi);
+        let i = s[k] as usize;
+        let mut top = hi;
+        if k + 1 < count {
+            top = b[k] as usize;
+        }
         let u = walk_node(store, seen, order, m, r, depth, 3, i, top, v);
         if !u.ok {
             return u;

@@ -1,15 +1,18 @@
 -- The proof of `walk_node` and `walk_sons`, which call each other: the depth falls at each call of `walk_node`.
 use mathlib.Core.Path.{_≡_, refl, sym, _∙_}
+use mathlib.Core.Logic.{⊎-elim}
 use Prim.Native.Nat.{ℕ, _+_, _-_, _≤_, _<_}
 use native.Mathlib.Omega.{arith}
-use lib.ListN.{length}
+use lib.ListN.{length, getD}
+use mir.Syntax.{w32}
+use mir.Val.{Fits}
 use borrow.Author.Tests.{not-true, not-false}
 use borrow.Author.Needs.{needs}
 use borrow.Fn.Kinds.{In}
 use borrow.Fn.PlainCycle.{Measures, is, falls, and}
-use Rattle.tree_walk.specs.TreeWalk.{sonsFrom, treeFrom, tour}
+use Rattle.tree_walk.specs.TreeWalk.{topOf, sonsFrom, treeFrom, tour}
 use Rattle.marks.specs.Steps.{has-one}
-use Rattle.tree_walk.proofs.Turns.{Sonning, son-start, son-stop, son-more, son-end, node-twice, node-fanout, node-lowest, node-inner, fan-count, kept-lt}
+use Rattle.tree_walk.proofs.Turns.{nodeOf, top-inner, top-last, Sonning, son-start, son-stop, son-more, son-end, node-twice, node-fanout, node-lowest, node-inner, fan-count, kept-lt}
 use Rattle.tree_walk.proofs.+walk_node+walk_sons.{statement}
 use Rattle.tree_walk.proofs.+walk_node+walk_sons.Tie.{close}
 use Rattle.tree_walk.proofs.walk_node.Reads as walk-node
@@ -23,9 +26,7 @@ use Rattle.tree_walk.proofs.count_latch.Reads as count-latch-reads
 use Rattle.tree_walk.proofs.enter_node.Reads as enter-node-reads
 use Rattle.tree_walk.proofs.fanout_ok.Reads as fanout-ok-reads
 use Rattle.tree_walk.proofs.raised.Reads as raised-reads
-use Rattle.tree_walk.proofs.son_of.Reads as son-of-reads
 use Rattle.tree_walk.proofs.stopped.Reads as stopped-reads
-use Rattle.tree_walk.proofs.top_of.Reads as top-of-reads
 use Rattle.tree_walk.proofs.walk_leaves.Reads as walk-leaves-reads
 
 abbrev μ-walk-node : Measures 3 walk-node-kinds.ps ℕ
@@ -372,17 +373,14 @@ walk-node-returns-4 : (t : ℕ) → walk-node-lts.Need-returns-4 (
 ) (walk-node-at t) walk-node.Post
 walk-node-returns-4 t c = node-inner _ _ _ _ _ _ _ _ _ (c .before .before .before .before .before .before .before .before .before .before .before .before .before .before .before .before .enter-node .ensures) (not-false _ (c .before .before .before .before .before .before .before .before .before .before .before .before .if1 .left)) (c .before .before .before .before .before .before .before .before .before .before .before .load-node .ensures) (sym (c .before .before .before .before .before .before .before .before .before .before .fanout-ok .ensures) ∙ not-false _ (c .before .before .before .before .before .before .before .before .before .if2 .left)) (c .before .before .before .before .before .before .before .before .count-latch .ensures) (c .before .before .before .before .before .before .before .if3 .left) (c .before .before .before .before .walk-sons .ensures)
 
+-- the loop sees the node's words but its latch, so it holds of any
 abbrev walk-sons-Inv-loop : walk-sons-lts.InvT-loop
-walk-sons-Inv-loop store seen₀ order₀ m r depth n hi count v₀ k₀ seen order v k = (k ≤ count) × (count ≡ n .count) × (length seen ≡ length seen₀) × (length order ≡ length order₀) × Sonning (sonsFrom (treeFrom store m r depth 3) n hi 0 (n .count) (tour v₀ seen₀ order₀)) (treeFrom store m r depth 3) n hi k (count - k) (tour v seen order)
+walk-sons-Inv-loop store seen₀ order₀ m r depth hi count b s v₀ k₀ seen order v k = (k ≤ count) × (length seen ≡ length seen₀) × (length order ≡ length order₀) × ((latch : ℕ) → Sonning (sonsFrom (treeFrom store m r depth 3) (nodeOf latch count b s) hi 0 count (tour v₀ seen₀ order₀)) (treeFrom store m r depth 3) (nodeOf latch count b s) hi k (count - k) (tour v seen order))
 
 abbrev walk-sons-μ-loop : walk-sons-lts.MeasureT-loop
-walk-sons-μ-loop store seen₀ order₀ m r depth n hi count v₀ k₀ seen order v k = count - k
+walk-sons-μ-loop store seen₀ order₀ m r depth hi count b s v₀ k₀ seen order v k = count - k
 
 walk-sons-cast-count : (t : ℕ) → walk-sons-lts.Need-cast-count (
-  son-of-reads.Asked,
-  son-of-reads.Learnt,
-  top-of-reads.Asked,
-  top-of-reads.Learnt,
   walk-node-below t,
   walk-node.Post,
   raised-reads.Asked,
@@ -391,58 +389,107 @@ walk-sons-cast-count : (t : ℕ) → walk-sons-lts.Need-cast-count (
 walk-sons-cast-count t c = search needs
 
 walk-sons-loop-holds : (t : ℕ) → walk-sons-lts.Need-loop-holds (
-  son-of-reads.Asked,
-  son-of-reads.Learnt,
-  top-of-reads.Asked,
-  top-of-reads.Learnt,
   walk-node-below t,
   walk-node.Post,
   raised-reads.Asked,
   raised-reads.Learnt,
 ) (walk-sons-at t) walk-sons.Post walk-sons-Inv-loop walk-sons-μ-loop
-walk-sons-loop-holds t c = (search needs, refl, refl, refl, son-start (omega arith))
+walk-sons-loop-holds t c = (search needs, refl, refl, λ latch. son-start (omega arith))
 
-walk-sons-son-of-requires : (t : ℕ) → walk-sons-lts.Need-son-of-requires (
-  son-of-reads.Asked,
-  son-of-reads.Learnt,
-  top-of-reads.Asked,
-  top-of-reads.Learnt,
+walk-sons-mul-i : (t : ℕ) → walk-sons-lts.Need-mul-i (
   walk-node-below t,
   walk-node.Post,
   raised-reads.Asked,
   raised-reads.Learnt,
 ) (walk-sons-at t) walk-sons.Post walk-sons-Inv-loop walk-sons-μ-loop
-walk-sons-son-of-requires t c κs = search needs
+walk-sons-mul-i t c = search needs
 
-walk-sons-top-of-requires : (t : ℕ) → walk-sons-lts.Need-top-of-requires (
-  son-of-reads.Asked,
-  son-of-reads.Learnt,
-  top-of-reads.Asked,
-  top-of-reads.Learnt,
+walk-sons-array-read-i : (t : ℕ) → walk-sons-lts.Need-array-read-i (
   walk-node-below t,
   walk-node.Post,
   raised-reads.Asked,
   raised-reads.Learnt,
 ) (walk-sons-at t) walk-sons.Post walk-sons-Inv-loop walk-sons-μ-loop
-walk-sons-top-of-requires t c κs = search needs
+walk-sons-array-read-i t c = search needs
+
+walk-sons-cast-i : (t : ℕ) → walk-sons-lts.Need-cast-i (
+  walk-node-below t,
+  walk-node.Post,
+  raised-reads.Asked,
+  raised-reads.Learnt,
+) (walk-sons-at t) walk-sons.Post walk-sons-Inv-loop walk-sons-μ-loop
+walk-sons-cast-i t c = search needs
+
+walk-sons-add-if1 : (t : ℕ) → walk-sons-lts.Need-add-if1 (
+  walk-node-below t,
+  walk-node.Post,
+  raised-reads.Asked,
+  raised-reads.Learnt,
+) (walk-sons-at t) walk-sons.Post walk-sons-Inv-loop walk-sons-μ-loop
+walk-sons-add-if1 t c = search needs
+
+walk-sons-mul-top : (t : ℕ) → walk-sons-lts.Need-mul-top (
+  walk-node-below t,
+  walk-node.Post,
+  raised-reads.Asked,
+  raised-reads.Learnt,
+) (walk-sons-at t) walk-sons.Post walk-sons-Inv-loop walk-sons-μ-loop
+walk-sons-mul-top t c = search needs
+
+walk-sons-array-read-top : (t : ℕ) → walk-sons-lts.Need-array-read-top (
+  walk-node-below t,
+  walk-node.Post,
+  raised-reads.Asked,
+  raised-reads.Learnt,
+) (walk-sons-at t) walk-sons.Post walk-sons-Inv-loop walk-sons-μ-loop
+walk-sons-array-read-top t c = search needs
+
+walk-sons-bound-fits : (t : ℕ) (c : walk-sons-lts.Then1 (
+  walk-node-below t,
+  walk-node.Post,
+  raised-reads.Asked,
+  raised-reads.Learnt,
+) (walk-sons-at t) walk-sons.Post walk-sons-Inv-loop walk-sons-μ-loop) → Fits w32 (getD (c .before .before .before .before .before .before .before .before .before .args .n .bounds) (c .before .before .loop .k) 0)
+walk-sons-bound-fits t c = search needs
+
+walk-sons-cast-top : (t : ℕ) → walk-sons-lts.Need-cast-top (
+  walk-node-below t,
+  walk-node.Post,
+  raised-reads.Asked,
+  raised-reads.Learnt,
+) (walk-sons-at t) walk-sons.Post walk-sons-Inv-loop walk-sons-μ-loop
+walk-sons-cast-top t c = record { fits = omega (arith, walk-sons-bound-fits t c .fits) }
+
+-- where the ways to the highest key below a son meet
+walk-sons-top : (t : ℕ) (c : walk-sons-lts.Joined1 (
+  walk-node-below t,
+  walk-node.Post,
+  raised-reads.Asked,
+  raised-reads.Learnt,
+) (walk-sons-at t) walk-sons.Post walk-sons-Inv-loop walk-sons-μ-loop) (latch : ℕ) → c .if1 .top ≡ topOf (nodeOf latch (c .before .before .before .before .before .before .before .before .before .args .n .count) (c .before .before .before .before .before .before .before .before .before .args .n .bounds) (c .before .before .before .before .before .before .before .before .before .args .n .sons)) (c .before .before .loop .k) (c .before .before .before .before .before .before .before .before .before .args .hi)
+walk-sons-top t c latch = ⊎-elim (λ w. top-inner _ _ _ (w .0 .taken) (w .1)) (λ w. top-last _ _ _ (w .0 .left) (w .1)) (c .if1 .came)
+
+walk-sons-top-fits : (t : ℕ) (c : walk-sons-lts.Joined1 (
+  walk-node-below t,
+  walk-node.Post,
+  raised-reads.Asked,
+  raised-reads.Learnt,
+) (walk-sons-at t) walk-sons.Post walk-sons-Inv-loop walk-sons-μ-loop) → c .if1 .top < 4294967296
+walk-sons-top-fits t c =
+    ⊎-elim
+    (λ w. let f : Fits w32 _ = walk-sons-bound-fits t (record { before = c .before; if1 = w .0 }) in rw (w .1) (f .fits))
+    (λ w. rw (w .1) (c .before .before .before .before .before .before .before .before .before .pre .1 .3))
+    (c .if1 .came)
 
 walk-sons-walk-node-requires : (t : ℕ) → walk-sons-lts.Need-walk-node-requires (
-  son-of-reads.Asked,
-  son-of-reads.Learnt,
-  top-of-reads.Asked,
-  top-of-reads.Learnt,
   walk-node-below t,
   walk-node.Post,
   raised-reads.Asked,
   raised-reads.Learnt,
 ) (walk-sons-at t) walk-sons.Post walk-sons-Inv-loop walk-sons-μ-loop
-walk-sons-walk-node-requires t c κs = (omega arith, (c .before .before .before .before .before .before .before .before .before .before .pre .1 .0, omega arith, omega arith, c .before .before .top-of .ensures .1))
+walk-sons-walk-node-requires t c κs = (omega arith, (c .before .before .before .before .before .before .before .before .before .before .before .pre .1 .0, omega arith, omega arith, walk-sons-top-fits t (c .before .before)))
 
 walk-sons-same-length : (t : ℕ) → walk-sons-lts.Need-same-length (
-  son-of-reads.Asked,
-  son-of-reads.Learnt,
-  top-of-reads.Asked,
-  top-of-reads.Learnt,
   walk-node-below t,
   walk-node.Post,
   raised-reads.Asked,
@@ -451,10 +498,6 @@ walk-sons-same-length : (t : ℕ) → walk-sons-lts.Need-same-length (
 walk-sons-same-length t c = search needs
 
 walk-sons-same-length-2 : (t : ℕ) → walk-sons-lts.Need-same-length-2 (
-  son-of-reads.Asked,
-  son-of-reads.Learnt,
-  top-of-reads.Asked,
-  top-of-reads.Learnt,
   walk-node-below t,
   walk-node.Post,
   raised-reads.Asked,
@@ -463,46 +506,30 @@ walk-sons-same-length-2 : (t : ℕ) → walk-sons-lts.Need-same-length-2 (
 walk-sons-same-length-2 t c = search needs
 
 walk-sons-returns : (t : ℕ) → walk-sons-lts.Need-returns (
-  son-of-reads.Asked,
-  son-of-reads.Learnt,
-  top-of-reads.Asked,
-  top-of-reads.Learnt,
   walk-node-below t,
   walk-node.Post,
   raised-reads.Asked,
   raised-reads.Learnt,
 ) (walk-sons-at t) walk-sons.Post walk-sons-Inv-loop walk-sons-μ-loop
-walk-sons-returns t c = son-stop (c .before .before .before .before .before .before .before .before .before .before .before .before .loop .inv .4) (omega arith) (c .before .before .before .before .before .before .before .before .before .before .son-of .ensures) (c .before .before .before .before .before .before .before .before .before .top-of .ensures .0) (c .before .before .before .before .before .before .walk-node .ensures) (not-true _ (c .if1 .taken))
+walk-sons-returns t c = son-stop (c .before .before .before .before .before .before .before .before .before .before .before .loop .inv .3 (c .before .before .before .before .before .before .before .before .before .before .before .before .before .before .before .before .before .before .args .n .latch)) (omega arith) refl (walk-sons-top t (c .before .before .before .before .before .before .before .before .before) (c .before .before .before .before .before .before .before .before .before .before .before .before .before .before .before .before .before .before .args .n .latch)) (c .before .before .before .before .before .before .walk-node .ensures) (not-true _ (c .if2 .taken))
 
 walk-sons-raised-requires : (t : ℕ) → walk-sons-lts.Need-raised-requires (
-  son-of-reads.Asked,
-  son-of-reads.Learnt,
-  top-of-reads.Asked,
-  top-of-reads.Learnt,
   walk-node-below t,
   walk-node.Post,
   raised-reads.Asked,
   raised-reads.Learnt,
 ) (walk-sons-at t) walk-sons.Post walk-sons-Inv-loop walk-sons-μ-loop
-walk-sons-raised-requires t c κs = search needs
+walk-sons-raised-requires t c κs = walk-sons-top-fits t (c .before .before .before .before .before .before .before .before .before)
 
 walk-sons-add-k : (t : ℕ) → walk-sons-lts.Need-add-k (
-  son-of-reads.Asked,
-  son-of-reads.Learnt,
-  top-of-reads.Asked,
-  top-of-reads.Learnt,
   walk-node-below t,
   walk-node.Post,
   raised-reads.Asked,
   raised-reads.Learnt,
 ) (walk-sons-at t) walk-sons.Post walk-sons-Inv-loop walk-sons-μ-loop
-walk-sons-add-k t c = omega (arith, c .before .before .before .before .before .before .before .before .before .before .before .before .before .loop .inv .1, c .before .before .before .before .before .before .before .before .before .before .before .before .loop-test .taken, c .before .before .before .before .before .before .before .before .before .before .before .before .before .before .before .before .before .before .pre .1 .4)
+walk-sons-add-k t c = omega (arith, c .before .before .before .before .before .before .before .before .before .before .before .loop-test .taken, c .before .before .before .before .before .before .before .before .before .before .before .before .before .before .before .before .before .before .before .pre .1 .4)
 
 walk-sons-loop-less : (t : ℕ) → walk-sons-lts.Need-loop-less (
-  son-of-reads.Asked,
-  son-of-reads.Learnt,
-  top-of-reads.Asked,
-  top-of-reads.Learnt,
   walk-node-below t,
   walk-node.Post,
   raised-reads.Asked,
@@ -511,22 +538,14 @@ walk-sons-loop-less : (t : ℕ) → walk-sons-lts.Need-loop-less (
 walk-sons-loop-less t c = search needs
 
 walk-sons-loop-again : (t : ℕ) → walk-sons-lts.Need-loop-again (
-  son-of-reads.Asked,
-  son-of-reads.Learnt,
-  top-of-reads.Asked,
-  top-of-reads.Learnt,
   walk-node-below t,
   walk-node.Post,
   raised-reads.Asked,
   raised-reads.Learnt,
 ) (walk-sons-at t) walk-sons.Post walk-sons-Inv-loop walk-sons-μ-loop
-walk-sons-loop-again t c = (omega arith, search needs, search needs, search needs, son-more (c .before .before .before .before .before .before .before .before .before .before .before .before .before .loop .inv .4) (omega arith) (c .before .before .before .before .before .before .before .before .before .before .before .son-of .ensures) (c .before .before .before .before .before .before .before .before .before .before .top-of .ensures .0) (c .before .before .before .before .before .before .before .walk-node .ensures) (not-false _ (c .before .if1 .left)) (omega arith) (c .raised .ensures))
+walk-sons-loop-again t c = (omega arith, search needs, search needs, λ latch. son-more (c .before .before .before .before .before .before .before .before .before .before .before .before .loop .inv .3 latch) (omega arith) refl (walk-sons-top t (c .before .before .before .before .before .before .before .before .before .before) latch) (c .before .before .before .before .before .before .before .walk-node .ensures) (not-false _ (c .before .if2 .left)) (omega arith) (c .raised .ensures))
 
 walk-sons-same-length-3 : (t : ℕ) → walk-sons-lts.Need-same-length-3 (
-  son-of-reads.Asked,
-  son-of-reads.Learnt,
-  top-of-reads.Asked,
-  top-of-reads.Learnt,
   walk-node-below t,
   walk-node.Post,
   raised-reads.Asked,
@@ -535,10 +554,6 @@ walk-sons-same-length-3 : (t : ℕ) → walk-sons-lts.Need-same-length-3 (
 walk-sons-same-length-3 t c = search needs
 
 walk-sons-same-length-4 : (t : ℕ) → walk-sons-lts.Need-same-length-4 (
-  son-of-reads.Asked,
-  son-of-reads.Learnt,
-  top-of-reads.Asked,
-  top-of-reads.Learnt,
   walk-node-below t,
   walk-node.Post,
   raised-reads.Asked,
@@ -547,16 +562,12 @@ walk-sons-same-length-4 : (t : ℕ) → walk-sons-lts.Need-same-length-4 (
 walk-sons-same-length-4 t c = search needs
 
 walk-sons-returns-2 : (t : ℕ) → walk-sons-lts.Need-returns-2 (
-  son-of-reads.Asked,
-  son-of-reads.Learnt,
-  top-of-reads.Asked,
-  top-of-reads.Learnt,
   walk-node-below t,
   walk-node.Post,
   raised-reads.Asked,
   raised-reads.Learnt,
 ) (walk-sons-at t) walk-sons.Post walk-sons-Inv-loop walk-sons-μ-loop
-walk-sons-returns-2 t c = son-end (c .before .loop .inv .4) (omega arith)
+walk-sons-returns-2 t c = son-end (c .before .loop .inv .3 (c .before .before .before .before .before .before .before .before .args .n .latch)) (omega arith)
 
 pub +walk-node+walk-sons-spec : {M : Type 1} → statement M
 +walk-node+walk-sons-spec = close μ-walk-node μ-walk-sons (λ t. walk-node-lts.spec (
@@ -596,10 +607,6 @@ pub +walk-node+walk-sons-spec : {M : Type 1} → statement M
     (walk-node-same-length-6 t)
     (walk-node-returns-4 t))
     λ t. walk-sons-lts.spec (
-      son-of-reads.Asked,
-      son-of-reads.Learnt,
-      top-of-reads.Asked,
-      top-of-reads.Learnt,
       walk-node-below t,
       walk-node.Post,
       raised-reads.Asked,
@@ -611,8 +618,13 @@ pub +walk-node+walk-sons-spec : {M : Type 1} → statement M
     walk-sons-μ-loop
     (walk-sons-cast-count t)
     (walk-sons-loop-holds t)
-    (walk-sons-son-of-requires t)
-    (walk-sons-top-of-requires t)
+    (walk-sons-mul-i t)
+    (walk-sons-array-read-i t)
+    (walk-sons-cast-i t)
+    (walk-sons-add-if1 t)
+    (walk-sons-mul-top t)
+    (walk-sons-array-read-top t)
+    (walk-sons-cast-top t)
     (walk-sons-walk-node-requires t)
     (walk-sons-same-length t)
     (walk-sons-same-length-2 t)
