@@ -1,0 +1,54 @@
+-- `checker::clauses::all_entries_keep` is safe and ends.
+use borrow.Author.Needs.{needs}
+use Prim.Native.Nat.{_-_}
+use Rattle.checker.proofs.clauses.all_entries_keep.Statement.{statement}
+use Rattle.checker.proofs.clauses.all_entries_keep.Tie as tie
+
+abbrev Inv-loop : tie.InvT-loop
+Inv-loop s t c m e₀ e = Unit {0}
+
+abbrev μ-loop : tie.MeasureT-loop
+μ-loop s t c m e₀ e = m - e
+
+entries-requires : tie.Need-entries-requires Inv-loop μ-loop
+entries-requires c κs = search needs
+
+loop-holds : tie.Need-loop-holds Inv-loop μ-loop
+loop-holds c = search needs
+
+add-e : tie.Need-add-e Inv-loop μ-loop
+add-e c = search needs
+
+entry-keeps-requires : tie.Need-entry-keeps-requires Inv-loop μ-loop
+entry-keeps-requires c κs = search needs
+
+returns : tie.Need-returns Inv-loop μ-loop
+returns c = search needs
+
+loop-less : tie.Need-loop-less Inv-loop μ-loop
+loop-less c = search needs
+
+loop-again : tie.Need-loop-again Inv-loop μ-loop
+loop-again c = search needs
+
+returns-2 : tie.Need-returns-2 Inv-loop μ-loop
+returns-2 c = search needs
+
+returns-3 : tie.Need-returns-3 Inv-loop μ-loop
+returns-3 c = search needs
+
+pub all-entries-keep-spec : {M : Type 1} → statement M
+all-entries-keep-spec =
+    tie.close
+    (tie.spec
+    Inv-loop
+    μ-loop
+    entries-requires
+    loop-holds
+    add-e
+    entry-keeps-requires
+    returns
+    loop-less
+    loop-again
+    returns-2
+    returns-3)

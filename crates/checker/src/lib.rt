@@ -1,0 +1,56 @@
+// Checker: a second judge of soundness, written from document 01's paragraph "Sound means" alone, a function for each clause in its order.
+//
+// It is slow on purpose: it lists every record as it is reached and then looks through that list again and again. It has no definition and
+// shares no code with the store's own test, so that the two can be held against each other. It takes any words and any session records, and
+// its contracts say only that it is safe and ends. It rests on sessions for the session record.
+pub mod clauses;
+mod groups;
+mod holders;
+mod reach;
+mod requests;
+mod table;
+mod tree;
+mod undos;
+mod words;
+
+use clauses::CLAUSES;
+use clauses::REACHED;
+use clauses::SIZES;
+use clauses::keeps;
+use reach::reach;
+use sessions::Session;
+use table::flat;
+use words::sizes;
+
+// Are store and session table sound? The clauses one after the other, up to the first that refuses.
+pub fn sound_by_paper(store: &[u32], t: [Session; 17]) -> bool {
+    if !sizes(store) {
+        return false;
+    }
+    let table = flat(t);
+    let mut list = [0u32; 20500];
+    let n = reach(store, &table, &mut list);
+    let mut c = REACHED;
+    while c < CLAUSES {
+        if !keeps(store, &table, &list, n, c) {
+            return false;
+        }
+        c += 1;
+    }
+    true
+}
+
+// Does this clause, and no other, refuse store and table?
+pub fn is_only_refusal(store: &[u32], t: [Session; 17], clause: u32) -> bool {
+    let table = flat(t);
+    let mut list = [0u32; 20500];
+    let n = reach(store, &table, &mut list);
+    let mut c = SIZES;
+    while c < CLAUSES {
+        if keeps(store, &table, &list, n, c) == (c == clause) {
+            return false;
+        }
+        c += 1;
+    }
+    true
+}
