@@ -1,0 +1,14 @@
+pub mod Layout
+pub mod Row
+pub mod Laid
+pub mod Short
+pub mod Read
+pub mod Placed
+pub mod Back
+pub mod Written
+pub mod Keep
+pub mod Places
+pub mod Ordering
+pub mod Puts
+pub mod Room
+pub mod Asked

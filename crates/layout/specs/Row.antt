@@ -1,0 +1,35 @@
+-- What is proved of a row of the step tables on words: from words that hold a layout which means a sound state, the words after hold a layout that means the
+-- machine's next state; and then they are sound and mean it.
+use mathlib.Core.Path.{_≡_}
+use mathlib.Core.List.{List}
+use Prim.Native.Nat.{ℕ}
+use lib.ListN.{length, set}
+use Rattle.words.specs.Store.{beyond}
+use Rattle.sessions.specs.declared.Session.{Session}
+use Rattle.serial.specs.Calls as C
+use Rattle.machine.specs.State.{State, Outcome}
+use Rattle.machine.specs.Sound as M
+use Rattle.machine.specs.Demand.{Tells}
+use Rattle.meaning.specs.Reading.{M-of, R-of}
+use Rattle.layout.specs.Layout.{Lay, Holds, means}
+
+-- Words and table hold a layout that means a sound state.
+pub record Stands (s : List ℕ) (t : List Session) : Type 0 where
+  pub lay : Lay
+  pub holds : Holds s t lay
+  pub sound : M.Sound (means lay t)
+
+-- The words and table after, s′ and t′, hold a layout that means the state next; the length is the same, and so are M, R and the words beyond the records.
+pub record Becomes (s s′ : List ℕ) (t′ : List Session) (next : State) : Type 0 where
+  pub lay : Lay
+  pub holds : Holds s′ t′ lay
+  pub means-next : means lay t′ ≡ next
+  pub long : length s′ ≡ length s
+  pub entries : M-of s′ ≡ M-of s
+  pub records : R-of s′ ≡ R-of s
+  pub rest : beyond s′ (M-of s) (R-of s) ≡ beyond s (M-of s) (R-of s)
+
+-- A step of party p: the words s′, its session record x′ and the answer a are the machine's outcome o.
+pub record Moves (s : List ℕ) (t : List Session) (p : ℕ) (s′ : List ℕ) (x′ : Session) (a : C.Answer) (o : Outcome) : Type 0 where
+  pub becomes : Becomes s s′ (set t p x′) (o .next)
+  pub tells : Tells (o .answer) a

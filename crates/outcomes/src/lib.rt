@@ -1,0 +1,23 @@
+// Outcomes: what a call answers, and what a step leaves of its party's session record.
+//
+// specs/Said.antt sets out document 01's word and numbers for each case of an answer; every promise uses it. There is no code here. It rests on `serial`
+// for answers as they are told, on `sessions` for the record.
+use sessions::Session;
+
+pub enum Answer {
+    Ok,
+    More,
+    // The party whose lock is in the way.
+    Wait(u32),
+    // The answer of a request of code 1 to 5.
+    Done(u32),
+    // The answer of a tidy: the key, and 1 if its descriptor was removed.
+    Tidied(u32, u32),
+    // The refusal's number, and the number beside it.
+    Refused(u32, u32),
+}
+
+pub struct Moved {
+    pub answer: Answer,
+    pub session: Session,
+}
