@@ -12,10 +12,11 @@ use Rattle.sessions.specs.declared.Session.{Session}
 use Rattle.sessions.specs.Sessions.{session-at}
 use Rattle.serial.specs.Calls as C
 use Rattle.machine.specs.Holders.{width, elem}
-use Rattle.machine.specs.State.{Request, wait, refused}
+use Rattle.machine.specs.State.{Request, wait, refused, sessionOf}
 use Rattle.machine.specs.Steps.{answer}
 use Rattle.meaning.specs.Reading.{hand-of, stage-of}
-use Rattle.layout.specs.Layout.{Lay, Holds, means}
+use Rattle.layout.specs.Layout.{Lay, Undone, Holds, means, session-in}
+use Rattle.layout.specs.Places.{session-means}
 use Rattle.layout.specs.Row.{Stands, Becomes, Moves}
 
 unfoldable pub request-in : Session → Request
@@ -48,3 +49,11 @@ becomes-same s t A p = record {
 pub wait-moves : (s : List ℕ) (t : List Session) (A : Stands s t) (p q b : ℕ) (bs : List ℕ) → elem q (b ∷ bs) ≡ true
     → Moves s t p s (session-at t p) (C.wait q) (answer (wait (b ∷ bs)) (means (A .lay) t))
 wait-moves s t A p q b bs e = record { becomes = becomes-same s t A p; tells = (q, e, refl) }
+
+-- The machine's request of a party is the one that its record has.
+hand-session : (u : ℕ → List Undone) (p : ℕ) (x : Session) → session-in u p x .hand ≡ hand-of x
+hand-session u zero x = refl
+hand-session u (suc p) x = refl
+
+pub hand-means : (L : Lay) (t : List Session) (p : ℕ) → p < length t → ¬ (session-at t p .stage ≡ 0) → sessionOf p (means L t) .hand ≡ some (request-in (session-at t p))
+hand-means L t p l n = ap (λ z. z .hand) (session-means L t p l) ∙ hand-session (L .undos) p (session-at t p) ∙ hand-in (session-at t p) n

@@ -1,7 +1,7 @@
 -- What writes leave of a layout: the words of records that are not written fit as before; a tree with a hole; and whole rows: nodes and free records others, a
 -- descriptor's holders or pins others, an entry's words others, a session record another.
 use mathlib.Core.Path.{_≡_, refl, sym, ap, ap₂, subst, _∙_}
-use mathlib.Core.List.{List, [], _∷_, _++_, map}
+use mathlib.Core.List.{List, [], _∷_, _++_}
 use mathlib.Core.Logic.{_⊎_, inl, inr}
 use Prim.Native.Nat.{ℕ, zero, suc, _+_, _≤_, _<_}
 use native.Mathlib.Decide.{ℕ-discrete}
@@ -16,17 +16,17 @@ use Rattle.sessions.specs.declared.Session.{Session}
 use Rattle.sessions.specs.Sessions.{session-at, idle-session}
 use Rattle.machine.specs.Tree.{mapE, mapE-append, flat, leaves}
 use Rattle.machine.specs.Holders.{width, latch-word}
-use Rattle.machine.specs.State.{Entry, Undo, value, added, taken, State, top}
+use Rattle.machine.specs.State.{Entry, Undo, value, added, taken, top}
 use Rattle.machine.specs.Calls.{records-for}
 use Rattle.machine.specs.Sound.{times}
 use Rattle.meaning.specs.Reading.{Chained, Leaf, Mark, Numbered, numbers, M-of, R-of, entries-of}
 use Rattle.meaning.specs.Sound.{All, Apart, Linked, Lists, set-list}
-use Rattle.meaning.specs.Numbers.{all-append, all-left, all-right, all-as, all-both, all-of, all-map, map-all, In, in?, not-in, apart-from, all-in, all-from, times-append, times-apart, times-in, apart-times, in-times}
+use Rattle.meaning.specs.Numbers.{all-append, all-left, all-right, all-as, all-both, all-map, map-all, In, in?, not-in, apart-from, all-in, all-from, times-append, times-apart, times-in, apart-times, in-times}
 use Rattle.meaning.specs.Frame.{SameAt, SameWords, leaf-records, numbers-leaves, chain-words, all-words, chained-same}
 use Rattle.meaning.specs.Parts.{entry-at, entries-same}
 use Rattle.meaning.specs.Around.{NCtx, here, under, fill, num-of, bound-in, before, behind, number-of, nothing, numbers-fill, leaves-fill, numbers-around, times-fill}
 use Rattle.layout.specs.Written.{Written}
-use Rattle.layout.specs.Layout.{Lay, Undone, leaves-in, firsts, seconds, undo-numbers, members-of, undos-from, all-records, Owned, Each, DescFits, NodeFits, TreeFits, GroupFits, UndoFits, UndosFit, Fits, Has, SomeSon, Marked, HandFits, NamedAs, Named, lists-in, Holds, means}
+use Rattle.layout.specs.Layout.{Lay, Undone, leaves-in, firsts, undo-numbers, members-of, undos-from, all-records, Owned, Each, DescFits, NodeFits, TreeFits, GroupFits, UndoFits, UndosFit, Fits, Has, SomeSon, Marked, HandFits, NamedAs, Named, lists-in, Holds}
 
 -- ---- parts
 
@@ -368,21 +368,21 @@ tree-row s t L H s′ W only ents first far h′ T′ f′ e height root tree fr
 
 -- A list with one leaf replaced by another of the same record and key.
 module _ (A : List Leaf) (l l′ : Leaf) (B : List Leaf) (num : l′ .num ≡ l .num) where
-  records-swap : leaf-records (A ++ l′ ∷ B) ≡ leaf-records (A ++ l ∷ B)
+  pub records-swap : leaf-records (A ++ l′ ∷ B) ≡ leaf-records (A ++ l ∷ B)
   records-swap = go A
     where
       go : (C : List Leaf) → leaf-records (C ++ l′ ∷ B) ≡ leaf-records (C ++ l ∷ B)
       go [] = ap (λ i. i ∷ leaf-records B) num
       go (x ∷ C) = ap (λ k. x .num ∷ k) (go C)
 
-  members-swap : (g : ℕ → List (ℕ × ℕ)) → members-of g (A ++ l′ ∷ B) ≡ members-of g (A ++ l ∷ B)
+  pub members-swap : (g : ℕ → List (ℕ × ℕ)) → members-of g (A ++ l′ ∷ B) ≡ members-of g (A ++ l ∷ B)
   members-swap g = go A
     where
       go : (C : List Leaf) → members-of g (C ++ l′ ∷ B) ≡ members-of g (C ++ l ∷ B)
       go [] = ap (λ i. firsts (g i) ++ members-of g B) num
       go (x ∷ C) = ap (λ k. firsts (g (x .num)) ++ k) (go C)
 
-  has-swap : l′ .desc .key ≡ l .desc .key → (k d : ℕ) → Has k d (A ++ l ∷ B) → Has k d (A ++ l′ ∷ B)
+  pub has-swap : l′ .desc .key ≡ l .desc .key → (k d : ℕ) → Has k d (A ++ l ∷ B) → Has k d (A ++ l′ ∷ B)
   has-swap key k d = go A
     where
       go : (C : List Leaf) → Has k d (C ++ l ∷ B) → Has k d (C ++ l′ ∷ B)
@@ -391,7 +391,7 @@ module _ (A : List Leaf) (l l′ : Leaf) (B : List Leaf) (num : l′ .num ≡ l 
       go (x ∷ C) (inl e) = inl e
       go (x ∷ C) (inr h) = inr (go C h)
 
-all-swap : (P : Leaf → Type 0) (A : List Leaf) (l l′ : Leaf) (B : List Leaf) → (P l → P l′) → All P (A ++ l ∷ B) → All P (A ++ l′ ∷ B)
+pub all-swap : (P : Leaf → Type 0) (A : List Leaf) (l l′ : Leaf) (B : List Leaf) → (P l → P l′) → All P (A ++ l ∷ B) → All P (A ++ l′ ∷ B)
 all-swap P [] l l′ B f a = (f (a .0), a .1)
 all-swap P (x ∷ A) l l′ B f a = (a .0, all-swap P A l l′ B f (a .1))
 
@@ -407,7 +407,7 @@ around-all P {k} c u a =
     let x : All P (A ++ (numbers k u ++ B)) = subst (All P) (numbers-fill c u) a in
     all-append P A B (all-left P A (numbers k u ++ B) x) (all-right P (numbers k u) B (all-right P A (numbers k u ++ B) x))
 
-group-as : (s : List ℕ) (m : ℕ) (g : ℕ → List (ℕ × ℕ)) (l l′ : Leaf) → l′ .num ≡ l .num → l′ .desc .members ≡ l .desc .members → GroupFits s m (g (l .num)) l → GroupFits s m (g (l′ .num)) l′
+pub group-as : (s : List ℕ) (m : ℕ) (g : ℕ → List (ℕ × ℕ)) (l l′ : Leaf) → l′ .num ≡ l .num → l′ .desc .members ≡ l .desc .members → GroupFits s m (g (l .num)) l → GroupFits s m (g (l′ .num)) l′
 group-as s m g l l′ n e f = subst (λ i. GroupFits s m (g i) l′) (sym n) (record {
   chained = subst (λ i. Chained s m (wordOf s m i 6) (firsts (g (l .num)))) (sym n) (f .chained);
   linked = f .linked;
@@ -417,16 +417,22 @@ group-as s m g l l′ n e f = subst (λ i. GroupFits s m (g i) l′) (sym n) (re
 })
 
 -- A word that is the same in the record written is the same in all.
-word-row : (s s′ : List ℕ) (d : ℕ) → Written s s′ (d ∷ []) → (k : ℕ) → wordOf s (M-of s) d k ≡ wordOf s′ (M-of s) d k → (j : ℕ) → 1 ≤ j → wordOf s (M-of s) j k ≡ wordOf s′ (M-of s) j k
+pub word-row : (s s′ : List ℕ) (d : ℕ) → Written s s′ (d ∷ []) → (k : ℕ) → wordOf s (M-of s) d k ≡ wordOf s′ (M-of s) d k → (j : ℕ) → 1 ≤ j → wordOf s (M-of s) j k ≡ wordOf s′ (M-of s) j k
 word-row s s′ d only k e j l = go (ℕ-discrete j d)
   where
     go : Dec (j ≡ d) → wordOf s (M-of s) j k ≡ wordOf s′ (M-of s) j k
     go (yes z) = subst (λ i. wordOf s (M-of s) i k ≡ wordOf s′ (M-of s) i k) (sym z) e
     go (no n) = ap (λ v. getD v k 0) (only .same j l (n, tt))
 
+-- A descriptor that is in the tree is there still.
+pub hole-has : {h : ℕ} (c : NCtx 0 h) (l l′ : Leaf) → l′ .num ≡ l .num → l′ .desc .key ≡ l .desc .key → (k d : ℕ) → Has k d (leaves Leaf Mark h (fill c l)) → Has k d (leaves Leaf Mark h (fill c l′))
+hole-has c l l′ num key k d x =
+    subst (Has k d) (sym (leaves-one c l′))
+    (has-swap (before nothing (leaves Leaf Mark) c) l l′ (behind nothing (leaves Leaf Mark) c) num key k d (subst (Has k d) (leaves-one c l) x))
+
 -- The record of a descriptor in the hole is nowhere else.
 module _ (L : Lay) (O : Owned L) (c : NCtx 0 (suc (L .height))) (l : Leaf) (is : L .tree ≡ fill c l) where
-  hole-times : (i : ℕ) → times i (numbers (suc (L .height)) (L .tree)) ≡ times i (numbers-around c) + times i (l .num ∷ [])
+  pub hole-times : (i : ℕ) → times i (numbers (suc (L .height)) (L .tree)) ≡ times i (numbers-around c) + times i (l .num ∷ [])
   hole-times i =
       let e : numbers 0 l ≡ l .num ∷ [] = unfold numbers in refl in
       ap (λ t. times i (numbers (suc (L .height)) t)) is ∙ times-fill c l i ∙ ap (λ k. times i (numbers-around c) + times i k) e
@@ -448,21 +454,21 @@ module _ (L : Lay) (O : Owned L) (c : NCtx 0 (suc (L .height))) (l : Leaf) (is :
   hole-one i h = all-in (λ j. 1 ≤ j) (numbers-around c) (around-all (λ j. 1 ≤ j) c l (subst (λ t. All (λ j. 1 ≤ j) (numbers (suc (L .height)) t)) is (own-tree L O))) i h
 
 -- The tree with another descriptor at the same record in the hole.
-hole-tree : (s s′ : List ℕ) (m : ℕ) {h : ℕ} (c : NCtx 0 h) (l l′ : Leaf) → l′ .num ≡ l .num → All (SameAt s s′ m) (numbers-around c) → DescFits s′ m l′ → TreeFits s m h top (fill c l) → TreeFits s′ m h top (fill c l′)
+pub hole-tree : (s s′ : List ℕ) (m : ℕ) {h : ℕ} (c : NCtx 0 h) (l l′ : Leaf) → l′ .num ≡ l .num → All (SameAt s s′ m) (numbers-around c) → DescFits s′ m l′ → TreeFits s m h top (fill c l) → TreeFits s′ m h top (fill c l′)
 hole-tree s s′ m c l l′ n a d f =
     let e : num-of 0 l ≡ num-of 0 l′ = unfold num-of in (sym n) in
     fits-close s′ m c l′ top (subst (CtxFits s′ m c top) e (ctx-keep s s′ m c top (num-of 0 l) a (fits-open s m c l top f .0))) (unfold TreeFits in d)
 
-hole-root : {h : ℕ} (c : NCtx 0 h) (l l′ : Leaf) → l′ .num ≡ l .num → num-of h (fill c l) ≡ num-of h (fill c l′)
+pub hole-root : {h : ℕ} (c : NCtx 0 h) (l l′ : Leaf) → l′ .num ≡ l .num → num-of h (fill c l) ≡ num-of h (fill c l′)
 hole-root c l l′ n = let e : num-of 0 l ≡ num-of 0 l′ = unfold num-of in (sym n) in num-fill c l ∙ ap (num-in c) e ∙ sym (num-fill c l′)
 
-hole-numbers : {h : ℕ} (c : NCtx 0 h) (l l′ : Leaf) → l′ .num ≡ l .num → (i : ℕ) → times i (numbers h (fill c l′)) ≡ times i (numbers h (fill c l))
+pub hole-numbers : {h : ℕ} (c : NCtx 0 h) (l l′ : Leaf) → l′ .num ≡ l .num → (i : ℕ) → times i (numbers h (fill c l′)) ≡ times i (numbers h (fill c l))
 hole-numbers c l l′ n i =
     let e : numbers 0 l′ ≡ numbers 0 l = unfold numbers in (ap (λ j. j ∷ []) n) in
     times-fill c l′ i ∙ ap (λ k. times i (numbers-around c) + times i k) e ∙ sym (times-fill c l i)
 
 -- No node is in the hole.
-hole-marked : (j n w : ℕ) {h : ℕ} (c : NCtx 0 h) (l l′ : Leaf) → Marked j n w h (fill c l) → Marked j n w h (fill c l′)
+pub hole-marked : (j n w : ℕ) {h : ℕ} (c : NCtx 0 h) (l l′ : Leaf) → Marked j n w h (fill c l) → Marked j n w h (fill c l′)
 unfolding Marked
 hole-marked j n w c l l′ = marked-fill j n w c l l′ (λ x. x)
 

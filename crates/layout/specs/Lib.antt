@@ -7,8 +7,14 @@ pub mod Placed
 pub mod Back
 pub mod Written
 pub mod Keep
+pub mod Groups
 pub mod Places
+pub mod Chains
+pub mod Walks
 pub mod Ordering
 pub mod Puts
 pub mod Room
 pub mod Asked
+pub mod DescRows
+pub mod LatchRows
+pub mod Left

@@ -1,0 +1,31 @@
+-- The proof of `left_descriptor`.
+use Rattle.endings.specs.Leave.{leftDescriptor}
+use borrow.Author.Needs.{needs}
+use Rattle.endings.proofs.left_descriptor.Statement.{statement}
+use Rattle.endings.proofs.left_descriptor.Tie as tie
+
+without-session-requires : tie.Need-without-session-requires
+without-session-requires c κs = search needs
+
+without-session-requires-2 : tie.Need-without-session-requires-2
+without-session-requires-2 c κs = search needs
+
+without-session-requires-3 : tie.Need-without-session-requires-3
+without-session-requires-3 c κs = search needs
+
+release-session-requires : tie.Need-release-session-requires
+release-session-requires c κs = search needs
+
+returns : tie.Need-returns
+unfolding leftDescriptor
+returns c = cc
+
+pub left-descriptor-spec : {M : Type 1} → statement M
+left-descriptor-spec =
+    tie.close
+    (tie.spec
+    without-session-requires
+    without-session-requires-2
+    without-session-requires-3
+    release-session-requires
+    returns)

@@ -1,0 +1,66 @@
+-- A session's record by value: a request or the session ends, the session begins, a request comes to hand.
+use Prim.Native.Nat.{ℕ}
+use Rattle.sessions.specs.declared.Session.{Session}
+
+-- no request in hand
+unfoldable pub idled : Session → Session
+idled x =
+    record {
+      begun = x .begun;
+      code = x .code;
+      entry = x .entry;
+      first = x .first;
+      second = x .second;
+      stage = 0;
+      target = x .target;
+      at = x .at;
+      level = x .level;
+      low = x .low;
+      high = x .high;
+      last = x .last;
+      undo = x .undo;
+    }
+
+-- as begun says, with no request in hand and no undo record
+abbrev pub marked : ℕ → Session → Session
+marked begun x =
+    record {
+      begun = begun;
+      code = x .code;
+      entry = x .entry;
+      first = x .first;
+      second = x .second;
+      stage = 0;
+      target = x .target;
+      at = x .at;
+      level = x .level;
+      low = x .low;
+      high = x .high;
+      last = x .last;
+      undo = 0;
+    }
+
+unfoldable pub unbegun : Session → Session
+unbegun x = marked 0 x
+
+unfoldable pub newlyBegun : Session → Session
+newlyBegun x = marked 1 x
+
+-- the request, its first stage, and the key that its descent goes to
+unfoldable pub requested : Session → ℕ → ℕ → ℕ → ℕ → ℕ → ℕ → Session
+requested x code entry first second stage target =
+    record {
+      begun = x .begun;
+      code = code;
+      entry = entry;
+      first = first;
+      second = second;
+      stage = stage;
+      target = target;
+      at = 0;
+      level = 0;
+      low = 0;
+      high = 0;
+      last = 0;
+      undo = x .undo;
+    }

@@ -1,0 +1,154 @@
+-- The node in a hole of a layout's tree written with another latch word: its record is apart from all others.
+use mathlib.Core.Path.{_≡_, refl, sym, ap, subst, _∙_}
+use mathlib.Core.List.{List, [], _∷_, _++_}
+use mathlib.Core.Logic.{_⊎_, inl, inr}
+use Prim.Native.Nat.{ℕ, zero, suc, _+_, _≤_, _<_}
+use native.Mathlib.Omega.{arith}
+use lib.Dec.{lit<}
+use lib.ListN.{length, set}
+use Rattle.words.specs.Store.{HasRecord, recordAt, wordOf}
+use Rattle.words.specs.Header.{headerWord, rootPlace, heightPlace, firstPlace, freePlace}
+use Rattle.nodes.specs.declared.Node.{Node}
+use Rattle.nodes.specs.Node.{nodeAt, putNode, encodeNode, length-encode, Sized, sized-decode, decodeNode}
+use Rattle.nodes.specs.Ops.{withLatch}
+use Rattle.nodes.specs.Entries as N
+use Rattle.nodes.specs.Entries.{latch-entries}
+use Rattle.sessions.specs.declared.Session.{Session}
+use Rattle.sessions.specs.Sessions.{session-at}
+use Rattle.machine.specs.Tree.{mapE, flat, leaves}
+use Rattle.machine.specs.Holders.{width, latch-word}
+use Rattle.machine.specs.State.{top}
+use Rattle.machine.specs.Sound.{times}
+use Rattle.meaning.specs.Reading.{Chained, Leaf, Mark, Numbered, numbers, node-numbers, M-of, R-of}
+use Rattle.meaning.specs.Sound.{All, Apart}
+use Rattle.meaning.specs.Numbers.{In, one-is, times-append, times-in, in-times, apart-times, apart-from, apart-append, not-in, all-in, all-from, all-left, all-right, all-append}
+use Rattle.meaning.specs.Frame.{SameAt, leaf-records, numbers-times}
+use Rattle.meaning.specs.Around.{NCtx, fill, num-of, bound-in, numbers-around, times-fill, numbers-fill, nodes-fill, leaves-fill, before, behind, number-of, nothing}
+use Rattle.layout.specs.Layout.{Lay, leaves-in, members-of, undos-from, all-records, Each, NodeFits, TreeFits, Marked, HandFits, Holds}
+use Rattle.layout.specs.Written.{Written, put-written, put-entries, put-head}
+use Rattle.layout.specs.Keep.{with-tree, Hands, records-times, owned-most, own-all, own-tree, ctx-keep, fits-open, fits-close, tree-keep, chained-keep, each-keep, same-apart, marked-fill, tree-row, num-fill, num-in}
+use Rattle.layout.specs.Puts.{node-put}
+use Rattle.layout.specs.Room.{Sizes, owned-in, owned-has}
+
+-- A node with another latch word.
+abbrev pub relatched : (k : ℕ) → ℕ → Numbered (suc k) → Numbered (suc k)
+relatched k w u = record { latch = record { num = u .latch .num; word = w }; sons = u .sons }
+
+-- What a whole is made of.
+part-less : (i a b : ℕ) → 1 ≤ i → i + a ≤ 1 → b ≤ a → b ≡ 0
+part-less i a b p q r = omega arith
+
+module _ (s : List ℕ) (t : List Session) (L : Lay) (H : Holds s t L) {k : ℕ} (c : NCtx (suc k) (suc (L .height))) (u : Numbered (suc k)) (is : L .tree ≡ fill c u) where
+  abbrev at : ℕ
+  at = u .latch .num
+
+  -- The record is the node's alone.
+  pub node-times : times at (numbers-around c) + times at (flat (numbers k) (u .sons)) + (times at (members-of (L .members) (leaves-in L)) + (times at (undos-from (L .undos) 1 width) + times at (L .free))) ≡ 0
+  unfolding numbers
+  node-times =
+      let h = suc (L .height) in
+      let e = ap (λ x. times at (numbers h x)) is ∙ times-fill c u at in
+      omega (arith, records-times L at, owned-most L (H .owned) at, e, one-is at at refl)
+
+  pub node-owned : 1 ≤ times at (all-records L)
+  unfolding numbers
+  node-owned =
+      let h = suc (L .height) in
+      let e = ap (λ x. times at (numbers h x)) is ∙ times-fill c u at in
+      omega (arith, records-times L at, e, one-is at at refl)
+
+  pub node-around : Apart at (numbers-around c)
+  node-around = apart-times at (numbers-around c) (omega (arith, node-times))
+
+  pub node-sons : Apart at (flat (numbers k) (u .sons))
+  node-sons = apart-times at (flat (numbers k) (u .sons)) (omega (arith, node-times))
+
+  pub node-free : Apart at (L .free)
+  node-free = apart-times at (L .free) (omega (arith, node-times))
+
+  pub node-leaves : Apart at (leaf-records (leaves-in L))
+  unfolding node-numbers
+  node-leaves =
+      let h = suc (L .height) in
+      let e = ap (λ x. times at (numbers h x)) is ∙ times-fill c u at in
+      let f = ap (λ x. times at (node-numbers h x)) is ∙ ap (times at) (nodes-fill c u) ∙ times-append at (before number-of node-numbers c) (node-numbers (suc k) u ++ behind number-of node-numbers c) in
+      let g = times-append at (node-numbers (suc k) u) (behind number-of node-numbers c) in
+      let one : 1 ≤ times at (node-numbers (suc k) u) = omega (arith, one-is at at refl) in
+      apart-times at (leaf-records (leaves-in L)) (omega (arith, numbers-times at h (L .tree), records-times L at, owned-most L (H .owned) at, f, g, one))
+
+  pub node-rest : Apart at (leaf-records (leaves-in L) ++ (members-of (L .members) (leaves-in L) ++ undos-from (L .undos) 1 width))
+  node-rest =
+      apart-append at (leaf-records (leaves-in L)) (members-of (L .members) (leaves-in L) ++ undos-from (L .undos) 1 width) node-leaves
+      (apart-append at (members-of (L .members) (leaves-in L)) (undos-from (L .undos) 1 width) (apart-times at (members-of (L .members) (leaves-in L)) (omega (arith, node-times)))
+      (apart-times at (undos-from (L .undos) 1 width) (omega (arith, node-times))))
+
+  -- All records are proper numbers.
+  pub around-proper : All (λ i. 1 ≤ i) (numbers-around c)
+  around-proper = all-from (numbers-around c) (λ j i. go j (times-in j (numbers-around c) i))
+    where
+      go : (j : ℕ) → 1 ≤ times j (numbers-around c) → 1 ≤ j
+      go j n =
+          let h = suc (L .height) in
+          let e = ap (λ x. times j (numbers h x)) is ∙ times-fill c u j in
+          all-in (λ i. 1 ≤ i) (numbers h (L .tree)) (own-tree L (H .owned)) j (in-times j (numbers h (L .tree)) (omega (arith, e, n)))
+
+  pub sons-proper : All (λ i. 1 ≤ i) (flat (numbers k) (u .sons))
+  unfolding numbers
+  sons-proper = all-from (flat (numbers k) (u .sons)) (λ j i. go j (times-in j (flat (numbers k) (u .sons)) i))
+    where
+      go : (j : ℕ) → 1 ≤ times j (flat (numbers k) (u .sons)) → 1 ≤ j
+      go j n =
+          let h = suc (L .height) in
+          let e = ap (λ x. times j (numbers h x)) is ∙ times-fill c u j in
+          all-in (λ i. 1 ≤ i) (numbers h (L .tree)) (own-tree L (H .owned)) j (in-times j (numbers h (L .tree)) (omega (arith, e, n)))
+
+  pub free-proper : All (λ i. 1 ≤ i) (L .free)
+  free-proper =
+      all-right (λ i. 1 ≤ i) (undos-from (L .undos) 1 width) (L .free)
+      (all-right (λ i. 1 ≤ i) (members-of (L .members) (leaves-in L)) (undos-from (L .undos) 1 width ++ L .free)
+      (all-right (λ i. 1 ≤ i) (numbers (suc (L .height)) (L .tree)) (members-of (L .members) (leaves-in L) ++ (undos-from (L .undos) 1 width ++ L .free)) (own-all L (H .owned))))
+
+  module _ (Z : Sizes L) (w : ℕ) where
+    pub node-has : HasRecord s (M-of s) at
+    node-has = owned-has s t L H Z at node-owned
+
+    abbrev relatch : List ℕ
+    relatch = putNode s (M-of s) at (withLatch (nodeAt s (M-of s) at) w)
+
+    pub latch-written : Written s relatch (at ∷ [])
+    latch-written = put-written s at (encodeNode (withLatch (nodeAt s (M-of s) at) w)) node-has (length-encode (withLatch (nodeAt s (M-of s) at) w)) (omega (arith, owned-in s t L H Z at node-owned .1, H .fits .records))
+
+    -- The tree with that node relatched fits the words.
+    pub latch-fits : TreeFits relatch (M-of s) (suc (L .height)) top (fill c (relatched k w u))
+    unfolding TreeFits num-of withLatch decodeNode
+    latch-fits =
+        let m = M-of s in
+        let h = suc (L .height) in
+        let n = withLatch (nodeAt s m at) w in
+        let o = fits-open s m c u top (subst (TreeFits s m h top) is (H .fits .tree)) in
+        let around = same-apart s relatch (at ∷ []) latch-written (numbers-around c) around-proper (node-around, tt) in
+        let sons = same-apart s relatch (at ∷ []) latch-written (flat (numbers k) (u .sons)) sons-proper (node-sons, tt) in
+        let z : Sized n = record { bounds = sized-decode (recordAt s m at) .bounds; sons = sized-decode (recordAt s m at) .sons } in
+        let here : NodeFits relatch m (bound-in c top) (record { num = at; word = w }) (N.entries n (bound-in c top)) = node-put s m at (bound-in c top) n node-has z (o .1 .0 .few) in
+        fits-close relatch m c (relatched k w u) top (ctx-keep s relatch m c top at around (o .0)) (
+          subst (NodeFits relatch m (bound-in c top) (record { num = at; word = w })) (latch-entries (nodeAt s m at) w (bound-in c top) ∙ o .1 .0 .sons) here,
+          each-keep (TreeFits s m k) (TreeFits relatch m k) (numbers k) (SameAt s relatch m) (λ b a q f. tree-keep s relatch m k b a q f) (u .sons) sons (o .1 .1),
+        )
+
+    pub latch-put : (p : ℕ) (x′ : Session) → Hands L t (with-tree L (L .height) (fill c (relatched k w u)) (L .free)) p x′
+        → Holds relatch (set t p x′) (with-tree L (L .height) (fill c (relatched k w u)) (L .free))
+    unfolding numbers leaves num-of
+    latch-put p x′ hands =
+        let m = M-of s in
+        let h = suc (L .height) in
+        let n = withLatch (nodeAt s m at) w in
+        let head = put-head s at (encodeNode n) node-has (length-encode n) in
+        tree-row s t L H relatch (at ∷ []) latch-written (put-entries s at (encodeNode n) node-has (length-encode n)) (head firstPlace (lit< tt)) (node-rest, tt)
+        (L .height) (fill c (relatched k w u)) (L .free)
+        (leaves-fill c (relatched k w u) ∙ sym (ap (leaves Leaf Mark h) is ∙ leaves-fill c u))
+        (head heightPlace (lit< tt) ∙ H .fits .height)
+        (head rootPlace (lit< tt) ∙ H .fits .root ∙ ap (num-of h) is ∙ num-fill c u ∙ sym (num-fill c (relatched k w u)))
+        latch-fits
+        (subst (λ i. Chained relatch m i (L .free)) (sym (head freePlace (lit< tt))) (chained-keep s relatch m (headerWord s freePlace) (L .free) (same-apart s relatch (at ∷ []) latch-written (L .free) free-proper (node-free, tt)) (H .fits .free)))
+        (λ i. ap (λ x. x + times i (L .free)) (times-fill c (relatched k w u) i ∙ sym (ap (λ x. times i (numbers h x)) is ∙ times-fill c u i)))
+        p x′ hands

@@ -1,0 +1,35 @@
+-- The proof of hold_update.
+use Rattle.members.specs.Members.{updateAt}
+use borrow.Author.Needs.{needs}
+use Rattle.members.proofs.hold_update.Statement.{statement}
+use Rattle.members.proofs.hold_update.Tie as tie
+
+load-descriptor-requires : tie.Need-load-descriptor-requires
+load-descriptor-requires c κs = search needs
+
+with-session-requires : tie.Need-with-session-requires
+with-session-requires c κs = search needs
+
+grant-update-requires : tie.Need-grant-update-requires
+grant-update-requires c κs = search needs
+
+write-descriptor-requires : tie.Need-write-descriptor-requires
+write-descriptor-requires c κs = search needs
+
+same-length : tie.Need-same-length
+same-length c = search needs
+
+returns : tie.Need-returns
+unfolding updateAt
+returns c = cc
+
+pub hold-update-spec : {M : Type 1} → statement M
+hold-update-spec =
+    tie.close
+    (tie.spec
+    load-descriptor-requires
+    with-session-requires
+    grant-update-requires
+    write-descriptor-requires
+    same-length
+    returns)

@@ -1,0 +1,4 @@
+-- The definitions that the contracts of `members` cite, and their laws.
+pub mod Members
+pub mod Undoing
+pub mod Freeing
