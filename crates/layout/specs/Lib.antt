@@ -11,6 +11,7 @@ pub mod Groups
 pub mod Places
 pub mod Chains
 pub mod Walks
+pub mod Scanned
 pub mod Ordering
 pub mod Puts
 pub mod Room
