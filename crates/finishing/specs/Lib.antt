@@ -1,0 +1,3 @@
+pub mod Finishing
+pub mod Ended
+pub mod Ready
