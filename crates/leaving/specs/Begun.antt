@@ -1,0 +1,81 @@
+-- Begin and put on words: only the party's session record is another.
+use mathlib.Core.Path.{_≡_, refl, sym, ap, subst, _∙_}
+use mathlib.Core.Bool.{true, false, not}
+use mathlib.Core.List.{List, [], _∷_, map}
+use mathlib.Core.Option.{none}
+use Prim.Native.Nat.{ℕ, zero, suc, _≤_}
+use native.Mathlib.Omega.{arith}
+use lib.ListN.{set}
+use borrow.Author.Tests.{eq-eqb}
+use Rattle.sessions.specs.declared.Session.{Session}
+use Rattle.sessions.specs.Sessions.{session-at}
+use Rattle.machine.specs.Holders.{width}
+use Rattle.machine.specs.State.{State, sessionOf, on-session, with-table}
+use Rattle.machine.specs.State as M
+use Rattle.machine.specs.Calls.{begins}
+use Rattle.meaning.specs.Reading.{Chained, M-of}
+use Rattle.layout.specs.Layout.{Lay, Undone, undo-numbers, HandFits, UndosFit, means, session-in}
+use Rattle.layout.specs.Row.{Stands, Becomes}
+use Rattle.layout.specs.Keep.{table-row}
+use Rattle.layout.specs.Places.{session-means, means-session}
+use Rattle.endings.specs.Table.{newlyBegun}
+
+-- No request in hand: a session record names no node and no descriptor.
+pub idle-fits : (L : Lay) (p : ℕ) (x : Session) → x .stage ≡ 0 → HandFits L p x
+idle-fits L p x e = record {
+  stage = omega (arith, e);
+  at-node = λ z. absurd (omega (arith, e, z));
+  low = λ n. absurd (n e);
+  high = λ z. absurd (omega (arith, e, z));
+  last = λ z. absurd (omega (arith, e, z));
+}
+
+no-undone : (us : List Undone) → map (λ y. y .undo) us ≡ [] → us ≡ []
+no-undone [] e = refl
+no-undone (u ∷ us) e = let z : _≡_ {A = ℕ} 0 1 = cc in absurd (omega arith)
+
+-- A chain of no undo record.
+pub no-chain : (s : List ℕ) (m i : ℕ) (us : List Undone) → us ≡ [] → UndosFit s m i us → i ≡ 0
+no-chain s m i us e f = subst (λ z. Chained s m i (undo-numbers z)) e (f .chained)
+
+-- ---- begin
+
+begins-put : (σ : State) (p : ℕ) (y : M.Session) → y ≡ record { begun = true; hand = sessionOf p σ .hand; undos = sessionOf p σ .undos } → on-session p (λ _. y) σ ≡ begins p σ
+unfolding on-session begins
+begins-put σ p y e = ap (λ z. with-table (set (σ .table) p z) σ) e
+
+begun-record : (u : ℕ → List Undone) (q : ℕ) (x : Session) (y : M.Session) → y ≡ session-in u (suc q) x → y .hand ≡ none
+    → session-in u (suc q) (newlyBegun x) ≡ record { begun = true; hand = y .hand; undos = y .undos }
+unfolding newlyBegun
+begun-record u q x y e h =
+    ap (λ z. record { begun = true; hand = z; undos = map (λ w. w .undo) (u (suc q)) }) (sym h) ∙ ap (λ v. record { begun = true; hand = y .hand; undos = v }) (sym (ap (λ z. z .undos) e))
+
+begun-undo : (x : Session) → newlyBegun x .undo ≡ 0
+unfolding newlyBegun
+begun-undo x = refl
+
+begun-stage : (x : Session) → newlyBegun x .stage ≡ 0
+unfolding newlyBegun
+begun-stage x = refl
+
+pub begin-becomes : (s : List ℕ) (t : List Session) (A : Stands s t) (p : ℕ) → 1 ≤ p → p ≤ width → session-at t p .begun ≡ 0
+    → Becomes s s (set t p (newlyBegun (session-at t p))) (begins p (means (A .lay) t))
+begin-becomes s t A zero low high e = absurd (omega (arith, low))
+begin-becomes s t A (suc q) low high e =
+    let p = suc q in
+    let L = A .lay in
+    let x = session-at t p in
+    let σ = means L t in
+    let at : sessionOf p σ ≡ session-in (L .undos) p x = session-means L t p (omega (arith, high, A .holds .seats)) in
+    let off : sessionOf p σ .begun ≡ false = ap (λ y. y .begun) at ∙ ap not (eq-eqb (x .begun) 0 e) in
+    let none-there : L .undos p ≡ [] = no-undone (L .undos p) (sym (ap (λ y. y .undos) at) ∙ A .sound .unbegun-undos p off) in
+    let nothing : x .undo ≡ 0 = no-chain s (M-of s) (x .undo) (L .undos p) none-there (A .holds .fits .undos q high) in
+    record {
+      lay = L;
+      holds = table-row s t L (A .holds) p (newlyBegun x) high (begun-undo x ∙ sym nothing) (idle-fits L p (newlyBegun x) (begun-stage x));
+      means-next = means-session L t p (newlyBegun x) ∙ begins-put σ p (session-in (L .undos) p (newlyBegun x)) (begun-record (L .undos) q x (sessionOf p σ) at (A .sound .unbegun-hand q off));
+      long = refl;
+      entries = refl;
+      records = refl;
+      rest = refl;
+    }
