@@ -1,0 +1,3 @@
+-- What abort does to the words of a store, and what it means.
+pub mod Words
+pub mod Abort

@@ -1,0 +1,24 @@
+-- The definitions that the contracts of `arriving` cite, the runs of its code, and that its rows are the machine's.
+pub mod Arriving
+pub mod Ready
+pub mod Runs
+pub mod Lowest
+pub mod Site
+pub mod Standing
+pub mod Release
+pub mod Declined
+pub mod Arrived
+pub mod Pinning
+pub mod Edits
+pub mod LeafRow
+pub mod Beside
+pub mod Before
+pub mod Lists
+pub mod Making
+pub mod Made
+pub mod Without
+pub mod Unnamed
+pub mod Tidying
+pub mod Tidied
+pub mod Moving
+pub mod Readiness
