@@ -1,0 +1,34 @@
+use Rattle.calls.specs.Ways.{way-sound, way-unsound}
+use Rattle.calls.specs.Seats.{table-of}
+use borrow.Author.Needs.{needs}
+use Rattle.calls.proofs.abort.Statement.{statement}
+use Rattle.calls.proofs.abort.Tie as tie
+
+is-sound-requires : tie.Need-is-sound-requires
+is-sound-requires c κs = search needs
+
+abort-checked-requires : tie.Need-abort-checked-requires
+abort-checked-requires c κs = c .before .before .is-sound .ensures (table-of _ _ (c .before .before .before .before .before .good .1 .0)) .0 (c .before .if1 .taken)
+
+same-length : tie.Need-same-length
+same-length c = search needs
+
+returns : tie.Need-returns
+returns c = way-sound _ _ _ _ _ _ _ _ (c .before .before .before .before .before .is-sound .ensures (table-of _ _ (c .before .before .before .before .before .before .before .before .good .1 .0))) (c .before .before .before .before .if1 .taken) (λ A. c .before .before .abort-checked .ensures)
+
+same-length-2 : tie.Need-same-length-2
+same-length-2 c = search needs
+
+returns-2 : tie.Need-returns-2
+returns-2 c = way-unsound _ _ _ _ _ (c .before .is-sound .ensures (table-of _ _ (c .before .before .before .before .good .1 .0))) (c .if1 .left)
+
+pub abort-spec : {M : Type 1} → statement M
+abort-spec =
+    tie.close
+    (tie.spec
+    is-sound-requires
+    abort-checked-requires
+    same-length
+    returns
+    same-length-2
+    returns-2)

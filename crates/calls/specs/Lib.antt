@@ -1,0 +1,9 @@
+pub mod Relations
+pub mod Demands
+pub mod Assembling
+pub mod Ways
+pub mod Seats
+pub mod Stepping
+pub mod Steps
+pub mod Words
+pub mod Promised

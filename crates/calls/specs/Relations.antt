@@ -1,0 +1,80 @@
+-- What each of the six calls promises, over store, table and list at entry, the answer, and store, table and list at exit.
+use mathlib.Core.Path.{_≡_}
+use mathlib.Core.Bool.{Bool, true, false, not}
+use mathlib.Core.List.{List, []}
+use Prim.Native.Nat.{ℕ}
+use lib.ListN.{length}
+use Rattle.words.specs.Store.{beyond}
+use Rattle.sessions.specs.declared.Session.{Session}
+use Rattle.sessions.specs.Sessions.{session-at}
+use Rattle.serial.specs.Calls as C
+use Rattle.machine.specs.State.{Outcome, fresh}
+use Rattle.machine.specs.Calls.{call, records-for}
+use Rattle.machine.specs.Demand.{call-of, Tells, list-after}
+use Rattle.meaning.specs.Reading.{M-of, R-of, meaning}
+use Rattle.meaning.specs.Sound.{Sound}
+
+-- What the machine does with a call, on what the words mean.
+abbrev pub outcome : C.Call → List ℕ → List Session → Outcome
+outcome c s t = call (call-of c (length s)) (meaning s t)
+
+-- Waits, and refusals but those that end the request, change nothing.
+abbrev pub stays : C.Answer → Bool
+stays C.ok = false
+stays C.more = false
+stays (C.wait p) = true
+stays (C.done ns) = false
+stays (C.refused n k) = not (C.ends-request n)
+
+-- The party of a call; only its session record may be another.
+abbrev pub Others : C.Call → List Session → List Session → Type 0
+Others (C.format m) t t′ = Unit {0}
+Others (C.begin p) t t′ = (q : ℕ) → ¬ (q ≡ p) → session-at t′ q ≡ session-at t q
+Others (C.put p c e f g) t t′ = (q : ℕ) → ¬ (q ≡ p) → session-at t′ q ≡ session-at t q
+Others (C.step p l) t t′ = (q : ℕ) → ¬ (q ≡ p) → session-at t′ q ≡ session-at t q
+Others (C.commit p) t t′ = (q : ℕ) → ¬ (q ≡ p) → session-at t′ q ≡ session-at t q
+Others (C.abort p) t t′ = (q : ℕ) → ¬ (q ≡ p) → session-at t′ q ≡ session-at t q
+
+-- Calls that write no word of the store.
+abbrev pub Kept : C.Call → List ℕ → List ℕ → Type 0
+Kept (C.format m) s s′ = Unit {0}
+Kept (C.begin p) s s′ = s′ ≡ s
+Kept (C.put p c e f g) s s′ = s′ ≡ s
+Kept (C.step p l) s s′ = Unit {0}
+Kept (C.commit p) s s′ = Unit {0}
+Kept (C.abort p) s s′ = Unit {0}
+
+-- A call on sound words: the machine's answer, the list that it writes, and words that mean the machine's next state.
+pub record Answered (c : C.Call) (s : List ℕ) (t : List Session) (a : C.Answer) (l′ : List ℕ) (s′ : List ℕ) (t′ : List Session) : Type 0 where
+  pub tells : Tells (outcome c s t .answer) a
+  pub list-is : l′ ≡ list-after c (outcome c s t .written)
+  pub sound : Sound s′ t′
+  pub means : meaning s′ t′ ≡ outcome c s t .next
+  pub long : length s′ ≡ length s
+  pub still : stays a ≡ true → (s′ ≡ s) × (t′ ≡ t)
+  pub others : Others c t t′
+  pub kept : Kept c s s′
+
+-- Words that no accepted format reaches: M, R and all beyond the records.
+pub record Around (s s′ : List ℕ) : Type 0 where
+  pub entries : M-of s′ ≡ M-of s
+  pub records : R-of s′ ≡ R-of s
+  pub rest : beyond s′ (M-of s) (R-of s) ≡ beyond s (M-of s) (R-of s)
+
+-- Refusal 2, of a store or table that is not sound: nothing is changed.
+pub record Unsound (s : List ℕ) (t : List Session) (a : C.Answer) (s′ : List ℕ) (t′ : List Session) : Type 0 where
+  pub answer : a ≡ C.refused 2 0
+  pub store-same : s′ ≡ s
+  pub table-same : t′ ≡ t
+
+-- Begin, put, step, commit, abort: refused 2 exactly if store or table is not sound.
+pub record Calls (c : C.Call) (s : List ℕ) (t : List Session) (a : C.Answer) (l′ : List ℕ) (s′ : List ℕ) (t′ : List Session) : Type 0 where
+  pub answers : Sound s t → Answered c s t a l′ s′ t′ × Around s s′
+  pub refuses : ¬ Sound s t → Unsound s t a s′ t′
+
+-- Format: never 2; accepted, the fresh store and the table cleared.
+pub record Formats (m : ℕ) (s : List ℕ) (t : List Session) (a : C.Answer) (s′ : List ℕ) (t′ : List Session) : Type 0 where
+  pub tells : Tells (outcome (C.format m) s t .answer) a
+  pub long : length s′ ≡ length s
+  pub refuses : stays a ≡ true → (s′ ≡ s) × (t′ ≡ t)
+  pub accepts : a ≡ C.ok → Sound s′ t′ × (meaning s′ t′ ≡ fresh m (records-for m (length s))) × (beyond s′ m (records-for m (length s)) ≡ beyond s m (records-for m (length s)))
