@@ -1,0 +1,28 @@
+-- The types of plain data that a thin function takes beside the store and the table, each with its laws: a u32, and an `Ask`.
+use mir.Syntax.{Ty, w32, tyInt}
+use mir.Val.{vint}
+use denote.RattleType.{RattleType}
+use denote.Builtin.{u32}
+use denote.Plain.{uint-tells, uint-lawful, uint-makes}
+use denote.Struct.Laws as LL
+use Rattle.store.proofs.Thin.{PlainLaws}
+use Rattle.store.proofs.Ask as Ak
+use Rattle.store.proofs.Ask.Laws as Ak′
+
+abbrev pub Word : RattleType
+Word = u32
+
+abbrev pub wordTy : Ty
+wordTy = tyInt w32
+
+abbrev pub wordLaws : PlainLaws (Word .Denot) wordTy (Word .written) (Word .reaches) (Word .own) (Word .coded)
+wordLaws = record { val = vint w32; tell = uint-tells w32; lawful = λ 𝓤 H A W. uint-lawful 𝓤 H A W w32; make = λ 𝓤 H A W. uint-makes 𝓤 H A W w32 }
+
+abbrev pub AskR : RattleType
+AskR = Ak.the-row
+
+abbrev pub askTy : Ty
+askTy = Ak′.mir
+
+abbrev pub askLaws : PlainLaws (AskR .Denot) askTy (AskR .written) (AskR .reaches) (AskR .own) (AskR .coded)
+askLaws = record { val = LL.val Ak.the-type Ak′.the-laws; tell = LL.tells Ak.the-type Ak′.the-laws; lawful = λ 𝓤 H A W. LL.lawful Ak.the-type Ak′.the-laws 𝓤 H A W; make = λ 𝓤 H A W. LL.makes Ak.the-type Ak′.the-plain 𝓤 H A }

@@ -1,0 +1,35 @@
+-- `store::put`: an instance of `Thin.antt`'s walk.
+use contract.Running.{givenOf, tables, tablesOf}
+use denote.Triple.Spec.{tripleOf}
+use denote.Triple.Table.{entered, cited}
+use Rattle.store.specs.Lent.{Put}
+use Rattle.store.proofs.Callees.{Wrong, Load, Save}
+use Rattle.store.proofs.Thin.{Core, thin-meets}
+use Rattle.store.proofs.Plains.{askLaws, AskR, askTy}
+use Rattle.store.proofs.wrong_table.Symbol as wrong-def
+use Rattle.store.proofs.wrong_table.Symbol.{name as #store·wrong-table}
+use Rattle.store.proofs.wrong_table.Met as wrong-thm
+use Rattle.store.proofs.load_all.Symbol as load-def
+use Rattle.store.proofs.load_all.Symbol.{name as #store·load-all}
+use Rattle.store.proofs.load_all.Met as load-thm
+use Rattle.store.proofs.save_all.Symbol as save-def
+use Rattle.store.proofs.save_all.Symbol.{name as #store·save-all}
+use Rattle.store.proofs.save_all.Met as save-thm
+use Rattle.store.proofs.put_by_value.Symbol as core-def
+use Rattle.store.proofs.put_by_value.Symbol.{name as #store·put-by-value}
+use Rattle.store.proofs.put_by_value.Met as core-thm
+use Rattle.store.proofs.put.Key.{name as #store·put}
+use Rattle.store.proofs.put as fn
+use Rattle.store.proofs.put.Statement as stated
+use Rattle.store.proofs.put.Code as code
+
+pub put-spec : {M : Type 1} → stated.statement M
+unfolding code.routine tablesOf
+put-spec 𝓤 H 𝓜 𝓖 𝓡 =
+    entered 𝓤 H (tripleOf 𝓤 H (𝓖 .A) fn.signature (fn.spec 𝓤 H (𝓖 .A) (𝓜 .mem) (𝓡 .run)))
+    (tables 𝓤 H 𝓜 𝓡 code.env .C) (tables 𝓤 H 𝓜 𝓡 code.env .Λ) #store·put code.function (code.unfolded 𝓤 H 𝓜 𝓡)
+    (thin-meets (AskR .Denot) askTy (AskR .written) (AskR .reaches) (AskR .own) (AskR .coded) askLaws #store·put-by-value Put 𝓤 H (𝓖 .A) (givenOf 𝓤 H 𝓜 𝓖) (𝓜 .mem) (𝓡 .run) (tablesOf 𝓤 H 𝓜 (tables 𝓤 H 𝓜 𝓡 code.env))
+    (cited 𝓤 H (Wrong 𝓤 H (𝓖 .A) (𝓜 .mem) (𝓡 .run)) 𝓜 𝓡 code.env #store·wrong-table wrong-def.routine code.calls-store·wrong-table (wrong-thm.met 𝓤 H 𝓜 𝓖 𝓡))
+    (cited 𝓤 H (Load 𝓤 H (𝓖 .A) (𝓜 .mem) (𝓡 .run)) 𝓜 𝓡 code.env #store·load-all load-def.routine code.calls-store·load-all (load-thm.met 𝓤 H 𝓜 𝓖 𝓡))
+    (cited 𝓤 H (Core (AskR .Denot) askTy (AskR .written) (AskR .reaches) (AskR .own) (AskR .coded) askLaws #store·put-by-value Put 𝓤 H (𝓖 .A)) 𝓜 𝓡 code.env #store·put-by-value core-def.routine code.calls-store·put-by-value (core-thm.met 𝓤 H 𝓜 𝓖 𝓡))
+    (cited 𝓤 H (Save 𝓤 H (𝓖 .A) (𝓜 .mem) (𝓡 .run)) 𝓜 𝓡 code.env #store·save-all save-def.routine code.calls-store·save-all (save-thm.met 𝓤 H 𝓜 𝓖 𝓡)))

@@ -1,0 +1,182 @@
+// Store: the six calls over a lent store, a lent session table and, for step, a lent list.
+//
+// Each refuses a table that is not of 17 records (refusal 1), and then changes nothing. Else it loads the records, makes the call on them by value and
+// stores them back: it promises what the call by value promises, over words, table and list at entry and at exit (specs/Lent). Nothing is asked of the
+// caller. It rests on calls for the calls by value, on endings for an idle session record.
+ghost use mathlib.Core.Path.{_≡_};
+ghost use Prim.Native.Nat.{_<_};
+ghost use lib.ListN.{length, set, replicate};
+ghost use Rattle.sessions.specs.Sessions.{idle-session, session-at, parties};
+ghost use Rattle.store.specs.Lent.{Formatted, Begun, Put, Committed, Aborted, On17, Stepped17};
+use calls::Served;
+use outcomes::Answer;
+use sessions::PARTIES;
+use sessions::Session;
+
+// The arguments of a put.
+pub struct Ask {
+    pub party: u32,
+    pub code: u32,
+    pub entry: u32,
+    pub first: u32,
+    pub second: u32,
+}
+
+// ---- the table by value
+
+fn no_table() -> [Session; PARTIES]
+    ensures { λ r. ⌜ r ≡ replicate parties idle-session ⌝ }
+{
+    let x = endings::fresh_session();
+    [x; PARTIES]
+}
+
+fn pick(t: [Session; PARTIES], i: usize) -> Session
+    requires { ⌜ i < parties ⌝ }
+    ensures { λ r. ⌜ r ≡ session-at t i ⌝ }
+{
+    t[i]
+}
+
+fn put_at(t: [Session; PARTIES], i: usize, x: Session) -> [Session; PARTIES]
+    requires { ⌜ i < parties ⌝ }
+    ensures { λ r. ⌜ r ≡ set t i x ⌝ }
+{
+    let mut after = t;
+    after[i] = x;
+    after
+}
+
+// ---- the lent table
+
+fn wrong_table() -> Answer
+    ensures { λ r. ⌜ r ≡ Answer.Refused 1 0 ⌝ }
+{
+    Answer::Refused(1, 0)
+}
+
+// The 17 records of a lent table, by value.
+fn load_all(table: &[Session]) -> [Session; PARTIES]
+    requires { ⌜ length (now table) ≡ parties ⌝ }
+    ensures { λ r. ⌜ r ≡ now (table .entry) ⌝ }
+{
+    let mut t = no_table();
+    let mut i: usize = 0;
+    while i < PARTIES {
+        t = put_at(t, i, table[i]);
+        i += 1;
+    }
+    t
+}
+
+// The 17 records go into a lent table.
+fn save_all(table: &mut [Session], t: [Session; PARTIES])
+    requires { ⌜ length (now table) ≡ parties ⌝ }
+    ensures { λ _. ⌜ now (table .exit) ≡ t ⌝ }
+{
+    let mut i: usize = 0;
+    while i < PARTIES {
+        table[i] = pick(t, i);
+        i += 1;
+    }
+}
+
+// ---- the two calls that only read the store, with the store lent as to the others
+
+fn begin_by_value(store: &mut [u32], t: [Session; PARTIES], p: u32) -> Served
+    ensures { λ r. ⌜ Begun (now (store .entry)) t p (r .answer) (now (store .exit)) (r .table) ⌝ }
+{
+    calls::begin(store, t, p)
+}
+
+fn put_by_value(store: &mut [u32], t: [Session; PARTIES], k: Ask) -> Served
+    ensures { λ r. ⌜ Put (now (store .entry)) t k (r .answer) (now (store .exit)) (r .table) ⌝ }
+{
+    calls::put(store, t, k.party, k.code, k.entry, k.first, k.second)
+}
+
+// ---- the six calls
+
+// An empty store with m entries, and a table with no session begun.
+pub fn format(store: &mut [u32], table: &mut [Session], m: u32) -> Answer
+    ensures { λ r. ⌜ On17 Formatted (now (store .entry)) (now (table .entry)) m r (now (store .exit)) (now (table .exit)) ⌝ }
+{
+    if table.len() != PARTIES {
+        return wrong_table();
+    }
+    let t = load_all(table);
+    let served = calls::format(store, t, m);
+    let after = served.table;
+    save_all(table, after);
+    served.answer
+}
+
+// A session begins.
+pub fn begin(store: &mut [u32], table: &mut [Session], p: u32) -> Answer
+    ensures { λ r. ⌜ On17 Begun (now (store .entry)) (now (table .entry)) p r (now (store .exit)) (now (table .exit)) ⌝ }
+{
+    if table.len() != PARTIES {
+        return wrong_table();
+    }
+    let t = load_all(table);
+    let served = begin_by_value(store, t, p);
+    let after = served.table;
+    save_all(table, after);
+    served.answer
+}
+
+// A party's request: it is in hand until a step answers done.
+pub fn put(store: &mut [u32], table: &mut [Session], k: Ask) -> Answer
+    ensures { λ r. ⌜ On17 Put (now (store .entry)) (now (table .entry)) k r (now (store .exit)) (now (table .exit)) ⌝ }
+{
+    if table.len() != PARTIES {
+        return wrong_table();
+    }
+    let t = load_all(table);
+    let served = put_by_value(store, t, k);
+    let after = served.table;
+    save_all(table, after);
+    served.answer
+}
+
+// One step of the request that party p has in hand; a locate's last step writes the list.
+pub fn step(store: &mut [u32], table: &mut [Session], list: &mut [u32], p: u32) -> Answer
+    ensures { λ r. ⌜ Stepped17 (now (store .entry)) (now (table .entry)) (now (list .entry)) p r (now (store .exit)) (now (table .exit)) (now (list .exit)) ⌝ }
+{
+    if table.len() != PARTIES {
+        return wrong_table();
+    }
+    let t = load_all(table);
+    let served = calls::step(store, list, t, p);
+    let after = served.table;
+    save_all(table, after);
+    served.answer
+}
+
+// A session ends and keeps what it did.
+pub fn commit(store: &mut [u32], table: &mut [Session], p: u32) -> Answer
+    ensures { λ r. ⌜ On17 Committed (now (store .entry)) (now (table .entry)) p r (now (store .exit)) (now (table .exit)) ⌝ }
+{
+    if table.len() != PARTIES {
+        return wrong_table();
+    }
+    let t = load_all(table);
+    let served = calls::commit(store, t, p);
+    let after = served.table;
+    save_all(table, after);
+    served.answer
+}
+
+// A session ends and what it did is undone.
+pub fn abort(store: &mut [u32], table: &mut [Session], p: u32) -> Answer
+    ensures { λ r. ⌜ On17 Aborted (now (store .entry)) (now (table .entry)) p r (now (store .exit)) (now (table .exit)) ⌝ }
+{
+    if table.len() != PARTIES {
+        return wrong_table();
+    }
+    let t = load_all(table);
+    let served = calls::abort(store, t, p);
+    let after = served.table;
+    save_all(table, after);
+    served.answer
+}
