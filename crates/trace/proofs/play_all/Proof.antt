@@ -1,0 +1,55 @@
+-- `trace::play_all` is safe and ends.
+use borrow.Author.Needs.{needs}
+use mathlib.Core.Path.{_≡_}
+use lib.ListN.{length}
+use Rattle.trace.proofs.play_all.Statement.{statement}
+use Rattle.trace.proofs.play_all.Tie as tie
+
+abbrev Inv-loop : tie.InvT-loop
+Inv-loop store₀ list₀ out₀ part₀ turns₀ store list out part turns = (length store ≡ length store₀) × (length list ≡ length list₀)
+
+abbrev μ-loop : tie.MeasureT-loop
+μ-loop store₀ list₀ out₀ part₀ turns₀ store list out part turns = turns
+
+play-some-requires : tie.Need-play-some-requires Inv-loop μ-loop
+play-some-requires c κs = search needs
+
+loop-holds : tie.Need-loop-holds Inv-loop μ-loop
+loop-holds c = search needs
+
+play-some-requires-2 : tie.Need-play-some-requires-2 Inv-loop μ-loop
+play-some-requires-2 c κs = search needs
+
+sub-turns : tie.Need-sub-turns Inv-loop μ-loop
+sub-turns c = search needs
+
+loop-less : tie.Need-loop-less Inv-loop μ-loop
+loop-less c = search needs
+
+loop-again : tie.Need-loop-again Inv-loop μ-loop
+loop-again c = search needs
+
+same-length : tie.Need-same-length Inv-loop μ-loop
+same-length c = search needs
+
+same-length-2 : tie.Need-same-length-2 Inv-loop μ-loop
+same-length-2 c = search needs
+
+returns : tie.Need-returns Inv-loop μ-loop
+returns c = search needs
+
+pub play-all-spec : {M : Type 1} → statement M
+play-all-spec =
+    tie.close
+    (tie.spec
+    Inv-loop
+    μ-loop
+    play-some-requires
+    loop-holds
+    play-some-requires-2
+    sub-turns
+    loop-less
+    loop-again
+    same-length
+    same-length-2
+    returns)
