@@ -2,7 +2,7 @@
 //
 // A session that ends leaves every word of holders: the two of each entry, and the three of each descriptor along the chain of
 // descriptors. A fresh store has one node, the descriptor of key 0, and every other record free. Each function promises that its result, or
-// the store it leaves, EQUALS a definition of specs/: Leave, Fresh, Table. specs/FreshLaws says what a fresh store has, part by part.
+// the store it leaves, EQUALS a definition of specs/: Leave, Fresh, Table. specs/LeaveLaws says what a session that leaves a descriptor keeps.
 // It rests on the crates words, kinds, nodes, groups, chain, locks and sessions.
 ghost use mathlib.Core.Path.{_≡_};
 ghost use Prim.Native.Nat.{_+_, _-_, _≤_};
