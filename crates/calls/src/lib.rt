@@ -1,10 +1,10 @@
 // Calls: the six calls on the words of a store and on the session table by value.
 //
-// Each tests store and table first (not format), then the refusals in document 01's order, then does its row. Each promises one relation of
-// specs/Relations: refused 2 exactly if store or table is not sound, and then nothing is changed; else the answer is the machine's, and store and table
-// mean the machine's next state (Calls); of format, that an accepted one leaves a fresh store (Formats). specs/Words says that whole lists of calls keep
-// demand 3. It rests on soundness for the test, on refusals for the numbers, on leaving, aborting, starting, root_entry, walking, arriving, changing and
-// taking for the rows, on endings for session records by value.
+// Each tests store and table first (not format), then the refusals in document 01's order, then does its row. Each promises one relation of the crate
+// promises: refused 2 exactly if store or table is not sound, and then nothing is changed; else the answer is the machine's, and store and table mean
+// the machine's next state (Calls); of format, that an accepted one leaves a fresh store (Formats). Demands 1 to 3 over these promises stand there too. It
+// rests on soundness for the test, on refusals for the numbers, on leaving, aborting, starting, root_entry, walking, arriving, changing and taking for the
+// rows, on endings for session records by value.
 ghost use mathlib.Core.Path.{_≡_};
 ghost use mathlib.Core.List.{[]};
 ghost use Prim.Native.Nat.{_≤_};
@@ -16,9 +16,9 @@ ghost use Rattle.meaning.specs.Reading.{M-of};
 ghost use Rattle.meaning.specs.Sound.{Sound};
 ghost use Rattle.leaving.specs.FreshRow.{fresh-table};
 ghost use Rattle.refusals.specs.Refusing.{first-of, begin-list, put-list, step-list, commit-list, abort-list};
-ghost use Rattle.calls.specs.Relations.{Calls, Formats};
-ghost use Rattle.calls.specs.Ways.{Serves};
-ghost use Rattle.calls.specs.Stepping.{nodeStep, earlyStep, stageStep, stageWritten, NodeReady, EarlyReady, StageReady, Leaves, LeavesBoth};
+ghost use Rattle.promises.specs.Relations.{Calls, Formats};
+ghost use Rattle.promises.specs.Ways.{Serves};
+ghost use Rattle.promises.specs.Stepping.{nodeStep, earlyStep, stageStep, stageWritten, NodeReady, EarlyReady, StageReady, Leaves, LeavesBoth};
 ghost use Rattle.taking.specs.Taking.{over};
 use outcomes::Answer;
 use outcomes::Moved;

@@ -9,7 +9,7 @@ use Rattle.serial.specs.Calls as C
 use Rattle.outcomes.specs.declared.Answer.{Answer}
 use Rattle.outcomes.specs.declared.Answer.the-variants.{Refused}
 use Rattle.outcomes.specs.Said.{said}
-use Rattle.calls.specs.Relations.{Calls, Formats}
+use Rattle.promises.specs.Relations.{Calls, Formats}
 use Rattle.store.specs.declared.Ask.{Ask}
 
 -- What a call does with its argument: store and table as they were, the argument, the answer, store and table as they are left.

@@ -1,5 +1,5 @@
-use Rattle.calls.specs.Ways.{way-sound, way-unsound}
-use Rattle.calls.specs.Seats.{table-of}
+use Rattle.promises.specs.Ways.{way-sound, way-unsound}
+use Rattle.promises.specs.Seats.{table-of}
 use borrow.Author.Needs.{needs}
 use Rattle.calls.proofs.abort.Statement.{statement}
 use Rattle.calls.proofs.abort.Tie as tie
@@ -20,7 +20,7 @@ same-length-2 : tie.Need-same-length-2
 same-length-2 c = search needs
 
 returns-2 : tie.Need-returns-2
-returns-2 c = way-unsound _ _ _ _ _ (c .before .is-sound .ensures (table-of _ _ (c .before .before .before .before .good .1 .0))) (c .if1 .left)
+returns-2 c = way-unsound _ _ _ _ (c .before .is-sound .ensures (table-of _ _ (c .before .before .before .before .good .1 .0))) (c .if1 .left)
 
 pub abort-spec : {M : Type 1} → statement M
 abort-spec =

@@ -1,4 +1,4 @@
-use Rattle.calls.specs.Ways.{session-party, abort-can, abort-run}
+use Rattle.promises.specs.Ways.{session-party, abort-can, abort-run}
 use borrow.Author.Needs.{needs}
 use Rattle.calls.proofs.abort_accepted.Statement.{statement}
 use Rattle.calls.proofs.abort_accepted.Tie as tie

@@ -1,4 +1,4 @@
-use Rattle.calls.specs.Ways.{abort-refuses}
+use Rattle.promises.specs.Ways.{abort-refuses}
 use mathlib.Core.Path.{refl, sym, _∙_}
 use borrow.Author.Needs.{needs}
 use Rattle.calls.proofs.abort_checked.Statement.{statement}

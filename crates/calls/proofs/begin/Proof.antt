@@ -1,5 +1,5 @@
-use Rattle.calls.specs.Ways.{way-sound, way-unsound}
-use Rattle.calls.specs.Seats.{table-of}
+use Rattle.promises.specs.Ways.{way-sound, way-unsound}
+use Rattle.promises.specs.Seats.{table-of}
 use borrow.Author.Needs.{needs}
 use Rattle.calls.proofs.begin.Statement.{statement}
 use Rattle.calls.proofs.begin.Tie as tie
@@ -14,7 +14,7 @@ returns : tie.Need-returns
 returns c = way-sound _ _ _ _ _ _ _ _ (c .before .before .is-sound .ensures (table-of _ _ (c .before .before .before .before .good .1 .0))) (c .before .if1 .taken) (λ A. c .begin-checked .ensures)
 
 returns-2 : tie.Need-returns-2
-returns-2 c = way-unsound _ _ _ _ _ (c .before .is-sound .ensures (table-of _ _ (c .before .before .before .good .1 .0))) (c .if1 .left)
+returns-2 c = way-unsound _ _ _ _ (c .before .is-sound .ensures (table-of _ _ (c .before .before .before .good .1 .0))) (c .if1 .left)
 
 pub begin-spec : {M : Type 1} → statement M
 begin-spec = tie.close (tie.spec is-sound-requires begin-checked-requires returns returns-2)

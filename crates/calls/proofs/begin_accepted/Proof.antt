@@ -1,4 +1,4 @@
-use Rattle.calls.specs.Ways.{session-party, begin-run}
+use Rattle.promises.specs.Ways.{session-party, begin-run}
 use borrow.Author.Needs.{needs}
 use Rattle.calls.proofs.begin_accepted.Statement.{statement}
 use Rattle.calls.proofs.begin_accepted.Tie as tie

@@ -1,4 +1,4 @@
-use Rattle.calls.specs.Ways.{begin-refuses}
+use Rattle.promises.specs.Ways.{begin-refuses}
 use mathlib.Core.Path.{refl, sym, _∙_}
 use borrow.Author.Needs.{needs}
 use Rattle.calls.proofs.begin_checked.Statement.{statement}

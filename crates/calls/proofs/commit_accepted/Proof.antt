@@ -1,4 +1,4 @@
-use Rattle.calls.specs.Ways.{session-party, commit-can, commit-run}
+use Rattle.promises.specs.Ways.{session-party, commit-can, commit-run}
 use borrow.Author.Needs.{needs}
 use Rattle.calls.proofs.commit_accepted.Statement.{statement}
 use Rattle.calls.proofs.commit_accepted.Tie as tie

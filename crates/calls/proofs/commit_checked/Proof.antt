@@ -1,4 +1,4 @@
-use Rattle.calls.specs.Ways.{commit-refuses}
+use Rattle.promises.specs.Ways.{commit-refuses}
 use mathlib.Core.Path.{refl, sym, _∙_}
 use borrow.Author.Needs.{needs}
 use Rattle.calls.proofs.commit_checked.Statement.{statement}

@@ -1,4 +1,4 @@
-use Rattle.calls.specs.Stepping.{early-one, early-two, early-three, early-four}
+use Rattle.promises.specs.Stepping.{early-one, early-two, early-three, early-four}
 use borrow.Author.Needs.{needs}
 use Rattle.calls.proofs.early_step.Statement.{statement}
 use Rattle.calls.proofs.early_step.Tie as tie

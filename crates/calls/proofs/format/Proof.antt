@@ -1,4 +1,4 @@
-use Rattle.calls.specs.Ways.{format-refuses}
+use Rattle.promises.specs.Ways.{format-refuses}
 use mathlib.Core.Path.{sym, _∙_}
 use borrow.Author.Needs.{needs}
 use Rattle.calls.proofs.format.Statement.{statement}

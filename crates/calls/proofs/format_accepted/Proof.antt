@@ -1,4 +1,4 @@
-use Rattle.calls.specs.Ways.{format-most, format-can, format-run}
+use Rattle.promises.specs.Ways.{format-most, format-can, format-run}
 use borrow.Author.Needs.{needs}
 use Rattle.calls.proofs.format_accepted.Statement.{statement}
 use Rattle.calls.proofs.format_accepted.Tie as tie

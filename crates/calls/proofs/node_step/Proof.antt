@@ -1,4 +1,4 @@
-use Rattle.calls.specs.Stepping.{node-low, node-high}
+use Rattle.promises.specs.Stepping.{node-low, node-high}
 use borrow.Author.Needs.{needs}
 use Rattle.calls.proofs.node_step.Statement.{statement}
 use Rattle.calls.proofs.node_step.Tie as tie

@@ -1,4 +1,4 @@
-use Rattle.calls.specs.Ways.{any-party, put-can, put-run}
+use Rattle.promises.specs.Ways.{any-party, put-can, put-run}
 use borrow.Author.Needs.{needs}
 use Rattle.calls.proofs.put_accepted.Statement.{statement}
 use Rattle.calls.proofs.put_accepted.Tie as tie

@@ -1,5 +1,5 @@
 use denote.Ref.{now}
-use Rattle.calls.specs.Ways.{put-refuses, put-zero}
+use Rattle.promises.specs.Ways.{put-refuses, put-zero}
 use borrow.Author.Needs.{needs}
 use Rattle.calls.proofs.put_checked.Statement.{statement}
 use Rattle.calls.proofs.put_checked.Tie as tie

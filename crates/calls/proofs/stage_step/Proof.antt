@@ -1,4 +1,4 @@
-use Rattle.calls.specs.Stepping.{stage-take, stage-early}
+use Rattle.promises.specs.Stepping.{stage-take, stage-early}
 use denote.Ref.{now}
 use borrow.Author.Needs.{needs}
 use Rattle.calls.proofs.stage_step.Statement.{statement}

@@ -1,5 +1,5 @@
-use Rattle.calls.specs.Seats.{table-of}
-use Rattle.calls.specs.Ways.{way-sound, way-unsound}
+use Rattle.promises.specs.Seats.{table-of}
+use Rattle.promises.specs.Ways.{way-sound, way-unsound}
 use borrow.Author.Needs.{needs}
 use Rattle.calls.proofs.step.Statement.{statement}
 use Rattle.calls.proofs.step.Tie as tie
@@ -23,7 +23,7 @@ same-length-3 : tie.Need-same-length-3
 same-length-3 c = search needs
 
 returns-2 : tie.Need-returns-2
-returns-2 c = way-unsound _ _ _ _ _ (c .before .is-sound .ensures (table-of _ _ (c .before .before .before .before .before .good .1 .1 .0))) (c .if1 .left)
+returns-2 c = way-unsound _ _ _ _ (c .before .is-sound .ensures (table-of _ _ (c .before .before .before .before .before .good .1 .1 .0))) (c .if1 .left)
 
 pub step-spec : {M : Type 1} → statement M
 step-spec =

@@ -1,5 +1,5 @@
-use Rattle.calls.specs.Ways.{any-party}
-use Rattle.calls.specs.Steps.{step-can, step-run}
+use Rattle.promises.specs.Ways.{any-party}
+use Rattle.promises.specs.Steps.{step-can, step-run}
 use denote.Ref.{now}
 use borrow.Author.Needs.{needs}
 use Rattle.calls.proofs.step_accepted.Statement.{statement}

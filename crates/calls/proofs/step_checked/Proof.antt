@@ -1,5 +1,5 @@
 use mathlib.Core.Path.{sym, _∙_}
-use Rattle.calls.specs.Steps.{step-refuses}
+use Rattle.promises.specs.Steps.{step-refuses}
 use borrow.Author.Needs.{needs}
 use Rattle.calls.proofs.step_checked.Statement.{statement}
 use Rattle.calls.proofs.step_checked.Tie as tie

@@ -3,10 +3,10 @@ use mathlib.Core.Path.{_≡_}
 use mathlib.Core.Bool.{Bool, true, false, not}
 use mathlib.Core.List.{List, []}
 use Prim.Native.Nat.{ℕ}
-use lib.ListN.{length}
+use lib.ListN.{length, replicate}
 use Rattle.words.specs.Store.{beyond}
 use Rattle.sessions.specs.declared.Session.{Session}
-use Rattle.sessions.specs.Sessions.{session-at}
+use Rattle.sessions.specs.Sessions.{session-at, idle-session, parties}
 use Rattle.serial.specs.Calls as C
 use Rattle.machine.specs.State.{Outcome, fresh}
 use Rattle.machine.specs.Calls.{call, records-for}
@@ -55,26 +55,36 @@ pub record Answered (c : C.Call) (s : List ℕ) (t : List Session) (a : C.Answer
   pub others : Others c t t′
   pub kept : Kept c s s′
 
--- Words that no accepted format reaches: M, R and all beyond the records.
+-- What no call but an accepted format changes: M, R; and the words beyond the records, which none does.
 pub record Around (s s′ : List ℕ) : Type 0 where
   pub entries : M-of s′ ≡ M-of s
   pub records : R-of s′ ≡ R-of s
   pub rest : beyond s′ (M-of s) (R-of s) ≡ beyond s (M-of s) (R-of s)
 
+-- The list that a call is lent: step's alone.
+abbrev pub list-of : C.Call → List ℕ
+list-of (C.format m) = []
+list-of (C.begin p) = []
+list-of (C.put p c e f g) = []
+list-of (C.step p l) = l
+list-of (C.commit p) = []
+list-of (C.abort p) = []
+
 -- Refusal 2, of a store or table that is not sound: nothing is changed.
-pub record Unsound (s : List ℕ) (t : List Session) (a : C.Answer) (s′ : List ℕ) (t′ : List Session) : Type 0 where
+pub record Unsound (c : C.Call) (s : List ℕ) (t : List Session) (a : C.Answer) (l′ : List ℕ) (s′ : List ℕ) (t′ : List Session) : Type 0 where
   pub answer : a ≡ C.refused 2 0
+  pub list-same : l′ ≡ list-of c
   pub store-same : s′ ≡ s
   pub table-same : t′ ≡ t
 
 -- Begin, put, step, commit, abort: refused 2 exactly if store or table is not sound.
 pub record Calls (c : C.Call) (s : List ℕ) (t : List Session) (a : C.Answer) (l′ : List ℕ) (s′ : List ℕ) (t′ : List Session) : Type 0 where
   pub answers : Sound s t → Answered c s t a l′ s′ t′ × Around s s′
-  pub refuses : ¬ Sound s t → Unsound s t a s′ t′
+  pub refuses : ¬ Sound s t → Unsound c s t a l′ s′ t′
 
 -- Format: never 2; accepted, the fresh store and the table cleared.
 pub record Formats (m : ℕ) (s : List ℕ) (t : List Session) (a : C.Answer) (s′ : List ℕ) (t′ : List Session) : Type 0 where
   pub tells : Tells (outcome (C.format m) s t .answer) a
   pub long : length s′ ≡ length s
   pub refuses : stays a ≡ true → (s′ ≡ s) × (t′ ≡ t)
-  pub accepts : a ≡ C.ok → Sound s′ t′ × (meaning s′ t′ ≡ fresh m (records-for m (length s))) × (beyond s′ m (records-for m (length s)) ≡ beyond s m (records-for m (length s)))
+  pub accepts : a ≡ C.ok → Sound s′ t′ × (meaning s′ t′ ≡ fresh m (records-for m (length s))) × (beyond s′ m (records-for m (length s)) ≡ beyond s m (records-for m (length s))) × (t′ ≡ replicate parties idle-session)

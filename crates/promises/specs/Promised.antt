@@ -6,17 +6,16 @@ use mathlib.Core.Logic.{_⊎_, inl, inr}
 use Prim.Native.Nat.{ℕ}
 use lib.Dec.{eqb, ltb}
 use lib.ListN.{length}
-use Rattle.serial.specs.Serial.{true≢false}
 use Rattle.sessions.specs.declared.Session.{Session}
 use Rattle.serial.specs.Calls as C
 use Rattle.machine.specs.State.{State, Outcome, fresh, ok, refused}
 use Rattle.machine.specs.Steps.{answer}
-use Rattle.machine.specs.Calls.{call, refusing, format-checks, records-for}
+use Rattle.machine.specs.Calls.{call, refusing, records-for}
 use Rattle.machine.specs.Demand.{Tells}
 use Rattle.meaning.specs.Reading.{meaning}
 use Rattle.meaning.specs.Sound.{Sound}
-use Rattle.calls.specs.Relations.{outcome, stays, Answered, Calls, Formats}
-use Rattle.calls.specs.Demands.{Lending, Returns}
+use Rattle.promises.specs.Relations.{outcome, stays, Answered, Calls, Formats}
+use Rattle.promises.specs.Demands.{Returns}
 
 -- Begin, put, step, commit, abort.
 pub calls-return : (c : C.Call) (s : List ℕ) (t : List Session) (a : C.Answer) (l s′ : List ℕ) (t′ : List Session) → Calls c s t a l s′ t′

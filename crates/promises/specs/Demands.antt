@@ -1,16 +1,15 @@
 -- Demand 3 of the words: calls that keep their promises keep it, whatever the list of calls.
-use mathlib.Core.Path.{_≡_, refl, sym, ap, subst, _∙_}
-use mathlib.Core.Bool.{true, false}
-use mathlib.Core.List.{List, []}
+use mathlib.Core.Path.{_≡_, sym, ap, subst, _∙_}
+use mathlib.Core.List.{List}
 use mathlib.Core.Logic.{_⊎_, inl, inr}
-use Prim.Native.Nat.{ℕ, _≤_}
+use Prim.Native.Nat.{ℕ}
 use lib.ListN.{length}
 use Rattle.sessions.specs.declared.Session.{Session}
 use Rattle.serial.specs.Locks.{lock-rule, lock-rule-strict}
 use Rattle.serial.specs.LockMachine.{Formatted}
 use Rattle.serial.specs.Calls.{Turn, Told, nothing, tell, told, Machine, Run, Demand-3, Knows, Anew, Laws, demand-3}
 use Rattle.serial.specs.Calls as C
-use Rattle.machine.specs.State.{State, sessionOf, fresh}
+use Rattle.machine.specs.State.{sessionOf, fresh}
 use Rattle.machine.specs.View.{view}
 use Rattle.machine.specs.Demand.{Lent, Performs, machine, hand-put, fresh-formatted}
 use Rattle.machine.specs.Demand3.{machine-laws}
@@ -18,7 +17,7 @@ use Rattle.machine.specs.Fresh.{fresh-session}
 use Rattle.machine.specs.Sound as S
 use Rattle.meaning.specs.Reading.{meaning}
 use Rattle.meaning.specs.Sound.{Sound}
-use Rattle.calls.specs.Relations.{Answered, Calls, Formats}
+use Rattle.promises.specs.Relations.{Answered}
 
 -- What the host lends: the words of a store, and a table of session records.
 pub record Lending : Type 0 where

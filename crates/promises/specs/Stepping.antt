@@ -3,11 +3,11 @@ use mathlib.Core.Path.{_≡_, refl, sym, ap, subst, _∙_}
 use mathlib.Core.Bool.{Bool, true, false, cond, not, _&&_}
 use mathlib.Core.List.{List, [], _∷_}
 use mathlib.Core.Logic.{inl, inr}
-use Prim.Native.Nat.{ℕ, zero, suc, _+_, _-_, _*_, _≤_, _<_}
+use Prim.Native.Nat.{ℕ, zero, suc, _+_, _-_, _*_, _≤_}
 use native.Mathlib.Decide.{ℕ-discrete}
 use native.Mathlib.Omega.{arith}
 use lib.Dec.{eqb, leb, ltb}
-use lib.ListN.{length, set}
+use lib.ListN.{length}
 use borrow.Author.Tests.{eq-eqb, ne-eqb}
 use Rattle.sessions.specs.declared.Session.{Session}
 use Rattle.sessions.specs.Sessions.{session-at}
@@ -19,8 +19,8 @@ use Rattle.outcomes.specs.declared.Moved.{Moved}
 use Rattle.machine.specs.Logic.{either}
 use Rattle.machine.specs.Holders.{width, latch-word, elem}
 use Rattle.machine.specs.Tree.{pick}
-use Rattle.machine.specs.State.{State, Tree, same, Desc, Request, Stage, start, enter, at, change, take, Outcome, more, refused, descOf, no-desc, stored, gap-below}
-use Rattle.machine.specs.Steps.{answer, guarded, goes-on, finished, ended, first-step, read-step, write-step, entry-step, enter-step, lowest-step, tidy-step, pin-step, make-step, tidied-state, stand-step, level-step, at-step, change-step, insert-step, remove-step, updating-state, inserted-state, removed-state, next-step}
+use Rattle.machine.specs.State.{State, Tree, same, Desc, Request, Stage, start, enter, at, change, take, Outcome, more, descOf, no-desc, stored, gap-below}
+use Rattle.machine.specs.Steps.{answer, guarded, goes-on, finished, first-step, read-step, write-step, entry-step, enter-step, lowest-step, tidy-step, pin-step, make-step, tidied-state, stand-step, level-step, at-step, change-step, insert-step, remove-step, updating-state, inserted-state, removed-state, next-step}
 use Rattle.machine.specs.Steps as N
 use Rattle.machine.specs.Descents.{guard-cases, latch-cases}
 use Rattle.meaning.specs.Reading.{M-of, R-of, stage-of, Numbered}
@@ -31,12 +31,12 @@ use Rattle.scans.specs.Scans.{memberOf}
 use Rattle.taking.specs.Place.{nextTaken}
 use Rattle.nodes.specs.Node.{nodeAt}
 use Rattle.nodes.specs.Ops.{sonFor}
-use Rattle.descents.specs.Descents.{sonAt, sonToward, plainSon, splitSon, splitSonHalf, pairPlace, joinSons, moveRight, moveLeft, downBound, hasFree, inWay, firstInWay}
+use Rattle.descents.specs.Descents.{sonAt, sonToward, pairPlace, downBound, hasFree, inWay, firstInWay}
 use Rattle.layout.specs.Layout.{means, Marked, SomeSon}
 use Rattle.layout.specs.Row.{Stands, Moves}
 use Rattle.layout.specs.Asked.{request-in}
 use Rattle.starting.specs.Starting.{entryBlocker, readStep, readDone, writeStep, writeFree, writeDone, entryStep, entryDone, tidiedNone, unlessHeld, waits, refuses, firstStep, FirstReady}
-use Rattle.starting.specs.First.{first-moves, first-ready, next-first}
+use Rattle.starting.specs.First.{first-moves, first-ready}
 use Rattle.root_entry.specs.RootEntry.{rootInWay, droppedWords, splitsRoot, hasTwo, wholeAt, enterWhole, halvesAt, enterHalves, rootWaits, rootRefused, enterFull, enterFree, enterStep, EnterReady}
 use Rattle.root_entry.specs.Enter.{enter-next}
 use Rattle.root_entry.specs.Ready.{enter-ready}
@@ -57,7 +57,7 @@ use Rattle.taking.specs.Taking.{inWayOf, foundIn, passStep, doneStep, shortStep
 use Rattle.taking.specs.Taking as K
 use Rattle.taking.specs.Moves.{take-moves, take-list, take-next}
 use Rattle.taking.specs.Ready.{take-ready}
-use Rattle.calls.specs.Relations.{stays}
+use Rattle.promises.specs.Relations.{stays}
 
 -- ---- what a step leaves
 

@@ -3,7 +3,7 @@ use mathlib.Core.Path.{_≡_, refl, sym, ap, subst, _∙_}
 use mathlib.Core.Bool.{Bool, true, false, cond, not, _||_}
 use mathlib.Core.List.{List, [], _∷_}
 use mathlib.Core.Logic.{_↔_}
-use Prim.Native.Nat.{ℕ, zero, suc, _≤_, _<_}
+use Prim.Native.Nat.{ℕ, zero, suc, _≤_}
 use native.Mathlib.Omega.{arith}
 use lib.Dec.{eqb, leb, ltb}
 use lib.ListN.{length, set}
@@ -12,18 +12,18 @@ use Rattle.sessions.specs.declared.Session.{Session}
 use Rattle.sessions.specs.Sessions.{session-at}
 use Rattle.serial.specs.Serial.{true≢false}
 use Rattle.serial.specs.Calls as C
-use Rattle.machine.specs.Logic.{eqb-is, eqb-not, leb-is, leb-not}
+use Rattle.machine.specs.Logic.{eqb-is, eqb-not, leb-not}
 use Rattle.machine.specs.Holders.{width}
 use Rattle.machine.specs.State.{Outcome, refused, ok, fresh}
 use Rattle.machine.specs.Steps.{answer}
 use Rattle.machine.specs.Calls.{call, begins, commits, aborts, accepted, no-party, no-session, format-checks, records-for}
-use Rattle.machine.specs.Demand.{call-of, Tells}
+use Rattle.machine.specs.Demand.{Tells}
 use Rattle.machine.specs.Sound as S
 use Rattle.machine.specs.Ending.{fresh-sound}
 use Rattle.meaning.specs.Reading.{M-of, R-of, meaning}
 use Rattle.meaning.specs.Sound.{Sound}
 use Rattle.layout.specs.Layout.{means}
-use Rattle.layout.specs.Row.{Stands, Becomes}
+use Rattle.layout.specs.Row.{Becomes}
 use Rattle.layout.specs.Laid.{sound-stands}
 use Rattle.layout.specs.Back.{holds-means, holds-sound}
 use Rattle.endings.specs.Table.{newlyBegun, unbegun}
@@ -35,31 +35,24 @@ use Rattle.leaving.specs.FreshRow.{fresh-table, fresh-room, format-becomes}
 use Rattle.aborting.specs.Words.{abortWords, AbortReady}
 use Rattle.aborting.specs.Abort.{abort-becomes, abort-ready}
 use Rattle.endings.specs.Fresh.{freshStore, Roomy}
-use Rattle.refusals.specs.Refusing.{first-of, begun-in, hand-in, begin-list, put-list, commit-list, abort-list, begin-refused, put-refused, commit-refused, abort-refused}
+use Rattle.refusals.specs.Refusing.{first-of, begun-in, begin-list, put-list, commit-list, abort-list, begin-refused, put-refused, commit-refused, abort-refused}
 use Rattle.refusals.specs.Coded.{format-refused}
-use Rattle.calls.specs.Relations.{outcome, Calls, Formats, Answered, Around, Unsound}
-use Rattle.calls.specs.Assembling.{stands-means, answered-by, answered-refused, list-of, set-others}
+use Rattle.promises.specs.Relations.{outcome, Calls, Formats, Answered, Around, list-of}
+use Rattle.promises.specs.Assembling.{stands-means, answered-by, answered-refused, set-others}
 
 -- What a call on sound words promises.
 abbrev pub Serves : C.Call → List ℕ → List Session → C.Answer → List ℕ → List ℕ → List Session → Type 0
 Serves c s t a l′ s′ t′ = Answered c s t a l′ s′ t′ × Around s s′
 
-pub way-unsound : (c : C.Call) (s : List ℕ) (t : List Session) (b : Bool) (l′ : List ℕ) → ((b ≡ true) ↔ Sound s t) → b ≡ false → Calls c s t (C.refused 2 0) l′ s t
-way-unsound c s t b l′ i e = record {
+pub way-unsound : (c : C.Call) (s : List ℕ) (t : List Session) (b : Bool) → ((b ≡ true) ↔ Sound s t) → b ≡ false → Calls c s t (C.refused 2 0) (list-of c) s t
+way-unsound c s t b i e = record {
   answers = λ A. absurd (true≢false (i .1 A) e);
-  refuses = λ n. record { answer = refl; store-same = refl; table-same = refl };
+  refuses = λ n. record { answer = refl; list-same = refl; store-same = refl; table-same = refl };
 }
 
 pub way-sound : (c : C.Call) (s : List ℕ) (t : List Session) (b : Bool) (a : C.Answer) (l′ s′ : List ℕ) (t′ : List Session) → ((b ≡ true) ↔ Sound s t) → b ≡ true
     → (Sound s t → Answered c s t a l′ s′ t′ × Around s s′) → Calls c s t a l′ s′ t′
 way-sound c s t b a l′ s′ t′ i e f = record { answers = f; refuses = λ n. absurd (n (i .0 e)) }
-
--- Refused by the first number of the list.
-pub way-refused : (c : C.Call) (s : List ℕ) (t : List Session) (b : Bool) (n : ℕ) (o : Outcome) → ((b ≡ true) ↔ Sound s t) → b ≡ true → ¬ (n ≡ 0)
-    → (Sound s t → outcome c s t ≡ cond (eqb n 0) o (answer (refused n 0) (meaning s t))) → Calls c s t (C.refused n 0) (list-of c) s t
-way-refused c s t b n o i e ne f =
-    way-sound c s t b (C.refused n 0) (list-of c) s t i e
-    (λ A. answered-refused c s t A n (f A ∙ ap (λ q. cond q o (answer (refused n 0) (meaning s t))) (ne-eqb n 0 ne)))
 
 accept : (n : ℕ) (o z : Outcome) → n ≡ 0 → cond (eqb n 0) o z ≡ o
 accept n o z e = ap (λ q. cond q o z) (eq-eqb n 0 e)
@@ -214,6 +207,7 @@ format-done s t m z =
         holds-sound (freshStore s m r) fresh-table (B .lay) (B .holds) (subst S.Sound (sym (B .means-next)) (fresh-sound m r (q .0) (q .1) (q .2) (omega arith))),
         holds-means (freshStore s m r) fresh-table (B .lay) (B .holds) ∙ B .means-next,
         B .rest,
+        refl,
       );
     }
 

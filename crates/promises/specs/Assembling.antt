@@ -1,15 +1,14 @@
 -- From a row on words to the promise of a call.
 use mathlib.Core.Path.{_≡_, refl, sym, ap, subst, _∙_}
-use mathlib.Core.Bool.{Bool, true, false, cond}
-use mathlib.Core.List.{List, [], _∷_, _++_}
-use Prim.Native.Nat.{ℕ, zero, suc}
-use lib.Dec.{eqb}
-use lib.ListN.{length, drop, set}
+use mathlib.Core.Bool.{true}
+use mathlib.Core.List.{List, []}
+use Prim.Native.Nat.{ℕ}
+use lib.ListN.{length, set}
 use lib.Seq.{getD-set-other}
 use Rattle.sessions.specs.declared.Session.{Session}
 use Rattle.sessions.specs.Sessions.{session-at, idle-session}
 use Rattle.serial.specs.Calls as C
-use Rattle.machine.specs.State.{State, Outcome, refused}
+use Rattle.machine.specs.State.{Outcome, refused}
 use Rattle.machine.specs.Steps.{answer}
 use Rattle.machine.specs.Calls.{call}
 use Rattle.machine.specs.Keeping.{keeps}
@@ -18,9 +17,9 @@ use Rattle.machine.specs.Sound as S
 use Rattle.meaning.specs.Reading.{meaning}
 use Rattle.meaning.specs.Sound.{Sound}
 use Rattle.layout.specs.Layout.{means}
-use Rattle.layout.specs.Row.{Stands, Becomes, Moves}
+use Rattle.layout.specs.Row.{Stands, Becomes}
 use Rattle.layout.specs.Back.{holds-means, becomes-sound}
-use Rattle.calls.specs.Relations.{outcome, stays, Others, Kept, Answered, Around}
+use Rattle.promises.specs.Relations.{outcome, stays, Others, Kept, Answered, Around, list-of}
 
 -- The words of a sound store hold a layout that means what they mean.
 pub stands-means : (s : List ℕ) (t : List Session) (A : Stands s t) → means (A .lay) t ≡ meaning s t
@@ -60,15 +59,6 @@ kept-same (C.put p c e f g) s = refl
 kept-same (C.step p l) s = tt
 kept-same (C.commit p) s = tt
 kept-same (C.abort p) s = tt
-
--- The lent list of a call, as it was.
-abbrev pub list-of : C.Call → List ℕ
-list-of (C.format m) = []
-list-of (C.begin p) = []
-list-of (C.put p c e f g) = []
-list-of (C.step p l) = l
-list-of (C.commit p) = []
-list-of (C.abort p) = []
 
 pub list-same : (c : C.Call) → list-of c ≡ list-after c []
 list-same (C.format m) = refl

@@ -1,25 +1,21 @@
 -- Demand 3 of the words, with no premise: every call returns, as its ways out say.
-use mathlib.Core.Path.{_≡_, refl, sym, ap, subst, _∙_}
-use mathlib.Core.Bool.{Bool, true, false}
-use mathlib.Core.List.{List, []}
+use mathlib.Core.Path.{_≡_, refl}
+use mathlib.Core.List.{List}
 use Prim.Native.Nat.{ℕ}
 use native.Mathlib.Decide.{ℕ-discrete}
-use lib.ListN.{length, set}
+use lib.ListN.{length}
 use Rattle.sessions.specs.declared.Session.{Session}
-use Rattle.sessions.specs.Sessions.{session-at}
 use Rattle.serial.specs.Calls.{Turn, nothing, told, Run, Demand-3}
 use Rattle.serial.specs.Calls as C
-use Rattle.outcomes.specs.Said.{said}
 use Rattle.machine.specs.State.{fresh}
 use Rattle.machine.specs.Calls.{format-checks, records-for}
-use Rattle.machine.specs.Demand.{list-after}
-use Rattle.meaning.specs.Reading.{M-of, R-of, meaning}
+use Rattle.meaning.specs.Reading.{M-of, meaning}
 use Rattle.meaning.specs.Sound.{Sound}
 use Rattle.refusals.specs.Refusing.{first-of, begin-list, put-list, step-list, commit-list, abort-list}
-use Rattle.calls.specs.Relations.{Answered, Formats, outcome}
-use Rattle.calls.specs.Demands.{Lending, Returns, words, words-demand-3}
-use Rattle.calls.specs.Ways.{Serves, begin-done, begin-refuses, put-done, put-refuses, commit-done, commit-refuses, abort-done, abort-refuses, format-answers, format-refused-answers}
-use Rattle.calls.specs.Steps.{step-done, step-refuses}
+use Rattle.promises.specs.Relations.{Answered, Formats}
+use Rattle.promises.specs.Demands.{Lending, Returns, words, words-demand-3}
+use Rattle.promises.specs.Ways.{Serves, begin-done, begin-refuses, put-done, put-refuses, commit-done, commit-refuses, abort-done, abort-refuses, format-answers, format-refused-answers}
+use Rattle.promises.specs.Steps.{step-done, step-refuses}
 
 -- What some return of a call promises.
 abbrev Can : C.Call → List ℕ → List Session → Type 0

@@ -1,39 +1,36 @@
 -- The ways out of a step.
-use mathlib.Core.Path.{_≡_, refl, sym, ap, subst, _∙_}
-use mathlib.Core.Bool.{Bool, true, false, cond, not}
-use mathlib.Core.List.{List, [], _∷_}
+use mathlib.Core.Path.{_≡_, sym, ap, subst, _∙_}
+use mathlib.Core.Bool.{cond, not}
+use mathlib.Core.List.{List, []}
 use mathlib.Core.Option.{some}
-use Prim.Native.Nat.{ℕ, zero, suc, _≤_, _<_}
+use Prim.Native.Nat.{ℕ, _≤_}
 use native.Mathlib.Omega.{arith}
 use lib.Dec.{eqb}
 use lib.ListN.{length, set}
-use borrow.Author.Tests.{eq-eqb, ne-eqb}
+use borrow.Author.Tests.{eq-eqb}
 use Rattle.sessions.specs.declared.Session.{Session}
 use Rattle.sessions.specs.Sessions.{session-at}
 use Rattle.serial.specs.Serial.{true≢false}
 use Rattle.serial.specs.Calls as C
-use Rattle.outcomes.specs.Said.{said, Stepped, moved}
-use Rattle.outcomes.specs.declared.Answer.{Answer}
+use Rattle.outcomes.specs.Said.{said, Stepped}
 use Rattle.outcomes.specs.declared.Moved.{Moved}
-use Rattle.machine.specs.Logic.{eqb-not}
 use Rattle.machine.specs.Holders.{width}
-use Rattle.machine.specs.State.{State, Request, Outcome, refused, sessionOf}
+use Rattle.machine.specs.State.{State, Outcome, refused, sessionOf}
 use Rattle.machine.specs.Steps.{answer, next-step}
 use Rattle.machine.specs.Calls.{call, steps, no-party}
 use Rattle.machine.specs.Demand.{list-after}
 use Rattle.serial.specs.Model.{two-words}
 use Rattle.meaning.specs.Reading.{M-of, R-of, meaning}
 use Rattle.meaning.specs.Sound.{Sound}
-use Rattle.layout.specs.Layout.{means}
-use Rattle.layout.specs.Row.{Stands, Becomes, Moves}
+use Rattle.layout.specs.Row.{Stands, Moves}
 use Rattle.layout.specs.Laid.{sound-stands}
 use Rattle.layout.specs.Asked.{request-in, hand-means, set-same}
 use Rattle.taking.specs.Taking.{over}
 use Rattle.refusals.specs.Refusing.{first-of, begun-in, hand-in, step-list, step-refused}
-use Rattle.calls.specs.Relations.{outcome}
-use Rattle.calls.specs.Assembling.{stands-means, answered-by, set-others}
-use Rattle.calls.specs.Ways.{Serves, none-true, any-party, serve-refused}
-use Rattle.calls.specs.Stepping.{stageStep, stageWritten, StageReady, LeavesBoth, stage-still, stage-moves, stage-list, stage-ready}
+use Rattle.promises.specs.Relations.{outcome}
+use Rattle.promises.specs.Assembling.{stands-means, answered-by, set-others}
+use Rattle.promises.specs.Ways.{Serves, none-true, any-party, serve-refused}
+use Rattle.promises.specs.Stepping.{stageStep, stageWritten, StageReady, LeavesBoth, stage-still, stage-moves, stage-list, stage-ready}
 
 pub step-refuses : (s : List ℕ) (t : List Session) (p : ℕ) (l : List ℕ) (n : ℕ) → Sound s t → n ≡ first-of (step-list t p) → ¬ (n ≡ 0) → Serves (C.step p l) s t (C.refused n 0) l s t
 unfolding call
@@ -60,28 +57,26 @@ module _ (s : List ℕ) (t : List Session) (p : ℕ) (l : List ℕ) (A : Sound s
   B : Stands s t
   B = sound-stands s t A
 
-  party : p ≤ width
+  pub party : p ≤ width
   party = any-party p _ z
 
-  over-state : State → Outcome
+  abbrev pub over-state : State → Outcome
   over-state σ = next-step (length l) p (request-in x) σ (request-in x .stage)
 
-  hand-is : sessionOf p (meaning s t) .hand ≡ some (request-in x)
+  pub hand-is : sessionOf p (meaning s t) .hand ≡ some (request-in x)
   hand-is = subst (λ σ. sessionOf p σ .hand ≡ some (request-in x)) (stands-means s t B) (hand-means (B .lay) t p (omega (arith, party, B .holds .seats)) (has-hand t p z))
 
   moves : Moves s t p (done-step .words) (done-step .session) (said (done-step .answer)) (over-state (meaning s t))
-  unfolding over-state
   moves = subst (λ σ. Moves s t p (done-step .words) (done-step .session) (said (done-step .answer)) (next-step (length l) p (request-in x) σ (request-in x .stage))) (stands-means s t B)
       (stage-moves s t B p party (length l) (has-hand t p z))
 
   written-is : over (stageWritten s (M-of s) (R-of s) (length l) p x) l ≡ list-after (C.step p l) (over-state (meaning s t) .written)
-  unfolding over-state
   written-is = ap (λ w. over w l)
       (subst (λ σ. stageWritten s (M-of s) (R-of s) (length l) p x ≡ two-words (next-step (length l) p (request-in x) σ (request-in x .stage) .written)) (stands-means s t B)
       (stage-list s t B p party (length l) (has-hand t p z)))
 
-  outcome-is : outcome (C.step p l) s t ≡ over-state (meaning s t)
-  unfolding call steps over-state
+  pub outcome-is : outcome (C.step p l) s t ≡ over-state (meaning s t)
+  unfolding call steps
   outcome-is =
       let σ = meaning s t in
       let o = steps p (length l) (sessionOf p σ .hand) σ in

@@ -1,7 +1,6 @@
 -- Every array of 17 session records is a table of words.
-use mathlib.Core.Path.{_≡_}
 use mathlib.Core.List.{List, [], _∷_}
-use Prim.Native.Nat.{ℕ, zero, suc, _≤_, _<_}
+use Prim.Native.Nat.{ℕ, zero, suc, _<_}
 use native.Mathlib.Omega.{arith}
 use lib.ListN.{length}
 use mir.Val.{Val}
@@ -12,8 +11,6 @@ use denote.Struct.Declared.{row}
 use Rattle.sessions.proofs.Session.{the-type}
 use Rattle.sessions.specs.declared.Session.{Session}
 use Rattle.sessions.specs.Sessions.{session-at}
-use Rattle.machine.specs.Holders.{width}
-use Rattle.machine.specs.State.{top}
 use Rattle.soundness.specs.PartyPass.{Worded}
 use Rattle.soundness.specs.Sounds.{Table}
 

@@ -7,3 +7,5 @@ pub mod Stepping
 pub mod Steps
 pub mod Words
 pub mod Promised
+pub mod Demand1
+pub mod Demand2

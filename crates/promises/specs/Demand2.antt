@@ -1,0 +1,159 @@
+-- Demand 2 of the words: what the promises of the calls say of answers, holders and waits.
+use mathlib.Core.Path.{_≡_, refl, sym, ap, subst, _∙_}
+use mathlib.Core.Bool.{Bool, true, false}
+use mathlib.Core.List.{List, [], _∷_, _++_}
+use mathlib.Core.Logic.{_↔_}
+use mathlib.Core.Option.{some}
+use Prim.Native.Nat.{ℕ, zero, suc}
+use lib.ListN.{length, drop}
+use Rattle.sessions.specs.declared.Session.{Session}
+use Rattle.serial.specs.Serial.{true≢false}
+use Rattle.serial.specs.Model.{Item, Req, ans, eff}
+use Rattle.serial.specs.Locks.{Kind, Mode}
+use Rattle.serial.specs.Calls as C
+use Rattle.machine.specs.Holders.{elem}
+use Rattle.machine.specs.State.{State, Stage, Request, Answer, ok, more, wait, done, refused, Outcome, sessionOf}
+use Rattle.machine.specs.Steps.{answer}
+use Rattle.machine.specs.Calls.{Call, call}
+use Rattle.machine.specs.View.{items, holders}
+use Rattle.machine.specs.Session.{req-of}
+use Rattle.machine.specs.Ledger.{next-ledger}
+use Rattle.machine.specs.Answers.{Logical, Untouched, AsModel, answers-as-model, leaves-logical, may-change}
+use Rattle.machine.specs.Held.{ledger-step, descents-keep, unseen-step}
+use Rattle.machine.specs.Waits.{WaitsFor, step-blockers, step-waits, waiting}
+use Rattle.machine.specs.Forward.{Ahead, Onward, step-forward}
+use Rattle.machine.specs.Demand.{call-of, Tells}
+use Rattle.meaning.specs.Reading.{meaning}
+use Rattle.meaning.specs.Sound.{Sound}
+use Rattle.promises.specs.Relations.{outcome, Answered, Calls}
+use Rattle.machine.specs.Model.{model}
+use Rattle.machine.specs.State.{in-stage}
+use Rattle.sessions.specs.Sessions.{session-at}
+use Rattle.layout.specs.Asked.{request-in}
+use Rattle.promises.specs.Steps.{hand-is, outcome-is, party}
+use Rattle.promises.specs.Demand1.{refusal-of}
+
+-- A request that is done: it answers, writes and leaves what the logical model does with it.
+pub record Modelled (q : Req) (s : List ℕ) (t : List Session) (l ns l′ s′ : List ℕ) (t′ : List Session) : Type 0 where
+  pub number-is : ns ≡ ans q (model (meaning s t)) .number ∷ []
+  pub list-is : l′ ≡ ans q (model (meaning s t)) .words ++ drop (length (ans q (model (meaning s t)) .words)) l
+  pub after : Logical (eff q (model (meaning s t))) (meaning s′ t′)
+
+-- A step of party p on sound words, which no check refuses; r is its request in hand.
+pub record Demand-2 (p : ℕ) (r : Request) (l s : List ℕ) (t : List Session) (a : C.Answer) (l′ s′ : List ℕ) (t′ : List Session) : Type 0 where
+  -- Every request answers as the logical model does.
+  pub answers : ¬ (p ≡ 0) → (ns : List ℕ) → a ≡ C.done ns → Modelled (req-of r) s t l ns l′ s′ t′
+  -- A step waits exactly if another party's lock conflicts with it, and names one whose lock does,
+  pub waits : ((q : ℕ) × (a ≡ C.wait q)) ↔ ¬ (step-blockers p r (meaning s t) (r .stage) ≡ [])
+  pub names : (q : ℕ) → a ≡ C.wait q → elem q (step-blockers p r (meaning s t) (r .stage)) ≡ true
+  -- and otherwise goes forward or is refused (Demand1.Accepts).
+  pub forward : a ≡ C.more → (g : Stage) × (sessionOf p (meaning s′ t′) .hand ≡ some (in-stage g r)) × Ahead p r (meaning s t) (r .stage) (meaning s′ t′) g
+  -- Housekeeping changes no entry, membership or holder.
+  pub housekeeping : p ≡ 0 → ((i : Item) → items (meaning s′ t′) i ≡ items (meaning s t) i)
+      × ((k : Kind) (m : Mode) (q z : ℕ) → holders (meaning s′ t′) k m q z ≡ holders (meaning s t) k m q z)
+
+-- Any call on sound words: the holders of every entry and key, empty keys too, are the sessions granted it; no call but the last step of a session's request, an
+-- abort and a format changes a value or a membership.
+pub record Holders-2 (c : C.Call) (s : List ℕ) (t : List Session) (s′ : List ℕ) (t′ : List Session) : Type 0 where
+  pub holders-are : (k : Kind) (m : Mode) (q z : ℕ)
+      → holders (meaning s′ t′) k m q z ≡ next-ledger (holders (meaning s t)) (meaning s t) (call-of c (length s)) (outcome c s t) k m q z
+  pub logical-kept : may-change (call-of c (length s)) (outcome c s t .answer) ≡ false → Untouched (meaning s t) (meaning s′ t′)
+
+pub holders-2 : (c : C.Call) (s : List ℕ) (t : List Session) (a : C.Answer) (l′ s′ : List ℕ) (t′ : List Session) → Calls c s t a l′ s′ t′ → Sound s t → Holders-2 c s t s′ t′
+holders-2 c s t a l′ s′ t′ P S =
+    let A = P .answers S .0 in
+    let d = call-of c (length s) in
+    record {
+      holders-are = λ k m q z. ap (λ x. holders x k m q z) (A .means) ∙ ledger-step d (meaning s t) (S .state) k m q z;
+      logical-kept = λ e. subst (Untouched (meaning s t)) (sym (A .means)) (leaves-logical d (meaning s t) (S .state) e);
+    }
+
+-- ---- a step
+
+told-done : (z : Answer) (ns : List ℕ) → Tells z (C.done ns) → z ≡ done ns
+told-done ok ns e = cc
+told-done more ns e = cc
+told-done (wait ps) ns e = let q = e .2 in cc
+told-done (done ms) ns e = cc
+told-done (refused n b) ns e = cc
+
+told-more : (z : Answer) → Tells z C.more → z ≡ more
+told-more ok e = cc
+told-more more e = refl
+told-more (wait ps) e = let q = e .2 in cc
+told-more (done ms) e = cc
+told-more (refused n b) e = cc
+
+told-wait : (z : Answer) (q : ℕ) → Tells z (C.wait q) → waiting z ≡ true
+told-wait ok q e = cc
+told-wait more q e = cc
+told-wait (wait ps) q e = refl
+told-wait (done ms) q e = cc
+told-wait (refused n b) q e = cc
+
+abbrev some-in : List ℕ → Bool
+some-in [] = false
+some-in (b ∷ bs) = true
+
+waits-from : (z : State) (bs : List ℕ) (o : Outcome) (a : C.Answer) → WaitsFor z bs o → Tells (o .answer) a → ((q : ℕ) × (a ≡ C.wait q)) ↔ ¬ (bs ≡ [])
+waits-from z [] o a w e = ((λ h n. true≢false (told-wait (o .answer) (h .0) (subst (Tells (o .answer)) (h .1) e)) w), λ n. absurd (n refl))
+waits-from z (b ∷ bs) o a w e = let h : Tells (wait (b ∷ bs)) a = subst (λ x. Tells (x .answer) a) w e in ((λ k n. true≢false {b = true} refl (ap some-in n)), λ n. (h .0, h .2))
+
+names-from : (z : State) (bs : List ℕ) (o : Outcome) (a : C.Answer) → WaitsFor z bs o → Tells (o .answer) a → (q : ℕ) → a ≡ C.wait q → elem q bs ≡ true
+names-from z [] o a w e q i = absurd (true≢false (told-wait (o .answer) q (subst (Tells (o .answer)) i e)) w)
+names-from z (b ∷ bs) o a w e q i = let h : Tells (wait (b ∷ bs)) a = subst (λ x. Tells (x .answer) a) w e in subst (λ k. elem k (b ∷ bs) ≡ true) (party-same (h .0) q (sym (h .2) ∙ i)) (h .1)
+  where
+    party-same : (i j : ℕ) → C.wait i ≡ C.wait j → i ≡ j
+    party-same i j e = cc
+
+module _ (p : ℕ) (l s : List ℕ) (t : List Session) (a : C.Answer) (l′ s′ : List ℕ) (t′ : List Session) (P : Calls (C.step p l) s t a l′ s′ t′) (S : Sound s t)
+    (z : refusal-of (C.step p l) s t ≡ 0) where
+  abbrev r : Request
+  r = request-in (session-at t p)
+
+  abbrev o : Outcome
+  o = outcome (C.step p l) s t
+
+  A : Answered (C.step p l) s t a l′ s′ t′
+  A = P .answers S .0
+
+  in-hand : sessionOf p (meaning s t) .hand ≡ some r
+  in-hand = hand-is s t p l S z
+
+  as-model : (ns : List ℕ) → a ≡ C.done ns → AsModel (req-of r) (meaning s t) o (done ns) → Modelled (req-of r) s t l ns l′ s′ t′
+  as-model ns e h = record {
+    number-is = h .number-is;
+    list-is = A .list-is ∙ ap (λ w. w ++ drop (length w) l) (h .words-are);
+    after = subst (Logical (eff (req-of r) (model (meaning s t)))) (sym (A .means)) (h .after);
+  }
+
+  answers-model : ¬ (p ≡ 0) → (ns : List ℕ) → a ≡ C.done ns → AsModel (req-of r) (meaning s t) o (done ns)
+  answers-model n ns e = go p n refl
+    where
+      answer-is : o .answer ≡ done ns
+      answer-is = told-done (o .answer) ns (subst (Tells (o .answer)) e (A .tells))
+
+      go : (q : ℕ) → ¬ (q ≡ 0) → q ≡ p → AsModel (req-of r) (meaning s t) o (done ns)
+      go zero n i = absurd (n refl)
+      go (suc m) n i = subst (AsModel (req-of r) (meaning s t) o) answer-is
+          (subst (λ k. AsModel (req-of r) (meaning s t) (call (Call.step k (length l)) (meaning s t)) (call (Call.step k (length l)) (meaning s t) .answer)) i
+          (answers-as-model (meaning s t) (S .state) m (length l) r (ap (λ k. sessionOf k (meaning s t) .hand) i ∙ in-hand)))
+
+  blocked : WaitsFor (meaning s t) (step-blockers p r (meaning s t) (r .stage)) o
+  blocked = subst (WaitsFor (meaning s t) (step-blockers p r (meaning s t) (r .stage))) (sym (outcome-is s t p l S z)) (step-waits (length l) p r (meaning s t) (r .stage))
+
+  onward : a ≡ C.more → (g : Stage) × (sessionOf p (meaning s′ t′) .hand ≡ some (in-stage g r)) × Ahead p r (meaning s t) (r .stage) (meaning s′ t′) g
+  onward e =
+      let h : Onward p r (meaning s t) (r .stage) (o .answer) (o .next) = subst (λ x. Onward p r (meaning s t) (r .stage) (x .answer) (x .next)) (sym (outcome-is s t p l S z)) (step-forward p r (meaning s t) (S .state) in-hand (length l)) in
+      let k : Onward p r (meaning s t) (r .stage) more (o .next) = subst (λ x. Onward p r (meaning s t) (r .stage) x (o .next)) (told-more (o .answer) (subst (Tells (o .answer)) e (A .tells))) h in
+      subst (λ x. (g : Stage) × (sessionOf p x .hand ≡ some (in-stage g r)) × Ahead p r (meaning s t) (r .stage) x g) (sym (A .means)) k
+
+  pub demand-2 : Demand-2 p (request-in (session-at t p)) l s t a l′ s′ t′
+  demand-2 = record {
+    answers = λ n ns e. as-model ns e (answers-model n ns e);
+    waits = waits-from (meaning s t) (step-blockers p r (meaning s t) (r .stage)) o a blocked (A .tells);
+    names = names-from (meaning s t) (step-blockers p r (meaning s t) (r .stage)) o a blocked (A .tells);
+    forward = onward;
+    housekeeping = λ e. subst (λ x. ((i : Item) → items x i ≡ items (meaning s t) i) × ((k : Kind) (m : Mode) (q z : ℕ) → holders x k m q z ≡ holders (meaning s t) k m q z)) (sym (A .means))
+        (descents-keep p (length l) (meaning s t) (S .state) (ap (λ k. unseen-step k (meaning s t)) e));
+  }
