@@ -119,10 +119,6 @@ each-leaves : (P : Leaf → Type 0) (es : List (Leaf × ℕ)) → All P (leaves-
 each-leaves P [] a = tt
 each-leaves P (e ∷ es) a = (a .0, each-leaves P es (a .1))
 
-pub leaves-each : (P : Leaf → Type 0) (es : List (Leaf × ℕ)) → Each (λ _ l. P l) es → All P (leaves-of es)
-leaves-each P [] a = tt
-leaves-each P (e ∷ es) a = (a .0, leaves-each P es (a .1))
-
 -- A lowest node.
 abbrev pub low-node : ℕ → ℕ → List (Leaf × ℕ) → Numbered 1
 low-node n w es = record { latch = record { num = n; word = w }; sons = es }

@@ -33,10 +33,6 @@ pub below-nums : (x : ℕ) (es : List (Leaf × ℕ)) → Below x es → N.Below 
 below-nums x [] b = tt
 below-nums x (e ∷ es) b = (b .0, below-nums x es (b .1))
 
-pub nums-cut : (pre : List (Leaf × ℕ)) (l : Leaf) (b : ℕ) (post : List (Leaf × ℕ)) → mapE (num-of 0) (pre ++ (l, b) ∷ post) ≡ nums-of pre ++ (l .num, b) ∷ nums-of post
-unfolding num-of
-nums-cut pre l b post = mapE-append (λ z. z .num) pre ((l, b) ∷ post)
-
 -- A node with an entry has a son.
 pub count-some : (n : Node) (u : ℕ) (pre : List (ℕ × ℕ)) (e : ℕ × ℕ) (post : List (ℕ × ℕ)) → N.entries n u ≡ pre ++ e ∷ post → 1 ≤ n .count
 unfolding N.entries zip zipWith

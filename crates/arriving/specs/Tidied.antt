@@ -122,9 +122,6 @@ module _ (s : List ℕ) (t : List Session) (A : Stands s t) (P : Lowest (A .lay)
   unfolding erase Erased
   two-sons = go (keeper-room (session-at t 0 .target) (means (A .lay) t) 0 (erase 1 (lowest (P .mark) (P .pre) (P .leaf) (P .bound) (P .post))) (P .focus)) (length (P .pre) + length (P .post)) refl
     where
-      es : List (Leaf × ℕ)
-      es = P .pre ++ (P .leaf, P .bound) ∷ P .post
-
       go : (4 ≤ length (mapE (λ l. l .desc) (P .pre ++ (P .leaf, P .bound) ∷ P .post))) ⊎ (Whole (P .focus .around) × ((_≡_ {A = ℕ} 0 0) ⊎ ¬ (length (mapE (λ l. l .desc) (P .pre ++ (P .leaf, P .bound) ∷ P .post)) ≡ 1)))
           → (k : ℕ) → length (P .pre) + length (P .post) ≡ k → 1 ≤ length (P .pre) + length (P .post)
       go r (suc k) e = omega (arith, e)

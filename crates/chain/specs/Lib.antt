@@ -1,4 +1,3 @@
--- The definitions that the contracts of `chain` cite, and what they do to the list of free records.
+-- The definitions that the contracts of `chain` cite.
 pub mod Free
-pub mod Chained
 pub mod Walk

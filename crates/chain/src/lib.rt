@@ -1,8 +1,8 @@
 // Chain: the chain of free records. The header's free word is its first record, word 0 of a free record the next one, 0 ends it.
 //
 // It promises that taking a record and giving one back leave exactly the words that specs/Free says, that an empty chain answers 0
-// and keeps every word, and that of a freed record only the next word is written. specs/Chained says what that does to the list of
-// free records. It rests on `words` for where the words lie.
+// and keeps every word, and that of a freed record only the next word is written. specs/Walk says when a chain can
+// be walked. It rests on `words` for where the words lie.
 ghost use mathlib.Core.Path.{_≡_};
 ghost use lib.ListN.{length, set};
 ghost use Rattle.words.specs.Store.{HasRecord};

@@ -5,7 +5,7 @@ use mathlib.Core.List.{List}
 use mathlib.Core.Bool.{Bool, true, false, cond, not}
 use Prim.Native.Nat.{ℕ, _+_, _-_, _≤_, _<_}
 use lib.Dec.{leb, eqb}
-use lib.ListN.{getD, length}
+use lib.ListN.{getD}
 use Rattle.words.specs.Store.{HasRecord, wordOf}
 use Rattle.words.specs.Header.{headerWord, putHeaderWord, rootPlace, heightPlace, freePlace}
 use Rattle.nodes.specs.declared.Node.{Node}

@@ -5,9 +5,9 @@ use mathlib.Core.Bool.{Bool, true, false, cond}
 use Prim.Native.Nat.{ℕ, suc, _+_, _-_, _≤_, _<_}
 use native.Mathlib.Omega.{arith}
 use lib.Dec.{leb}
-use lib.ListN.{length, getD, take, length-take}
+use lib.ListN.{length, take, length-take}
 use Rattle.words.specs.Store.{HasRecord, wordOf, has-kept}
-use Rattle.words.specs.Header.{headerWord, putHeaderWord, rootPlace, heightPlace, freePlace}
+use Rattle.words.specs.Header.{headerWord, rootPlace, heightPlace, freePlace}
 use Rattle.nodes.specs.declared.Node.{Node}
 use Rattle.nodes.specs.declared.Neighbours.{Neighbours}
 use Rattle.nodes.specs.Node.{nodeAt, putNode}

@@ -1,13 +1,12 @@
 -- What a session's leaving keeps of the store: its length, the chains, and of a descriptor all but the holders.
-use mathlib.Core.Path.{_≡_, refl, sym, ap, subst, _∙_}
+use mathlib.Core.Path.{_≡_, refl, sym, ap, subst}
 use mathlib.Core.List.{List}
 use mathlib.Core.Bool.{Bool, true, false}
 use borrow.Author.Tests.{eqb-true, eqb-false}
 use Prim.Native.Nat.{ℕ, zero, suc, _≤_}
-use native.Mathlib.Omega.{arith}
 use lib.ListN.{length, getD}
 use lib.Dec.{eqb}
-use Rattle.words.specs.Store.{HasRecord, recordAt, wordOf, has-kept, length-putRecord, record-same, record-other}
+use Rattle.words.specs.Store.{HasRecord, recordAt, wordOf, has-kept, record-same, record-other}
 use Rattle.kinds.specs.Kind.{write-length}
 use Rattle.groups.specs.Descriptor.{descriptorKind, encodeDescriptor, decodeDescriptor, descriptorAt, length-encode, withHolders}
 use Rattle.chain.specs.Walk.{Walk}

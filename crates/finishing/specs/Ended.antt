@@ -1,13 +1,13 @@
 -- A request in hand that ends, on words, is the machine's `ended`.
-use mathlib.Core.Path.{_≡_, refl, sym, ap, ap₂, subst, _∙_}
+use mathlib.Core.Path.{_≡_, refl, sym, ap, subst, _∙_}
 use mathlib.Core.Bool.{Bool, true, false, cond, not, _&&_}
 use mathlib.Core.List.{List, [], _∷_, _++_}
-use mathlib.Core.Logic.{_⊎_, inl, inr}
+use mathlib.Core.Logic.{inl, inr}
 use mathlib.Core.Option.{none}
-use Prim.Native.Nat.{ℕ, zero, suc, _+_, _-_, _≤_, _<_}
+use Prim.Native.Nat.{ℕ, zero, suc, _-_, _≤_}
 use native.Mathlib.Omega.{arith}
 use lib.Dec.{eqb}
-use lib.ListN.{length, set}
+use lib.ListN.{set}
 use borrow.Author.Tests.{eq-eqb, ne-eqb}
 use Rattle.groups.specs.Descriptor.{descriptorAt, putDescriptor, withPins}
 use Rattle.serial.specs.Serial.{true≢false}
@@ -17,19 +17,18 @@ use Rattle.serial.specs.Calls as C
 use Rattle.machine.specs.Logic.{eqb-is}
 use Rattle.machine.specs.Tree.{leaves}
 use Rattle.machine.specs.Holders.{width, latch-word}
-use Rattle.machine.specs.State.{Tree, Stage, start, enter, at, change, take, Request, State, on-desc, on-tree, with-root, pin-desc, same, set-hand, top, refused}
+use Rattle.machine.specs.State.{Stage, start, enter, at, change, take, State, on-desc, on-tree, with-root, pin-desc, same, set-hand, top, refused}
 use Rattle.machine.specs.Descent.{on-latch, unlatched}
 use Rattle.machine.specs.Steps.{pinned, unpin, unlatch, ended, answer}
 use Rattle.machine.specs.Sound as S
-use Rattle.machine.specs.Context.{Focus, plug}
+use Rattle.machine.specs.Context.{plug}
 use Rattle.machine.specs.Order.{Ord}
-use Rattle.meaning.specs.Reading.{Leaf, Mark, Numbered, erase, hand-of, stage-of, M-of}
+use Rattle.meaning.specs.Reading.{Leaf, Mark, Numbered, erase, stage-of, M-of}
 use Rattle.meaning.specs.Sound.{pins-first}
-use Rattle.meaning.specs.Around.{NCtx, fill, erase-ctx, erase-fill, leaves-fill}
-use Rattle.layout.specs.Layout.{Lay, leaves-in, Has, Marked, HandFits, Holds, means}
+use Rattle.meaning.specs.Around.{NCtx, fill, erase-fill, leaves-fill}
+use Rattle.layout.specs.Layout.{Lay, leaves-in, Has, Marked, Holds, means}
 use Rattle.layout.specs.Row.{Stands, Becomes, Moves}
-use Rattle.layout.specs.Written.{Written}
-use Rattle.layout.specs.Keep.{with-tree, Hands, table-here, table-row, marked-fill}
+use Rattle.layout.specs.Keep.{with-tree, Hands, table-row, marked-fill}
 use Rattle.layout.specs.Places.{Erased, AtMark, at-mark, means-hand}
 use Rattle.layout.specs.Ordering.{Rising, rising-of, ord-sons}
 use Rattle.layout.specs.Room.{Sizes, sizes-of}
@@ -39,7 +38,7 @@ use Rattle.layout.specs.Left.{Left, idle-fits, left-then, left-none, left-desc}
 use Rattle.descents.specs.Descents.{latchAt}
 use Rattle.members.specs.Members.{unpinAt}
 use Rattle.endings.specs.Table.{idled}
-use Rattle.finishing.specs.Finishing.{endLatch, endLow, endHigh, endRequest, Endable}
+use Rattle.finishing.specs.Finishing.{endLatch, endLow, endHigh, endRequest}
 
 -- ---- the latch
 

@@ -29,7 +29,7 @@ use Rattle.meaning.specs.Lens.{descs, leaves-before, leaves-behind, leaves-eras
 use Rattle.layout.specs.Layout.{Lay, leaves-in, DescFits, Has, Holds, means}
 use Rattle.layout.specs.Back.{descs-fit}
 use Rattle.layout.specs.Places.{AtKey, at-mark}
-use Rattle.layout.specs.Ordering.{Rising, rising-of, key-in}
+use Rattle.layout.specs.Ordering.{Rising, key-in}
 use Rattle.layout.specs.Puts.{desc-pins}
 use Rattle.layout.specs.Room.{Sizes, sizes-of}
 use Rattle.layout.specs.Asked.{request-in, hand-means}

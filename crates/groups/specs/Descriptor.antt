@@ -2,11 +2,11 @@
 use mathlib.Core.Path.{_≡_, refl}
 use mathlib.Core.List.{List, _∷_}
 use mathlib.Core.Bool.{Bool, not, _&&_}
-use Prim.Native.Nat.{ℕ, _≤_}
+use Prim.Native.Nat.{ℕ}
 use lib.Dec.{eqb}
 use lib.ListN.{getD, length, replicate}
 use Rattle.words.specs.Store.{HasRecord}
-use Rattle.kinds.specs.Kind.{Kind, readAt, writeAt, write-same, write-other}
+use Rattle.kinds.specs.Kind.{Kind, readAt, writeAt, write-same}
 use Rattle.groups.specs.declared.Descriptor.{Descriptor}
 
 -- the unused words of the record are written as 0
@@ -47,9 +47,6 @@ decode-encode d = refl
 
 pub descriptor-same : (s : List ℕ) (m i : ℕ) (d : Descriptor) → HasRecord s m i → descriptorAt (putDescriptor s m i d) m i ≡ d
 descriptor-same s m i d has = write-same descriptorKind s m i d has (decode-encode d)
-
-pub descriptor-other : (s : List ℕ) (m i : ℕ) (d : Descriptor) (j : ℕ) → HasRecord s m i → 1 ≤ j → (i ≡ j → ⊥) → descriptorAt (putDescriptor s m i d) m j ≡ descriptorAt s m j
-descriptor-other s m i d j has h ne = write-other descriptorKind s m i d has decodeDescriptor j h ne
 
 -- ---- by value
 

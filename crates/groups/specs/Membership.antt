@@ -1,10 +1,9 @@
 -- A membership of a group as the 20 words of a record, and what is done to one by value.
 use mathlib.Core.Path.{_≡_, refl}
 use mathlib.Core.List.{List, _∷_}
-use Prim.Native.Nat.{ℕ, _≤_}
+use Prim.Native.Nat.{ℕ}
 use lib.ListN.{getD, length, replicate}
-use Rattle.words.specs.Store.{HasRecord}
-use Rattle.kinds.specs.Kind.{Kind, readAt, writeAt, write-same, write-other}
+use Rattle.kinds.specs.Kind.{Kind, readAt, writeAt}
 use Rattle.groups.specs.declared.Membership.{Membership}
 
 -- the unused words of the record are written as 0
@@ -27,18 +26,6 @@ membershipAt s m i = readAt membershipKind s m i
 
 abbrev pub putMembership : List ℕ → ℕ → ℕ → Membership → List ℕ
 putMembership s m i b = writeAt membershipKind s m i b
-
-pub decode-encode : (b : Membership) → decodeMembership (encodeMembership b) ≡ b
-unfolding decodeMembership encodeMembership
-decode-encode b = refl
-
--- ---- a membership written to a store
-
-pub membership-same : (s : List ℕ) (m i : ℕ) (b : Membership) → HasRecord s m i → membershipAt (putMembership s m i b) m i ≡ b
-membership-same s m i b has = write-same membershipKind s m i b has (decode-encode b)
-
-pub membership-other : (s : List ℕ) (m i : ℕ) (b : Membership) (j : ℕ) → HasRecord s m i → 1 ≤ j → (i ≡ j → ⊥) → membershipAt (putMembership s m i b) m j ≡ membershipAt s m j
-membership-other s m i b j has h ne = write-other membershipKind s m i b has decodeMembership j h ne
 
 -- ---- by value: its neighbours in the chain of members
 

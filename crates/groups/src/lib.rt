@@ -5,7 +5,7 @@
 // and its entry; the link back makes taking one out by its record a matter of its neighbours only.
 //
 // Each function promises that its result, or the store it leaves, EQUALS a definition of specs/: Descriptor and Membership (the
-// record's words, the laws of one written to a store, the operations). Words of holders are handed in as numbers; nothing here looks
+// record's words, what a descriptor that is written reads as, the operations). Words of holders are handed in as numbers; nothing here looks
 // at a bit, walks a chain or says what a lock is. It rests on the crates words and kinds.
 ghost use mathlib.Core.Path.{_≡_};
 ghost use Prim.Native.Nat.{_+_, _-_, _≤_, _<_};

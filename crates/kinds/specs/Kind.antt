@@ -4,7 +4,7 @@ use mathlib.Core.Path.{_≡_, ap, _∙_}
 use mathlib.Core.List.{List}
 use Prim.Native.Nat.{ℕ, _≤_}
 use lib.ListN.{length}
-use Rattle.words.specs.Store.{HasRecord, recordAt, putRecord, has-kept, length-putRecord, record-same, record-other}
+use Rattle.words.specs.Store.{HasRecord, recordAt, putRecord, length-putRecord, record-same, record-other}
 
 pub record Kind (X : Type 0) : Type 0 where
   pub encode : X → List ℕ
@@ -23,10 +23,6 @@ module _ {X : Type 0} (k : Kind X) (s : List ℕ) (m i : ℕ) (x : X) (has : Has
   -- a write keeps the store's length
   pub write-length : length (writeAt k s m i x) ≡ length s
   write-length = length-putRecord s m i (k .encode x) has (k .whole x)
-
-  -- and its records
-  pub write-has : {j : ℕ} → HasRecord s m j → HasRecord (writeAt k s m i x) m j
-  write-has h = has-kept h write-length
 
   -- what is written is read back, if the words say all of it
   pub write-same : k .decode (k .encode x) ≡ x → readAt k (writeAt k s m i x) m i ≡ x

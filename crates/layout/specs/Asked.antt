@@ -3,16 +3,14 @@ use mathlib.Core.Path.{_≡_, refl, sym, ap, subst, _∙_}
 use mathlib.Core.Bool.{true}
 use mathlib.Core.List.{List, [], _∷_}
 use mathlib.Core.Option.{some}
-use Prim.Native.Nat.{ℕ, zero, suc, _≤_, _<_}
-use native.Mathlib.Omega.{arith}
-use lib.Dec.{eqb}
+use Prim.Native.Nat.{ℕ, zero, suc, _<_}
 use lib.ListN.{length, set}
 use borrow.Author.Tests.{ne-eqb}
 use Rattle.sessions.specs.declared.Session.{Session}
 use Rattle.sessions.specs.Sessions.{session-at}
 use Rattle.serial.specs.Calls as C
-use Rattle.machine.specs.Holders.{width, elem}
-use Rattle.machine.specs.State.{Request, wait, refused, sessionOf}
+use Rattle.machine.specs.Holders.{elem}
+use Rattle.machine.specs.State.{Request, wait, sessionOf}
 use Rattle.machine.specs.Steps.{answer}
 use Rattle.meaning.specs.Reading.{hand-of, stage-of}
 use Rattle.layout.specs.Layout.{Lay, Undone, Holds, means, session-in}

@@ -1,37 +1,26 @@
 -- The descriptor of a key written with other holders or pins; the node where a party stands written with another latch word.
-use mathlib.Core.Path.{_≡_, refl, sym, ap, subst, _∙_}
-use mathlib.Core.List.{List, [], _∷_, _++_}
-use mathlib.Core.Logic.{_⊎_, inl, inr}
-use Prim.Native.Nat.{ℕ, zero, suc, _+_, _≤_, _<_}
+use mathlib.Core.Path.{_≡_, sym, ap, subst, _∙_}
+use mathlib.Core.List.{List, [], _∷_}
+use Prim.Native.Nat.{ℕ, suc, _≤_}
 use native.Mathlib.Omega.{arith}
-use lib.Dec.{lit<}
-use lib.ListN.{length, set}
-use Rattle.words.specs.Store.{HasRecord, recordAt, wordOf}
-use Rattle.words.specs.Header.{headerWord, rootPlace, heightPlace, firstPlace, freePlace}
-use Rattle.nodes.specs.declared.Node.{Node}
-use Rattle.nodes.specs.Node.{nodeAt, putNode, encodeNode, length-encode, Sized, sized-decode, decodeNode}
-use Rattle.nodes.specs.Ops.{withLatch}
-use Rattle.nodes.specs.Entries as N
-use Rattle.nodes.specs.Entries.{latch-entries}
+use lib.ListN.{set}
+use Rattle.words.specs.Store.{HasRecord, wordOf}
+use Rattle.nodes.specs.Node.{length-encode}
 use Rattle.groups.specs.declared.Descriptor.{Descriptor}
 use Rattle.groups.specs.Descriptor as G
 use Rattle.groups.specs.Descriptor.{descriptorAt, putDescriptor, encodeDescriptor, descriptor-same}
 use Rattle.sessions.specs.declared.Session.{Session}
 use Rattle.sessions.specs.Sessions.{session-at}
-use Rattle.machine.specs.Tree.{mapE, leaves}
-use Rattle.machine.specs.Holders.{width, latch-word}
-use Rattle.machine.specs.State.{top}
+use Rattle.machine.specs.Holders.{width}
 use Rattle.machine.specs.Sound.{times}
-use Rattle.meaning.specs.Reading.{Leaf, Mark, Numbered, numbers, M-of, R-of}
-use Rattle.meaning.specs.Sound.{All, Apart}
-use Rattle.meaning.specs.Numbers.{one-is, times-append, apart-times, all-as, all-in, all-from}
-use Rattle.meaning.specs.Frame.{SameAt, leaf-records, numbers-times}
-use Rattle.meaning.specs.Around.{NCtx, fill, num-of, bound-in, numbers-around, times-fill, nodes-fill, leaves-fill}
-use Rattle.layout.specs.Layout.{Lay, leaves-in, members-of, undos-from, all-records, Each, DescFits, NodeFits, TreeFits, Has, Marked, HandFits, Holds}
-use Rattle.layout.specs.Written.{Written, SameEntries, SameHead, put-written, put-entries, put-head}
-use Rattle.layout.specs.Keep.{with-tree, Hands, records-times, owned-most, ctx-keep, fits-open, fits-close, tree-keep, each-keep, marked-fill, tree-row, desc-row, num-fill, num-in}
+use Rattle.meaning.specs.Reading.{Leaf, numbers, M-of, R-of}
+use Rattle.meaning.specs.Numbers.{one-is}
+use Rattle.meaning.specs.Around.{fill, times-fill}
+use Rattle.layout.specs.Layout.{Lay, all-records, HandFits, Holds}
+use Rattle.layout.specs.Written.{Written, put-written, put-entries, put-head}
+use Rattle.layout.specs.Keep.{with-tree, records-times, desc-row}
 use Rattle.layout.specs.Places.{AtKey}
-use Rattle.layout.specs.Puts.{desc-fits, desc-next, desc-first, node-fits, node-put}
+use Rattle.layout.specs.Puts.{desc-fits, desc-next, desc-first}
 use Rattle.layout.specs.Room.{Sizes, owned-in, owned-has}
 
 -- ---- a descriptor

@@ -8,7 +8,7 @@ use native.Mathlib.Decide.{ℕ-discrete}
 use native.Mathlib.Omega.{arith}
 use lib.ListN.{length, getD, set, length-set}
 use lib.Seq.{getD-set-same, getD-set-other}
-use Rattle.words.specs.Store.{wordOf, beyond}
+use Rattle.words.specs.Store.{wordOf}
 use Rattle.words.specs.Header.{headerWord, rootPlace, heightPlace, firstPlace, freePlace}
 use Rattle.nodes.specs.Node.{decodeNode}
 use Rattle.nodes.specs.Entries as N
@@ -19,7 +19,7 @@ use Rattle.machine.specs.Holders.{width, latch-word}
 use Rattle.machine.specs.State.{Entry, Undo, value, added, taken, top}
 use Rattle.machine.specs.Calls.{records-for}
 use Rattle.machine.specs.Sound.{times}
-use Rattle.meaning.specs.Reading.{Chained, Leaf, Mark, Numbered, numbers, M-of, R-of, entries-of}
+use Rattle.meaning.specs.Reading.{Chained, Leaf, Mark, Numbered, numbers, M-of, entries-of}
 use Rattle.meaning.specs.Sound.{All, Apart, Linked, Lists, set-list}
 use Rattle.meaning.specs.Numbers.{all-append, all-left, all-right, all-as, all-both, all-map, map-all, In, in?, not-in, apart-from, all-in, all-from, times-append, times-apart, times-in, apart-times, in-times}
 use Rattle.meaning.specs.Frame.{SameAt, SameWords, leaf-records, numbers-leaves, chain-words, all-words, chained-same}

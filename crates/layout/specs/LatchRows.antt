@@ -1,42 +1,35 @@
 -- The node in a hole of a layout's tree written with another latch word: its record is apart from all others.
 use mathlib.Core.Path.{_≡_, refl, sym, ap, subst, _∙_}
 use mathlib.Core.List.{List, [], _∷_, _++_}
-use mathlib.Core.Logic.{_⊎_, inl, inr}
-use Prim.Native.Nat.{ℕ, zero, suc, _+_, _≤_, _<_}
+use Prim.Native.Nat.{ℕ, suc, _+_, _≤_}
 use native.Mathlib.Omega.{arith}
 use lib.Dec.{lit<}
-use lib.ListN.{length, set}
-use Rattle.words.specs.Store.{HasRecord, recordAt, wordOf}
+use lib.ListN.{set}
+use Rattle.words.specs.Store.{HasRecord, recordAt}
 use Rattle.words.specs.Header.{headerWord, rootPlace, heightPlace, firstPlace, freePlace}
-use Rattle.nodes.specs.declared.Node.{Node}
 use Rattle.nodes.specs.Node.{nodeAt, putNode, encodeNode, length-encode, Sized, sized-decode, decodeNode}
 use Rattle.nodes.specs.Ops.{withLatch}
 use Rattle.nodes.specs.Entries as N
 use Rattle.nodes.specs.Entries.{latch-entries}
 use Rattle.sessions.specs.declared.Session.{Session}
-use Rattle.sessions.specs.Sessions.{session-at}
-use Rattle.machine.specs.Tree.{mapE, flat, leaves}
-use Rattle.machine.specs.Holders.{width, latch-word}
+use Rattle.machine.specs.Tree.{flat, leaves}
+use Rattle.machine.specs.Holders.{width}
 use Rattle.machine.specs.State.{top}
 use Rattle.machine.specs.Sound.{times}
-use Rattle.meaning.specs.Reading.{Chained, Leaf, Mark, Numbered, numbers, node-numbers, M-of, R-of}
+use Rattle.meaning.specs.Reading.{Chained, Leaf, Mark, Numbered, numbers, node-numbers, M-of}
 use Rattle.meaning.specs.Sound.{All, Apart}
-use Rattle.meaning.specs.Numbers.{In, one-is, times-append, times-in, in-times, apart-times, apart-from, apart-append, not-in, all-in, all-from, all-left, all-right, all-append}
+use Rattle.meaning.specs.Numbers.{one-is, times-append, times-in, in-times, apart-times, apart-append, all-in, all-from, all-right}
 use Rattle.meaning.specs.Frame.{SameAt, leaf-records, numbers-times}
-use Rattle.meaning.specs.Around.{NCtx, fill, num-of, bound-in, numbers-around, times-fill, numbers-fill, nodes-fill, leaves-fill, before, behind, number-of, nothing}
-use Rattle.layout.specs.Layout.{Lay, leaves-in, members-of, undos-from, all-records, Each, NodeFits, TreeFits, Marked, HandFits, Holds}
+use Rattle.meaning.specs.Around.{NCtx, fill, num-of, bound-in, numbers-around, times-fill, nodes-fill, leaves-fill, before, behind, number-of}
+use Rattle.layout.specs.Layout.{Lay, leaves-in, members-of, undos-from, all-records, NodeFits, TreeFits, Holds}
 use Rattle.layout.specs.Written.{Written, put-written, put-entries, put-head}
-use Rattle.layout.specs.Keep.{with-tree, Hands, records-times, owned-most, own-all, own-tree, ctx-keep, fits-open, fits-close, tree-keep, chained-keep, each-keep, same-apart, marked-fill, tree-row, num-fill, num-in}
+use Rattle.layout.specs.Keep.{with-tree, Hands, records-times, owned-most, own-all, own-tree, ctx-keep, fits-open, fits-close, tree-keep, chained-keep, each-keep, same-apart, tree-row, num-fill}
 use Rattle.layout.specs.Puts.{node-put}
 use Rattle.layout.specs.Room.{Sizes, owned-in, owned-has}
 
 -- A node with another latch word.
 abbrev pub relatched : (k : ℕ) → ℕ → Numbered (suc k) → Numbered (suc k)
 relatched k w u = record { latch = record { num = u .latch .num; word = w }; sons = u .sons }
-
--- What a whole is made of.
-part-less : (i a b : ℕ) → 1 ≤ i → i + a ≤ 1 → b ≤ a → b ≡ 0
-part-less i a b p q r = omega arith
 
 module _ (s : List ℕ) (t : List Session) (L : Lay) (H : Holds s t L) {k : ℕ} (c : NCtx (suc k) (suc (L .height))) (u : Numbered (suc k)) (is : L .tree ≡ fill c u) where
   abbrev at : ℕ

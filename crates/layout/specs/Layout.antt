@@ -4,7 +4,7 @@ use mathlib.Core.Path.{_≡_}
 use mathlib.Core.Bool.{true, false, cond, not}
 use mathlib.Core.List.{List, [], _∷_, _++_, map}
 use mathlib.Core.Logic.{_⊎_}
-use Prim.Native.Nat.{ℕ, zero, suc, _≤_, _<_}
+use Prim.Native.Nat.{ℕ, zero, suc, _≤_}
 use lib.Dec.{eqb}
 use lib.ListN.{length}
 use Rattle.words.specs.Store.{wordOf}
@@ -20,7 +20,7 @@ use Rattle.machine.specs.State as M
 use Rattle.machine.specs.Calls.{records-for}
 use Rattle.machine.specs.Sound.{times}
 use Rattle.meaning.specs.Reading.{Chained, gather, Leaf, Mark, Numbered, erase, numbers, hand-of, entries-of, M-of, R-of}
-use Rattle.meaning.specs.Sound.{All, Once, Linked, joined, pins-first, Lists, set-list}
+use Rattle.meaning.specs.Sound.{All, Once, Linked, pins-first, Lists, set-list}
 use Rattle.meaning.specs.Around.{num-of}
 
 -- ---- what lies where

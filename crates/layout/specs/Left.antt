@@ -3,7 +3,6 @@ use mathlib.Core.Path.{_≡_, refl, sym, ap, subst, _∙_}
 use mathlib.Core.List.{List, [], _∷_, _++_}
 use Prim.Native.Nat.{ℕ, suc, _≤_}
 use native.Mathlib.Omega.{arith}
-use lib.ListN.{length, set}
 use Rattle.words.specs.Store.{wordOf}
 use Rattle.groups.specs.declared.Descriptor.{Descriptor}
 use Rattle.groups.specs.Descriptor.{descriptorAt, putDescriptor}
@@ -16,7 +15,7 @@ use Rattle.machine.specs.Order.{Ord}
 use Rattle.meaning.specs.Reading.{Leaf, Mark, erase, M-of}
 use Rattle.meaning.specs.Sound.{All}
 use Rattle.meaning.specs.Numbers.{all-right}
-use Rattle.meaning.specs.Around.{NCtx, fill}
+use Rattle.meaning.specs.Around.{fill}
 use Rattle.meaning.specs.Lens.{leaves-before, leaves-behind}
 use Rattle.layout.specs.Layout.{Lay, leaves-in, DescFits, Has, Marked, HandFits, Holds, means}
 use Rattle.layout.specs.Row.{Becomes}

@@ -11,7 +11,6 @@ pub mod Groups
 pub mod Places
 pub mod Chains
 pub mod Walks
-pub mod Scanned
 pub mod Ordering
 pub mod Puts
 pub mod Room

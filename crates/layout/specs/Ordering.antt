@@ -1,16 +1,16 @@
 -- The order of keys in a layout's tree: it stays where a node or descriptor is replaced by one of the same keys.
-use mathlib.Core.Path.{_≡_, sym, ap, subst, _∙_}
-use mathlib.Core.List.{List, _∷_, _++_}
-use Prim.Native.Nat.{ℕ, suc, _≤_, _<_}
+use mathlib.Core.Path.{_≡_, sym, subst}
+use mathlib.Core.List.{List, _∷_}
+use Prim.Native.Nat.{ℕ, suc, _≤_}
 use native.Mathlib.Omega.{arith}
 use Rattle.sessions.specs.declared.Session.{Session}
-use Rattle.machine.specs.Tree.{mapE, mapE-append, Seg, seg-cut, seg-append, leaves}
+use Rattle.machine.specs.Tree.{mapE, mapE-append, Seg, seg-cut, seg-append}
 use Rattle.machine.specs.State.{top}
 use Rattle.machine.specs.Sound as S
 use Rattle.machine.specs.Order.{Ord, In, ord-in}
-use Rattle.meaning.specs.Reading.{Leaf, Mark, Numbered, erase}
+use Rattle.meaning.specs.Reading.{Leaf, Numbered, erase}
 use Rattle.meaning.specs.Around.{NCtx, here, under, fill}
-use Rattle.meaning.specs.Lens.{descs, leaves-erase}
+use Rattle.meaning.specs.Lens.{leaves-erase}
 use Rattle.layout.specs.Layout.{Lay, leaves-in, Has, means}
 use Rattle.layout.specs.Places.{AtKey, has-in, key-at, ordered-of}
 

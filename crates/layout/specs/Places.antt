@@ -1,6 +1,6 @@
 -- Where a party stands in a layout's tree, where the descriptor of a key is, and what a layout means where one of its parts or a session record is another.
 use mathlib.Core.Path.{_≡_, refl, sym, ap, subst, _∙_}
-use mathlib.Core.Bool.{Bool, true, false, cond, not}
+use mathlib.Core.Bool.{false, not}
 use mathlib.Core.List.{List, [], _∷_, _++_}
 use mathlib.Core.Logic.{_⊎_, inl, inr}
 use mathlib.Core.Option.{some}
@@ -11,16 +11,14 @@ use lib.ListN.{length, getD, set}
 use borrow.Author.Tests.{eq-eqb, ne-eqb}
 use Rattle.sessions.specs.declared.Session.{Session}
 use Rattle.sessions.specs.Sessions.{session-at}
-use Rattle.serial.specs.Serial.{true≢false}
-use Rattle.machine.specs.Logic.{eqb-is}
 use Rattle.machine.specs.Tree.{leaves, mapE, mapE-append, sumE, sumE-append, Seg, Hit, hit}
 use Rattle.machine.specs.Holders.{width, latch-word}
 use Rattle.machine.specs.State.{Desc, Tree, idle, sessionOf, set-hand, on-session, on-tree, on-leaf, on-desc, with-root, with-table, top}
 use Rattle.machine.specs.Sound as S
-use Rattle.machine.specs.Sound.{stored-in, latch-count, OnPath, Latched, Room, stands, of-hand}
+use Rattle.machine.specs.Sound.{latch-count, OnPath, Latched, Room, stands, of-hand}
 use Rattle.machine.specs.Context.{Focus, plug}
 use Rattle.machine.specs.Focus.{Parted, parted, latches-plug}
-use Rattle.machine.specs.Housekeeping.{lvs, Ordered}
+use Rattle.machine.specs.Housekeeping.{Ordered}
 use Rattle.machine.specs.Order.{Ord, In, ord-in}
 use Rattle.machine.specs.Looks.{sound-ordered}
 use Rattle.meaning.specs.Reading.{Leaf, Mark, Numbered, erase, hand-of}
@@ -292,20 +290,6 @@ at-key L t A k d has =
     let o = ordered-of L t A in
     let i = subst (In 0 (suc top)) (leaves-erase h (L .tree)) (ord-in h 0 top (erase h (L .tree)) o) in
     key-at L k d o has (omega (arith, has-in k d 0 (suc top) (leaves-in L) i has .1))
-
-has-stored : (k : ℕ) (l : List Leaf) → stored-in k (descs l) ≡ true → (d : ℕ) × Has k d l
-unfolding stored-in
-has-stored k [] st = absurd (true≢false st refl)
-has-stored k (x ∷ l) st = go (eqb (x .desc .key) k) refl st (has-stored k l)
-  where
-    go : (c : Bool) → eqb (x .desc .key) k ≡ c → cond c true (stored-in k (descs l)) ≡ true → (stored-in k (descs l) ≡ true → (d : ℕ) × Has k d l) → (d : ℕ) × Has k d (x ∷ l)
-    go true e st ih = (x .num, inl (eqb-is (x .desc .key) k e, refl))
-    go false e st ih = let r = ih st in (r .0, inr (r .1))
-
--- A stored key has its descriptor somewhere.
-pub stored-has : (L : Lay) (t : List Session) → (k : ℕ) → stored-in k (lvs (means L t)) ≡ true → (d : ℕ) × Has k d (leaves-in L)
-unfolding means
-stored-has L t k st = has-stored k (leaves-in L) (subst (λ l. stored-in k l ≡ true) (leaves-erase (suc (L .height)) (L .tree)) st)
 
 -- What is done to the descriptor of a key is done to the leaf in the hole.
 pub means-desc : (L : Lay) (t : List Session) (k d : ℕ) (A : AtKey L k d) (f : Desc → Desc) (l′ : Leaf) → l′ .desc ≡ f (A .leaf .desc)

@@ -1,7 +1,7 @@
 -- Records that are written fit what was written: nodes, descriptors, the free chain.
 use mathlib.Core.Path.{_≡_, refl, sym, ap, subst, _∙_}
-use mathlib.Core.List.{List, [], _∷_, _++_}
-use Prim.Native.Nat.{ℕ, _≤_, _<_}
+use mathlib.Core.List.{List, _∷_}
+use Prim.Native.Nat.{ℕ, _≤_}
 use native.Mathlib.Omega.{arith}
 use lib.Dec.{lit<}
 use lib.ListN.{getD, length, set, length-set}
@@ -12,13 +12,13 @@ use Rattle.nodes.specs.declared.Node.{Node}
 use Rattle.nodes.specs.Node.{decodeNode, nodeAt, putNode, Sized, node-same}
 use Rattle.nodes.specs.Entries as N
 use Rattle.groups.specs.declared.Descriptor.{Descriptor}
-use Rattle.groups.specs.Descriptor.{decodeDescriptor, descriptorAt, putDescriptor, descriptor-same}
-use Rattle.chain.specs.Free.{popFree, pushFree}
-use Rattle.meaning.specs.Reading.{Chained, Leaf, Mark, M-of}
+use Rattle.groups.specs.Descriptor.{decodeDescriptor, descriptorAt}
+use Rattle.chain.specs.Free.{pushFree}
+use Rattle.meaning.specs.Reading.{Chained, Leaf, M-of}
 use Rattle.meaning.specs.Sound.{All, Apart}
 use Rattle.meaning.specs.Numbers.{all-of}
-use Rattle.meaning.specs.Frame.{SameAt, SameWords, chain-words, same-words, all-words, chained-same}
-use Rattle.meaning.specs.Writes.{put-other, put-others, header-at}
+use Rattle.meaning.specs.Frame.{SameAt, chain-words, all-words, chained-same}
+use Rattle.meaning.specs.Writes.{put-others, header-at}
 use Rattle.layout.specs.Layout.{DescFits, NodeFits}
 
 -- ---- words of a node and of a descriptor, as they are read

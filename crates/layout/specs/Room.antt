@@ -1,5 +1,5 @@
 -- Every record and entry of a layout is in the store.
-use mathlib.Core.Path.{_≡_, sym, ap, subst, _∙_}
+use mathlib.Core.Path.{_≡_, sym, ap, _∙_}
 use mathlib.Core.List.{List}
 use Prim.Native.Nat.{ℕ, _≤_}
 use native.Mathlib.Omega.{arith}
@@ -9,11 +9,10 @@ use Rattle.words.specs.Entries.{HasEntry}
 use Rattle.sessions.specs.declared.Session.{Session}
 use Rattle.machine.specs.Sound as S
 use Rattle.machine.specs.Sound.{times}
-use Rattle.meaning.specs.Reading.{entries-of, M-of, R-of}
-use Rattle.meaning.specs.Sound.{All}
-use Rattle.meaning.specs.Numbers.{all-in, all-as, in-times}
+use Rattle.meaning.specs.Reading.{M-of}
+use Rattle.meaning.specs.Numbers.{all-in, in-times}
 use Rattle.meaning.specs.Parts.{entries-many}
-use Rattle.layout.specs.Layout.{Lay, all-records, Fits, Holds, means}
+use Rattle.layout.specs.Layout.{Lay, all-records, Holds, means}
 
 -- The sizes that a sound state has.
 pub record Sizes (L : Lay) : Type 0 where
@@ -45,6 +44,3 @@ module _ (s : List ℕ) (t : List Session) (L : Lay) (H : Holds s t L) (Z : Size
 
   pub owned-has : (i : ℕ) → 1 ≤ times i (all-records L) → HasRecord s (M-of s) i
   owned-has i h = let b = owned-in i h in has-record i (b .0) (b .1)
-
-  pub all-has : All (λ i. HasRecord s (M-of s) i) (all-records L)
-  all-has = all-as (λ i b. has-record i (b .0) (b .1)) (all-records L) (H .owned .no-other)

@@ -8,8 +8,8 @@ use lib.ListN.{length, length-append}
 use Rattle.machine.specs.Holders.{width}
 use Rattle.machine.specs.Sound.{times}
 use Rattle.meaning.specs.Reading.{Leaf, numbers}
-use Rattle.meaning.specs.Sound.{All}
-use Rattle.meaning.specs.Numbers.{all-as, one-is, one-not}
+use Rattle.meaning.specs.Sound.{All, Once}
+use Rattle.meaning.specs.Numbers.{all-as, one-is, one-not, apart-times}
 use Rattle.layout.specs.Layout.{Undone, Lay, Owned, leaves-in, firsts, undo-numbers, members-of, undos-from, all-records}
 
 -- ---- as many as there are places
@@ -46,6 +46,19 @@ count-ones : (r : ℕ) (l : List ℕ) → ((k : ℕ) → 1 ≤ k → k ≤ r →
 unfolding count
 count-ones zero l h = refl
 count-ones (suc r) l h = omega (arith, h (suc r) (omega arith) (omega arith), count-ones r l (λ k a b. h k a (omega (arith, b))))
+
+count-most : (r : ℕ) (l : List ℕ) → ((k : ℕ) → times k l ≤ 1) → count r l ≤ r
+unfolding count
+count-most zero l h = omega arith
+count-most (suc r) l h = omega (arith, h (suc r), count-most r l h)
+
+-- Numbers from 1 to r, none twice, are at most r.
+pub short : (r : ℕ) (l : List ℕ) → All (λ i. (1 ≤ i) × (i ≤ r)) l → ((k : ℕ) → times k l ≤ 1) → length l ≤ r
+short r l a h = omega (arith, count-all r l a, count-most r l h)
+
+pub once-of : (l : List ℕ) → ((k : ℕ) → times k l ≤ 1) → Once l
+once-of [] h = tt
+once-of (x ∷ l) h = (apart-times x l (omega (arith, h x, one-is x x refl)), once-of l (λ k. omega (arith, h k)))
 
 -- ---- the parts of what is owned
 

@@ -1,26 +1,24 @@
--- In words that hold a layout which means a sound state, every chain can be walked: descriptors, members, undo records, free records.
-use mathlib.Core.Path.{_≡_, sym, ap, subst, _∙_}
-use mathlib.Core.List.{List, [], _∷_, _++_, map}
-use Prim.Native.Nat.{ℕ, zero, suc, _+_, _≤_, _<_}
-use native.Mathlib.Decide.{ℕ-discrete}
+-- In words that hold a layout which means a sound state, the chains of descriptors and of members can be walked.
+use mathlib.Core.Path.{_≡_, ap, subst}
+use mathlib.Core.List.{List, [], _∷_, _++_}
+use Prim.Native.Nat.{ℕ, suc, _≤_}
 use native.Mathlib.Omega.{arith}
 use lib.ListN.{length, length-append, length-map}
 use Rattle.words.specs.Store.{HasRecord, wordOf}
-use Rattle.words.specs.Header.{headerWord, firstPlace, freePlace}
+use Rattle.words.specs.Header.{headerWord, firstPlace}
 use Rattle.chain.specs.Walk.{Walk}
 use Rattle.sessions.specs.declared.Session.{Session}
-use Rattle.sessions.specs.Sessions.{session-at}
 use Rattle.machine.specs.Holders.{width}
 use Rattle.machine.specs.State.{top}
 use Rattle.machine.specs.Sound as S
 use Rattle.meaning.specs.Reading.{Chained, Leaf, numbers, M-of, R-of}
 use Rattle.meaning.specs.Sound.{All}
-use Rattle.meaning.specs.Numbers.{all-left, all-right, all-as, all-both, map-all}
+use Rattle.meaning.specs.Numbers.{all-left, all-right, all-both, map-all}
 use Rattle.meaning.specs.Frame.{numbers-leaves}
 use Rattle.meaning.specs.Parts.{entries-many}
 use Rattle.meaning.specs.Lens.{leaves-erase}
-use Rattle.layout.specs.Layout.{Lay, Undone, leaves-in, firsts, undo-numbers, members-of, undos-from, all-records, DescFits, GroupFits, Holds, means}
-use Rattle.layout.specs.Short.{free-short, members-short, undos-short}
+use Rattle.layout.specs.Layout.{Lay, leaves-in, firsts, members-of, undos-from, DescFits, GroupFits, Holds, means}
+use Rattle.layout.specs.Short.{members-short}
 use Rattle.layout.specs.Chains.{walk-chain, has-record, nums, leaves-fit, chain-next, Scan, last-upto, Upto}
 
 -- ---- parts of what is owned
@@ -28,14 +26,6 @@ use Rattle.layout.specs.Chains.{walk-chain, has-record, nums, leaves-fit
 members-all : (P : ℕ → Type 0) (g : ℕ → List (ℕ × ℕ)) (ls : List Leaf) → All P (members-of g ls) → All (λ l. All P (firsts (g (l .num)))) ls
 members-all P g [] a = tt
 members-all P g (l ∷ ls) a = (all-left P (firsts (g (l .num))) (members-of g ls) a, members-all P g ls (all-right P (firsts (g (l .num))) (members-of g ls) a))
-
-undos-all : (P : ℕ → Type 0) (u : ℕ → List Undone) (q n p : ℕ) → q ≤ p → p < q + n → All P (undos-from u q n) → All P (undo-numbers (u p))
-undos-all P u q zero p a b h = absurd (omega (arith, a, b))
-undos-all P u q (suc n) p a b h = go (ℕ-discrete p q) (λ x y. undos-all P u (suc q) n p x y (all-right P (undo-numbers (u q)) (undos-from u (suc q) n) h))
-  where
-    go : Dec (p ≡ q) → (suc q ≤ p → p < suc q + n → All P (undo-numbers (u p))) → All P (undo-numbers (u p))
-    go (yes e) ih = subst (λ x. All P (undo-numbers (u x))) (sym e) (all-left P (undo-numbers (u q)) (undos-from u (suc q) n) h)
-    go (no k) ih = ih (omega (arith, k, a)) (omega (arith, b))
 
 module _ (s : List ℕ) (t : List Session) (L : Lay) (H : Holds s t L) (A : S.Sound (means L t)) where
   abbrev chain-tree : List ℕ
@@ -61,28 +51,6 @@ module _ (s : List ℕ) (t : List Session) (L : Lay) (H : Holds s t L) (A : S.So
   others-there : All (HasRecord s (M-of s)) (chain-members ++ (chain-undos ++ L .free))
   others-there = all-right (HasRecord s (M-of s)) chain-tree (chain-members ++ (chain-undos ++ L .free)) (has-record s t L H few-entries)
 
-  behind-there : All (HasRecord s (M-of s)) (chain-undos ++ L .free)
-  behind-there = all-right (HasRecord s (M-of s)) chain-members (chain-undos ++ L .free) others-there
-
-  -- ---- free records
-
-  pub free-there : All (HasRecord s (M-of s)) (L .free)
-  free-there = all-right (HasRecord s (M-of s)) chain-undos (L .free) behind-there
-
-  pub free-walk : Walk s (M-of s) (R-of s) (headerWord s freePlace)
-  free-walk = walk-chain s (M-of s) (headerWord s freePlace) (L .free) (H .fits .free) free-there (R-of s) (omega (arith, free-short L (H .owned), H .fits .records))
-
-  -- ---- undo records
-
-  pub undos-there : (p : ℕ) → suc p ≤ width → All (HasRecord s (M-of s)) (undo-numbers (L .undos (suc p)))
-  undos-there p l =
-      undos-all (HasRecord s (M-of s)) (L .undos) 1 width (suc p) (omega arith) (omega (arith, l)) (all-left (HasRecord s (M-of s)) chain-undos (L .free) behind-there)
-
-  pub undos-walk : (p : ℕ) → suc p ≤ width → Walk s (M-of s) (R-of s) (session-at t (suc p) .undo)
-  undos-walk p l =
-      walk-chain s (M-of s) (session-at t (suc p) .undo) (undo-numbers (L .undos (suc p))) (H .fits .undos p l .chained) (undos-there p l) (R-of s)
-      (omega (arith, undos-short L (H .owned) p l, H .fits .records))
-
   -- ---- members
 
   pub members-there : All (λ l. All (HasRecord s (M-of s)) (firsts (L .members (l .num)))) (leaves-in L)
@@ -105,11 +73,6 @@ module _ (s : List ℕ) (t : List Session) (L : Lay) (H : Holds s t L) (A : S.So
 
   pub descs-fit : All (DescFits s (M-of s)) (leaves-in L)
   descs-fit = leaves-fit s (M-of s) (suc (L .height)) top (L .tree) (H .fits .tree)
-
-  pub leaves-walk : Walk s (M-of s) (R-of s) (headerWord s firstPlace)
-  leaves-walk =
-      walk-chain s (M-of s) (headerWord s firstPlace) (nums (leaves-in L)) (H .fits .chained) (map-all (λ l. l .num) (HasRecord s (M-of s)) (leaves-in L) leaves-there) (R-of s)
-      (omega (arith, leaves-short, length-map (leaves-in L) (λ l. l .num), H .fits .records))
 
   module _ (B : List Leaf) (l : Leaf) (C : List Leaf) (e : leaves-in L ≡ B ++ l ∷ C) where
     pub leaf-there : HasRecord s (M-of s) (l .num)

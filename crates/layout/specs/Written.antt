@@ -6,7 +6,7 @@ use native.Mathlib.Omega.{arith}
 use lib.Dec.{lit<}
 use lib.ListN.{length, set, length-set}
 use Rattle.words.specs.Store.{entryWords, HasRecord, recordAt, putRecord, wordOf, beyond, has-kept, length-record, length-putRecord}
-use Rattle.words.specs.Header.{headerWord, putHeaderWord, entriesPlace, recordsPlace, rootPlace, heightPlace, firstPlace, freePlace}
+use Rattle.words.specs.Header.{headerWord, putHeaderWord, entriesPlace, recordsPlace, freePlace}
 use Rattle.words.specs.Entries.{HasEntry, entryWord, putEntryWord}
 use Rattle.words.specs.Frames.{length-header, header-same, header-other, header-entry, header-beyond, length-entry, entry-header, entry-beyond, record-header, record-beyond}
 use Rattle.chain.specs.Free.{popFree, pushFree, pop-some}
@@ -46,9 +46,6 @@ written-then s s′ s″ U W A B = record {
 
 pub entries-then : (s s′ s″ : List ℕ) → M-of s′ ≡ M-of s → SameEntries s s′ → SameEntries s′ s″ → SameEntries s s″
 entries-then s s′ s″ e a b d h l = a d h l ∙ b d h (subst (λ m. d ≤ m) (sym e) l)
-
-pub head-then : (s s′ s″ : List ℕ) → SameHead s s′ → SameHead s′ s″ → SameHead s s″
-head-then s s′ s″ a b k h = b k h ∙ a k h
 
 -- A record that is there is there still.
 pub has-written : (s s′ : List ℕ) (W : List ℕ) (m i : ℕ) → Written s s′ W → HasRecord s m i → HasRecord s′ m i

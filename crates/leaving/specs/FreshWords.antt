@@ -51,9 +51,6 @@ module _ (s : List ℕ) (m r : ℕ) (long : 16 ≤ length s) where
   abbrev put-5 : List ℕ
   put-5 = putHeaderWord put-4 4 2
 
-  abbrev put-6 : List ℕ
-  put-6 = putHeaderWord put-5 5 0
-
   long-0 : 16 ≤ length put-0
   long-0 = long
 
@@ -71,9 +68,6 @@ module _ (s : List ℕ) (m r : ℕ) (long : 16 ≤ length s) where
 
   long-5 : 16 ≤ length put-5
   long-5 = subst (λ n. 16 ≤ n) (sym (length-header put-4 4 2 (lit< tt))) long-4
-
-  long-6 : 16 ≤ length put-6
-  long-6 = subst (λ n. 16 ≤ n) (sym (length-header put-5 5 0 (lit< tt))) long-5
 
   pub head-entries : headerWord (freshHeader s m r) entriesPlace ≡ m
   unfolding freshHeader

@@ -1,10 +1,9 @@
 -- A session that has no undo records leaves: the words after hold the layout without its holders, which means the machine's `leave`.
 use mathlib.Core.Path.{_≡_, refl, sym, ap, subst, _∙_}
 use mathlib.Core.Bool.{false}
-use mathlib.Core.List.{List, [], _∷_, _++_, map}
+use mathlib.Core.List.{List, [], _++_, map}
 use mathlib.Core.Option.{none}
-use Prim.Native.Nat.{ℕ, zero, suc, _+_, _≤_, _<_}
-use native.Mathlib.Decide.{ℕ-discrete}
+use Prim.Native.Nat.{ℕ, suc, _≤_}
 use native.Mathlib.Omega.{arith}
 use lib.Dec.{lit<}
 use lib.ListN.{length, set}
@@ -17,13 +16,13 @@ use Rattle.sessions.specs.Sessions.{session-at}
 use Rattle.machine.specs.Holders.{width, left-by}
 use Rattle.machine.specs.State.{top, idle, on-session, on-tree, hold-desc}
 use Rattle.machine.specs.Calls.{leave, entry-left}
-use Rattle.machine.specs.Sound.{times}
 use Rattle.meaning.specs.Reading.{Chained, Leaf, numbers, M-of, R-of}
-use Rattle.meaning.specs.Sound.{All, Once}
-use Rattle.meaning.specs.Numbers.{all-left, all-as, all-of, all-both, all-map, map-all, one-is, one-not, apart-times}
+use Rattle.meaning.specs.Sound.{All}
+use Rattle.meaning.specs.Numbers.{all-left, all-as, all-of, all-both, all-map, map-all}
 use Rattle.meaning.specs.Frame.{SameAt, leaf-records, numbers-leaves}
 use Rattle.layout.specs.Layout.{Lay, Undone, leaves-in, members-of, undos-from, DescFits, Holds, means, session-in, sessions-in}
 use Rattle.layout.specs.Written.{Written, written-then}
+use Rattle.layout.specs.Short.{short, once-of}
 use Rattle.layout.specs.Asked.{set-same}
 use Rattle.layout.specs.Keep.{with-entries-in, with-tree, entry-row, chained-keep}
 use Rattle.layout.specs.Chains.{leaves-fit, walk-chain}
@@ -35,48 +34,6 @@ use Rattle.leaving.specs.Words.{leaveAll, LeaveReady}
 use Rattle.leaving.specs.Begun.{idle-fits, no-chain}
 use Rattle.leaving.specs.Left.{EntriesLeft, entries-left, entries-map, GroupsLeft, groups-left}
 use Rattle.leaving.specs.LeafRows.{each-leaf, each-erase, leaves-once, leaves-row}
-
--- ---- no more descriptors than records
-
-count : ℕ → List ℕ → ℕ
-count zero l = 0
-count (suc r) l = times (suc r) l + count r l
-
-count-none : (r : ℕ) → count r [] ≡ 0
-unfolding count
-count-none zero = refl
-count-none (suc r) = omega (arith, count-none r)
-
-count-past : (r x : ℕ) (l : List ℕ) → r < x → count r (x ∷ l) ≡ count r l
-unfolding count
-count-past zero x l h = refl
-count-past (suc r) x l h = omega (arith, one-not x (suc r) (λ e. omega (arith, e, h)), count-past r x l (omega (arith, h)))
-
-count-one : (r x : ℕ) (l : List ℕ) → 1 ≤ x → x ≤ r → count r (x ∷ l) ≡ 1 + count r l
-unfolding count
-count-one zero x l a b = absurd (omega (arith, a, b))
-count-one (suc r) x l a b = go (ℕ-discrete x (suc r)) (count-one r x l a)
-  where
-    go : Dec (x ≡ suc r) → (x ≤ r → count r (x ∷ l) ≡ 1 + count r l) → times (suc r) (x ∷ l) + count r (x ∷ l) ≡ 1 + (times (suc r) l + count r l)
-    go (yes e) ih = omega (arith, one-is x (suc r) e, count-past r x l (omega (arith, e)))
-    go (no n) ih = omega (arith, one-not x (suc r) n, ih (omega (arith, n, b)))
-
-count-all : (r : ℕ) (l : List ℕ) → All (λ i. (1 ≤ i) × (i ≤ r)) l → count r l ≡ length l
-count-all r [] p = count-none r
-count-all r (x ∷ l) p = omega (arith, count-one r x l (p .0 .0) (p .0 .1), count-all r l (p .1))
-
-count-most : (r : ℕ) (l : List ℕ) → ((k : ℕ) → times k l ≤ 1) → count r l ≤ r
-unfolding count
-count-most zero l h = omega arith
-count-most (suc r) l h = omega (arith, h (suc r), count-most r l h)
-
--- Numbers from 1 to r, none twice, are at most r.
-pub short : (r : ℕ) (l : List ℕ) → All (λ i. (1 ≤ i) × (i ≤ r)) l → ((k : ℕ) → times k l ≤ 1) → length l ≤ r
-short r l a h = omega (arith, count-all r l a, count-most r l h)
-
-pub once-of : (l : List ℕ) → ((k : ℕ) → times k l ≤ 1) → Once l
-once-of [] h = tt
-once-of (x ∷ l) h = (apart-times x l (omega (arith, h x, one-is x x refl)), once-of l (λ k. omega (arith, h k)))
 
 -- ---- the layout without session p's holders
 

@@ -4,19 +4,18 @@ use mathlib.Core.Bool.{Bool, true, false, cond, not, _&&_, _||_}
 use mathlib.Core.List.{List, [], _∷_, map}
 use mathlib.Core.Logic.{_⊎_, inl, inr}
 use Prim.Native.Nat.{ℕ, zero, suc, _+_, _*_, _/_, _%_, _^_, _≤_, _<_}
-use native.Mathlib.Nat.{mod-lt, div-add-mod', pow-suc, lt-of-le-of-lt}
+use native.Mathlib.Nat.{mod-lt, div-add-mod', pow-suc}
 use native.Mathlib.Omega.{arith}
 use lib.Dec.{eqb, lit<}
 use lib.ListN.{length, length-map}
-use lib.Bits.{bitOr, or-lt}
-use lib.Pow.{pow-pos}
+use lib.Bits.{bitOr}
 use lib.Arith.{lt-one, digits-div, digits-mod}
 use lib.Count.{ones, ones-step}
 use borrow.Author.Tests.{eqb-true, eqb-false}
 use Rattle.locks.specs.Rule.{agreesOf}
-use Rattle.locks.specs.Holders.{bitOf, holds, left-by, holders, in-the-way, blockers, first-of, conflicts}
-use Rattle.locks.specs.Bits.{left-same, left-other, left-le, holds-or, holds-unless}
-use Rattle.locks.specs.Lists.{In, in-passing, passing-in, same-passing, shift-passing, length-passing, first-least, first-none}
+use Rattle.locks.specs.Holders.{bitOf, holds, left-by, holders, in-the-way, blockers, conflicts}
+use Rattle.locks.specs.Bits.{left-same, left-other, holds-or, holds-unless}
+use Rattle.locks.specs.Lists.{same-passing, shift-passing, length-passing}
 
 -- ---- holders, one bit at a time
 
@@ -85,26 +84,6 @@ pub length-holders : (n w : ℕ) → length (holders n w) ≤ n
 unfolding holders
 length-holders n w = length-passing (holds w) 1 n
 
--- a word that has room for k sessions says the same of any more
-pub narrow-holders : (k n w : ℕ) → w < 2 ^ k → k ≤ n → holders n w ≡ holders k w
-narrow-holders zero n w h l = ap (holders n) (lt-one h) ∙ none-holds n ∙ sym (none-holds 0) ∙ ap (holders 0) (sym (lt-one h))
-narrow-holders (suc k) zero w h l = absurd (omega arith)
-narrow-holders (suc k) (suc n) w h l = by (λ q. narrow-holders k n (w / 2) q (omega arith)) (halves w)
-  where
-    by : (w / 2 < 2 ^ k → holders n (w / 2) ≡ holders k (w / 2)) → (w ≡ w / 2 * 2) ⊎ (w ≡ w / 2 * 2 + 1) → holders (suc n) w ≡ holders (suc k) w
-    by i (inl e) = even-holders n w (w / 2) e ∙ ap (map suc) (i (half-less k w (w / 2) h (omega arith))) ∙ sym (even-holders k w (w / 2) e)
-    by i (inr e) =
-        odd-holders n w (w / 2) e ∙ ap (λ (r : List ℕ). 1 ∷ map suc r) (i (half-less k w (w / 2) h (omega arith))) ∙ sym (odd-holders k w (w / 2) e)
-
--- a session is in the list exactly if it holds
-pub in-holders : (n w t : ℕ) → In t (holders n w) → (1 ≤ t) × (t ≤ n) × (holds w t ≡ true)
-unfolding holders
-in-holders n w t h = let r = in-passing (holds w) 1 n t h in (r .0, omega (arith, r .1), r .2)
-
-pub holders-in : (n w t : ℕ) → 1 ≤ t → t ≤ n → holds w t ≡ true → In t (holders n w)
-unfolding holders
-holders-in n w t h l p = passing-in (holds w) 1 n t h (omega arith) p
-
 -- ---- who is in the way
 
 pub conflicts-bit : (kind asked s weak strong t : ℕ) → holds (conflicts kind asked s weak strong) t ≡ in-the-way kind asked s weak strong t
@@ -136,45 +115,3 @@ unfolding holders blockers
 conflicts-holders n kind asked s weak strong =
     same-passing (holds (conflicts kind asked s weak strong)) (in-the-way kind asked s weak strong) 1 n
     (λ t h. conflicts-bit kind asked s weak strong t)
-
-pub conflicts-less : (k kind asked s weak strong : ℕ) → weak < 2 ^ k → strong < 2 ^ k → conflicts kind asked s weak strong < 2 ^ k
-unfolding conflicts
-conflicts-less k kind asked s weak strong hw hs =
-    let p : 0 < 2 ^ k = pow-pos k in
-    let o : bitOr (cond (agreesOf kind 0 asked) 0 weak) (cond (agreesOf kind 1 asked) 0 strong) < 2 ^ k =
-    or-lt k (cond (agreesOf kind 0 asked) 0 weak) (cond (agreesOf kind 1 asked) 0 strong) (one (agreesOf kind 0 asked) weak hw) (one (agreesOf kind 1 asked) strong hs) in
-    lt-of-le-of-lt (left-le s (bitOr (cond (agreesOf kind 0 asked) 0 weak) (cond (agreesOf kind 1 asked) 0 strong))) o
-  where
-    one : (b : Bool) (w : ℕ) → w < 2 ^ k → cond b 0 w < 2 ^ k
-    one true w h = pow-pos k
-    one false w h = h
-
-pub narrow-blockers : (k n kind asked s weak strong : ℕ) → weak < 2 ^ k → strong < 2 ^ k → k ≤ n
-    → blockers n kind asked s weak strong ≡ blockers k kind asked s weak strong
-narrow-blockers k n kind asked s weak strong hw hs l =
-    sym (conflicts-holders n kind asked s weak strong)
-    ∙ narrow-holders k n (conflicts kind asked s weak strong) (conflicts-less k kind asked s weak strong hw hs) l
-    ∙ conflicts-holders k kind asked s weak strong
-
--- a session is in the list exactly if it is in the way
-pub in-blockers : (n kind asked s weak strong t : ℕ) → In t (blockers n kind asked s weak strong)
-    → (1 ≤ t) × (t ≤ n) × (in-the-way kind asked s weak strong t ≡ true)
-unfolding blockers
-in-blockers n kind asked s weak strong t h =
-    let r = in-passing (in-the-way kind asked s weak strong) 1 n t h in (r .0, omega (arith, r .1), r .2)
-
-pub blockers-in : (n kind asked s weak strong t : ℕ) → 1 ≤ t → t ≤ n → in-the-way kind asked s weak strong t ≡ true
-    → In t (blockers n kind asked s weak strong)
-unfolding blockers
-blockers-in n kind asked s weak strong t h l p = passing-in (in-the-way kind asked s weak strong) 1 n t h (omega arith) p
-
--- the first is the least, and is 0 exactly where nobody is in the way
-pub least-blocker : (n kind asked s weak strong t : ℕ) → In t (blockers n kind asked s weak strong)
-    → first-of (blockers n kind asked s weak strong) ≤ t
-unfolding blockers
-least-blocker n kind asked s weak strong t h = first-least (in-the-way kind asked s weak strong) 1 n t h
-
-pub no-blocker : (n kind asked s weak strong : ℕ) → first-of (blockers n kind asked s weak strong) ≡ 0
-    → blockers n kind asked s weak strong ≡ []
-unfolding blockers
-no-blocker n kind asked s weak strong e = first-none (in-the-way kind asked s weak strong) 1 n (omega arith) e

@@ -1,10 +1,9 @@
 -- The numbers from k on that pass a test, rising: which they are, and which is the first.
-use mathlib.Core.Path.{_≡_, refl, sym, ap, _∙_}
-use mathlib.Core.Bool.{Bool, true, false, cond, false≢true}
+use mathlib.Core.Path.{_≡_, refl, ap, _∙_}
+use mathlib.Core.Bool.{Bool, true, false, cond}
 use mathlib.Core.List.{List, [], _∷_, map}
 use mathlib.Core.Logic.{_⊎_, inl, inr, ⊎-elim}
 use Prim.Native.Nat.{ℕ, zero, suc, _+_, _≤_, _<_}
-use native.Mathlib.Nat.{eq-or-lt-of-le}
 use native.Mathlib.Omega.{arith}
 use lib.ListN.{length}
 use Rattle.locks.specs.Holders.{count-from, filter, first-of}
@@ -19,13 +18,6 @@ in-cond true x t l (inl e) = inl (refl, e)
 in-cond true x t l (inr h) = inr h
 in-cond false x t l h = inr h
 
-cond-in : (b : Bool) (x t : ℕ) (l : List ℕ) → ((b ≡ true) × (t ≡ x)) ⊎ In t l → In t (cond b (x ∷ l) l)
-unfolding In
-cond-in true x t l (inl (p, e)) = inl e
-cond-in true x t l (inr h) = inr h
-cond-in false x t l (inl (p, e)) = absurd (false≢true p)
-cond-in false x t l (inr h) = h
-
 -- the list has exactly the numbers that pass
 pub in-passing : (f : ℕ → Bool) (k n t : ℕ) → In t (filter f (count-from k n)) → (k ≤ t) × (t < k + n) × (f t ≡ true)
 unfolding In
@@ -34,13 +26,6 @@ in-passing f k (suc n) t h =
     ⊎-elim (λ (q : (f k ≡ true) × (t ≡ k)). (omega (arith, q .1), omega (arith, q .1), ap f (q .1) ∙ q .0))
     (λ (q : In t (filter f (count-from (suc k) n))). let r = in-passing f (suc k) n t q in (omega (arith, r .0), omega (arith, r .1), r .2))
     (in-cond (f k) k t (filter f (count-from (suc k) n)) h)
-
-pub passing-in : (f : ℕ → Bool) (k n t : ℕ) → k ≤ t → t < k + n → f t ≡ true → In t (filter f (count-from k n))
-passing-in f k zero t h j p = absurd (omega arith)
-passing-in f k (suc n) t h j p =
-    cond-in (f k) k t (filter f (count-from (suc k) n))
-    (⊎-elim (λ (e : k ≡ t). inl (ap f e ∙ p, sym e)) (λ (q : k < t). inr (passing-in f (suc k) n t (omega arith) (omega arith) p))
-    (eq-or-lt-of-le h))
 
 -- tests that agree from k on pass the same numbers
 pub same-passing : (f g : ℕ → Bool) (k n : ℕ) → ((t : ℕ) → k ≤ t → f t ≡ g t) → filter f (count-from k n) ≡ filter g (count-from k n)
@@ -71,17 +56,6 @@ length-passing f k (suc n) = one (f k) (filter f (count-from (suc k) n)) (length
     one : (b : Bool) (l : List ℕ) → length l ≤ n → length (cond b (k ∷ l) l) ≤ suc n
     one true l h = omega arith
     one false l h = omega arith
-
--- the first of the list is the least, and 0 only where there is none
-pub first-least : (f : ℕ → Bool) (k n t : ℕ) → In t (filter f (count-from k n)) → first-of (filter f (count-from k n)) ≤ t
-unfolding In
-first-least f k zero t h = absurd h
-first-least f k (suc n) t h = one (f k) (filter f (count-from (suc k) n)) (first-least f (suc k) n t) (λ q. in-passing f (suc k) n t q .0) h
-  where
-    one : (b : Bool) (l : List ℕ) → (In t l → first-of l ≤ t) → (In t l → suc k ≤ t) → In t (cond b (k ∷ l) l) → first-of (cond b (k ∷ l) l) ≤ t
-    one true l i s (inl e) = omega arith
-    one true l i s (inr q) = let r = s q in omega arith
-    one false l i s q = i q
 
 pub first-in : (l : List ℕ) → (first-of l ≡ 0 → ⊥) → In (first-of l) l
 unfolding In

@@ -1,8 +1,8 @@
 // Locks: the lock rule, and the words of those that hold long locks.
 //
 // AGREES is the only source of conflicts. In a holders word session s is bit s - 1. Each function's result EQUALS a definition of
-// specs/Holders; specs/Blockers says what they mean: who is in the way is exactly the list `blockers`, rising, the first of it is
-// named, and the lock count is the length of the list of holders. All facts are over a number of sessions, of which a word has room
+// specs/Holders; specs/Blockers says what they mean: the word of conflicts has exactly the sessions of the list `blockers`,
+// and the lock count is the length of the list of holders. All facts are over a number of sessions, of which a word has room
 // for 32. It rests on no other crate.
 ghost use mathlib.Core.Path.{_≡_};
 ghost use mathlib.Core.Bool.{cond};

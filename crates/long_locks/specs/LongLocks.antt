@@ -18,16 +18,15 @@ use Rattle.locks.specs.Holders.{word-bits, first-of}
 use Rattle.locks.specs.Lists.{In, same-passing, first-in, first-none}
 use Rattle.machine.specs.Logic.{eqb-yes}
 use Rattle.machine.specs.Holders.{width, holds, count-from, filter, in-the-way, blockers, elem}
-use Rattle.machine.specs.State.{Desc, State, idle, entryOf, sessionOf, descOf}
+use Rattle.machine.specs.State.{Desc, State, idle, entryOf, sessionOf}
 use Rattle.machine.specs.Steps.{rule}
 use Rattle.machine.specs.Gaps.{locators, updaters, gaps, reads-locate, reads-gap}
 use Rattle.machine.specs.View.{seen, locate-word, update-word}
-use Rattle.machine.specs.Sound.{Sound, gap-word, stored-in}
+use Rattle.machine.specs.Sound.{Sound, gap-word}
 use Rattle.machine.specs.Order as O
 use Rattle.machine.specs.Groups.{words}
 use Rattle.machine.specs.Housekeeping.{lvs, seen-words}
-use Rattle.machine.specs.Keys.{Kept, reads-at, update-at}
-use Rattle.machine.specs.Looks.{kept-of}
+use Rattle.machine.specs.Keys.{reads-at, update-at}
 use Rattle.meaning.specs.Lens.{descs, leaves-before, leaves-behind, leaves-erase}
 use Rattle.layout.specs.Layout.{Lay, leaves-in, means}
 use Rattle.layout.specs.Places.{AtKey}
@@ -104,9 +103,6 @@ module _ (k : Kind) (m : Mode) (p hw hs : ℕ) (a : Narrow hw) (b : Narrow hs) w
   unfolding blockers
   lowest-none e = first-none (in-the-way rule k m p hw hs) 1 width (omega arith) (sym lowest-same ∙ e)
 
-  pub none-lowest : blockers rule k m p hw hs ≡ [] → lowest-in k m p hw hs ≡ 0
-  none-lowest e = lowest-same ∙ ap first-of e
-
   -- Else it is one of those in the way.
   pub lowest-some : ¬ (lowest-in k m p hw hs ≡ 0) → elem (lowest-in k m p hw hs) (blockers rule k m p hw hs) ≡ true
   lowest-some n =
@@ -174,13 +170,6 @@ pub record NarrowDesc (d : Desc) : Type 0 where
 
 pub desc-narrow : (s : State) → Sound s → (C B : List Desc) (d : Desc) → lvs s ≡ C ++ d ∷ B → O.In 0 (d .key) C → NarrowDesc d
 desc-narrow s A C B d is low = record { locate = locate-narrow s A C B d is low; update = update-narrow s A C B d is low; gap = gap-narrow s A C B d is low }
-
--- The descriptor of a stored key, as the machine finds it.
-pub stored-narrow : (s : State) → Sound s → (k : ℕ) → stored-in k (lvs s) ≡ true → NarrowDesc (descOf k s)
-stored-narrow s A k h = go (kept-of k s A h)
-  where
-    go : Kept k s → NarrowDesc (descOf k s)
-    go Q = subst NarrowDesc (sym (Q .desc)) (desc-narrow s A (Q .A) (Q .B) (Q .d) (Q .was) (subst (λ n. O.In 0 n (Q .A)) (sym (Q .key)) (Q .low)))
 
 leaves-mean : (L : Lay) (t : List Session) → lvs (means L t) ≡ descs (leaves-in L)
 unfolding means

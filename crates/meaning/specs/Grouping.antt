@@ -1,25 +1,24 @@
 -- The members of a descriptor: a membership added at the front of their chain, and one taken out of it by its links.
 use mathlib.Core.Path.{_≡_, refl, sym, ap, ap₂, subst, _∙_}
 use mathlib.Core.Bool.{Bool, true, false, cond, _||_}
-use mathlib.Core.List.{List, [], _∷_, _++_, map-append}
+use mathlib.Core.List.{List, [], _∷_, _++_}
 use mathlib.Core.Logic.{inl, inr}
-use Prim.Native.Nat.{ℕ, _≤_, _<_}
+use Prim.Native.Nat.{ℕ, _<_}
 use native.Mathlib.Decide.{ℕ-discrete}
 use native.Mathlib.Omega.{arith}
 use lib.Dec.{eqb}
-use lib.ListN.{length, length-append}
 use borrow.Author.Tests.{eq-eqb, ne-eqb, lt-ltb, le-ltb}
 use Rattle.serial.specs.Rising.{Tri, less, equal, greater}
 use Rattle.serial.specs.Model.{ℕ-tri}
 use Rattle.serial.specs.Serial.{true≢false}
 use Rattle.words.specs.Store.{wordOf}
 use Rattle.machine.specs.Holders.{elem}
-use Rattle.machine.specs.State.{with-member, without-member, group-desc}
+use Rattle.machine.specs.State.{with-member, without-member}
 use Rattle.machine.specs.Keys.{elem-with}
-use Rattle.meaning.specs.Reading.{Chained, gather, member-chain, member-entries, desc-at, M-of, R-of}
-use Rattle.meaning.specs.Sound.{All, Apart, Once, Linked, Members, member-record}
-use Rattle.meaning.specs.Numbers.{In, all-in, all-append, all-left, all-right, all-as, all-both, apart-left, apart-right, apart-all, apart-from, not-in, once-apart, once-mid, once-out, map-same}
-use Rattle.meaning.specs.Frame.{SameAt, SameWords, member-words, same-words, members-same, chained-same, chain-push, chain-pop, chain-is}
+use Rattle.meaning.specs.Reading.{Chained, gather}
+use Rattle.meaning.specs.Sound.{All, Apart, Once, Linked}
+use Rattle.meaning.specs.Numbers.{In, all-in, all-append, all-left, all-right, all-as, all-both, apart-left, apart-right, apart-all, apart-from, not-in, once-apart}
+use Rattle.meaning.specs.Frame.{SameAt, SameWords, member-words, same-words, chained-same, chain-push, chain-pop}
 
 -- ---- members in rising order
 
@@ -99,9 +98,6 @@ pub chained-some : (s : List ℕ) (m i : ℕ) (l : List ℕ) → Chained s m i l
 chained-some s m i [] c = tt
 chained-some s m i (j ∷ l) c = (λ e. c .1 (c .0 ∙ e), chained-some s m (wordOf s m i 0) l (c .2))
 
-pub member-entries-same : (s s′ : List ℕ) (m : ℕ) (l : List ℕ) → All (λ j. wordOf s m j 2 ≡ wordOf s′ m j 2) l → member-entries s′ m l ≡ member-entries s m l
-member-entries-same s s′ m l a = map-same (λ i. wordOf s′ m i 2) (λ i. wordOf s m i 2) l (all-as (λ j e. sym e) l a)
-
 -- One of two words, by a record number.
 at-one : (j x v w : ℕ) → j ≡ x → cond (eqb j x) v w ≡ v
 at-one j x v w e = ap (λ (b : Bool). cond b v w) (eq-eqb j x e)
@@ -122,49 +118,6 @@ module _ (s s′ : List ℕ) (m : ℕ) where
     linked-same j l (all-both (λ q z n. z ∙ at-other q x v (wordOf s m q 1) (λ y. n (sym (c .0) ∙ sym y))) l (a .1) (apart-all j l (o .0))) (k .1),
   )
 
--- A descriptor by its words and its members.
-members-desc : (s s′ : List ℕ) (m r d : ℕ) (f : List ℕ → List ℕ) → SameWords s s′ m (1 ∷ 2 ∷ 3 ∷ 4 ∷ 5 ∷ []) d → desc-at s′ m r d .members ≡ f (desc-at s m r d .members)
-    → desc-at s′ m r d ≡ group-desc f (desc-at s m r d)
-members-desc s s′ m r d f e g =
-    λ i. record {
-      key = sym (e .0) i;
-      locate = sym (e .1 .0) i;
-      update = sym (e .1 .1 .0) i;
-      gap = sym (e .1 .1 .1 .0) i;
-      pins = sym (e .1 .1 .1 .1 .0) i;
-      members = g i;
-    }
-
--- The members of a descriptor are in order: their chain ends, lists no entry twice, and each names the one before it.
-pub record Group (s : List ℕ) (m r d : ℕ) : Type 0 where
-  pub ends : Chained s m (wordOf s m d 6) (member-chain s m r d)
-  pub once : Once (member-entries s m (member-chain s m r d))
-  pub linked : Linked s m 0 (member-chain s m r d)
-
-pub group-members : (s : List ℕ) (d : ℕ) → Group s (M-of s) (R-of s) d → Members s d
-group-members s d G = record { ends = G .ends; once = G .once; linked = G .linked }
-
-pub members-group : (s : List ℕ) (d : ℕ) → Members s d → Group s (M-of s) (R-of s) d
-members-group s d G = record { ends = G .ends; once = G .once; linked = G .linked }
-
--- They stay so where their words and the first one's place are the same.
-pub group-same : (s s′ : List ℕ) (m r d : ℕ) → wordOf s m d 6 ≡ wordOf s′ m d 6 → All (SameWords s s′ m (0 ∷ 1 ∷ 2 ∷ [])) (member-chain s m r d) → Group s m r d → Group s′ m r d
-group-same s s′ m r d e a G =
-    let l = member-chain s m r d in
-    let M = members-same s s′ m r d e (all-as (λ j p. (p .0, (p .1 .1 .0, tt))) l a) in
-    let c : Chained s′ m (wordOf s m d 6) l = chained-same s s′ m (wordOf s m d 6) l (all-as (λ j p. (p .0, tt)) l a) (G .ends) in
-    record {
-      ends = subst (Chained s′ m (wordOf s′ m d 6)) (sym (M .0)) (subst (λ x. Chained s′ m x l) e c);
-      once = subst Once (sym (M .1)) (G .once);
-      linked = subst (Linked s′ m 0) (sym (M .0)) (linked-same s s′ m 0 l (all-as (λ j p. sym (p .1 .0)) l a) (G .linked));
-    }
-
--- By which record an entry is a member: only the records' entries are read.
-pub member-record-same : (s s′ : List ℕ) (m f : ℕ) (l : List ℕ) → All (λ j. wordOf s m j 2 ≡ wordOf s′ m j 2) l → member-record s′ m f l ≡ member-record s m f l
-unfolding member-record
-member-record-same s s′ m f [] a = refl
-member-record-same s s′ m f (j ∷ l) a = ap₂ (λ x y. cond (eqb x f) j y) (sym (a .0)) (member-record-same s s′ m f l (a .1))
-
 -- ---- one more
 
 -- The words of s′ are those of s with the membership i of entry e at the front of the chain l of descriptor d.
@@ -183,38 +136,8 @@ module _ (s s′ : List ℕ) (m d i e : ℕ) (l : List ℕ) (A : MemberAdded s s
   added-chained =
       subst (λ x. Chained s′ m x (i ∷ l)) (sym (A .first)) (chain-push s s′ m i (wordOf s m d 6) l was (all-as (λ j p. (p .0, tt)) l (A .others)) (A .next) some)
 
-  pub added-entries : member-entries s′ m (i ∷ l) ≡ e ∷ member-entries s m l
-  added-entries = ap₂ (λ x k. x ∷ k) (A .entry) (member-entries-same s s′ m l (all-as (λ j p. p .1 .0) l (A .others)))
-
-  pub added-chain : (r : ℕ) → length l < r → member-chain s′ m r d ≡ i ∷ l
-  added-chain r h = chain-is s′ m r (wordOf s′ m d 6) (i ∷ l) added-chained h
-
-  -- The descriptor has the entry as one more member.
-  pub added-desc : (r : ℕ) → length l < r → desc-at s′ m r d ≡ group-desc (with-member e) (desc-at s m r d)
-  added-desc r h =
-      members-desc s s′ m r d (with-member e) (A .desc)
-      (ap (λ k. gather (member-entries s′ m k)) (added-chain r h) ∙ ap gather added-entries
-      ∙ ap (λ k. with-member e (gather (member-entries s m k))) (sym (chain-is s m r (wordOf s m d 6) l was (omega (arith, h)))))
-
-  -- Its record is the membership of its entry.
-  pub added-record : (r f : ℕ) → length l < r → member-record s′ m f (member-chain s′ m r d) ≡ cond (eqb e f) i (member-record s m f (member-chain s m r d))
-  unfolding member-record
-  added-record r f h =
-      ap (member-record s′ m f) (added-chain r h)
-      ∙ ap₂ (λ x y. cond (eqb x f) i y) (A .entry)
-      (member-record-same s s′ m f l (all-as (λ j p. p .1 .0) l (A .others)) ∙ ap (member-record s m f) (sym (chain-is s m r (wordOf s m d 6) l was (omega (arith, h)))))
-
   pub added-linked : Once l → Linked s m 0 l → Linked s′ m 0 (i ∷ l)
   added-linked o k = (A .before, linked-behind s s′ m (wordOf s m d 6) i 0 l was o (A .befores) k)
-
-  pub added-group : (r : ℕ) → length l < r → Once l → Linked s m 0 l → Apart e (member-entries s m l) → Once (member-entries s m l) → Group s′ m r d
-  added-group r h o k n u =
-      let c = sym (added-chain r h) in
-      record {
-        ends = subst (Chained s′ m (wordOf s′ m d 6)) c added-chained;
-        once = subst (λ x. Once (member-entries s′ m x)) c (subst Once (sym added-entries) (n, u));
-        linked = subst (Linked s′ m 0) c (added-linked o k);
-      }
 
 -- It is so if of the chain only the old first one is another record, and that one by its word 1 alone.
 pub added-from : (s s′ : List ℕ) (m d i e : ℕ) (l : List ℕ) → Chained s m (wordOf s m d 6) l → SameWords s s′ m (1 ∷ 2 ∷ 3 ∷ 4 ∷ 5 ∷ []) d → wordOf s′ m d 6 ≡ i
@@ -363,31 +286,6 @@ module _ (s s′ : List ℕ) (m d i : ℕ) (a b : List ℕ) (was : Chained s m (
           let k = same-words s s′ m (0 ∷ 1 ∷ 2 ∷ []) j (g u v) in
           (sym (k .0) ∙ sym (at-other j p n (wordOf s m j 0) u), sym (k .1 .0) ∙ sym (at-other j n p (wordOf s m j 1) v), k .1 .1 .0)
 
--- By which record an entry is a member: none, if it is no record's; and a membership of another entry does not matter.
-pub member-record-none : (s : List ℕ) (m f : ℕ) (l : List ℕ) → Apart f (member-entries s m l) → member-record s m f l ≡ 0
-unfolding member-record
-member-record-none s m f [] n = refl
-member-record-none s m f (j ∷ l) n = rw (ne-eqb (wordOf s m j 2) f (λ e. n .0 (sym e))) (member-record-none s m f l (n .1))
-
-pub member-record-other : (s : List ℕ) (m f : ℕ) (a : List ℕ) (i : ℕ) (b : List ℕ) → (wordOf s m i 2 ≡ f → ⊥) → member-record s m f (a ++ i ∷ b) ≡ member-record s m f (a ++ b)
-unfolding member-record
-member-record-other s m f [] i b n = rw (ne-eqb (wordOf s m i 2) f n) refl
-member-record-other s m f (j ∷ a) i b n = ap (λ x. cond (eqb (wordOf s m j 2) f) j x) (member-record-other s m f a i b n)
-
-without-record : (s : List ℕ) (m f i e : ℕ) → wordOf s m i 2 ≡ e → (a b : List ℕ) → Once (member-entries s m (a ++ i ∷ b))
-    → member-record s m f (a ++ b) ≡ cond (eqb e f) 0 (member-record s m f (a ++ i ∷ b))
-without-record s m f i e q a b u = go (ℕ-discrete e f)
-  where
-    g : ℕ → ℕ
-    g j = wordOf s m j 2
-
-    off : Apart (wordOf s m i 2) (member-entries s m (a ++ b))
-    off = subst (Apart (wordOf s m i 2)) (sym (map-append g a b)) (once-mid (member-entries s m a) (wordOf s m i 2) (member-entries s m b) (subst Once (map-append g a (i ∷ b)) u))
-
-    go : Dec (e ≡ f) → member-record s m f (a ++ b) ≡ cond (eqb e f) 0 (member-record s m f (a ++ i ∷ b))
-    go (yes z) = member-record-none s m f (a ++ b) (subst (λ x. Apart x (member-entries s m (a ++ b))) (q ∙ z) off) ∙ sym (at-one e f 0 (member-record s m f (a ++ i ∷ b)) z)
-    go (no z) = sym (at-other e f 0 (member-record s m f (a ++ i ∷ b)) z ∙ member-record-other s m f a i b (λ y. z (sym q ∙ y)))
-
 module _ (s s′ : List ℕ) (m d i : ℕ) (a b : List ℕ) (O : MemberOut s s′ m d i a b) (was : Chained s m (wordOf s m d 6) (a ++ i ∷ b)) (linked : Linked s m 0 (a ++ i ∷ b))
     (once : Once (a ++ i ∷ b)) where
   behind-some : Apart 0 b
@@ -407,39 +305,3 @@ module _ (s s′ : List ℕ) (m d i : ℕ) (a b : List ℕ) (O : MemberOut s s�
   out-linked =
       out-links s s′ m i b 0 (wordOf s m d 6) a was linked once
       (subst (λ z. All (λ j. wordOf s′ m j 1 ≡ cond (eqb j (wordOf s m i 0)) z (wordOf s m j 1)) (a ++ b)) (linked-last s m 0 a i b linked) (O .befores))
-
-  pub out-entries : member-entries s′ m (a ++ b) ≡ member-entries s m (a ++ b)
-  out-entries = member-entries-same s s′ m (a ++ b) (O .entries)
-
-  pub out-chain : (r : ℕ) → length (a ++ i ∷ b) ≤ r → member-chain s′ m r d ≡ a ++ b
-  out-chain r h = chain-is s′ m r (wordOf s′ m d 6) (a ++ b) out-chained (omega (arith, h, length-append a (i ∷ b), length-append a b))
-
-  -- The descriptor has one member less: the entry of the membership, which no other one lists.
-  pub out-desc : (r e : ℕ) → length (a ++ i ∷ b) ≤ r → wordOf s m i 2 ≡ e → Once (member-entries s m (a ++ i ∷ b)) → desc-at s′ m r d ≡ group-desc (without-member e) (desc-at s m r d)
-  out-desc r e h q u =
-      let f : ℕ → ℕ = λ j. wordOf s m j 2 in
-      let A = member-entries s m a in
-      let B = member-entries s m b in
-      let w : member-entries s m (a ++ i ∷ b) ≡ A ++ e ∷ B = map-append f a (i ∷ b) ∙ ap (λ x. A ++ x ∷ B) q in
-      members-desc s s′ m r d (without-member e) (O .desc)
-      (ap (λ k. gather (member-entries s′ m k)) (out-chain r h) ∙ ap gather (out-entries ∙ map-append f a b) ∙ gather-out A e B (once-mid A e B (subst Once w u))
-      ∙ ap (λ k. without-member e (gather k)) (sym w) ∙ ap (λ k. without-member e (gather (member-entries s m k))) (sym (chain-is s m r (wordOf s m d 6) (a ++ i ∷ b) was h)))
-
-  pub out-record : (r e f : ℕ) → length (a ++ i ∷ b) ≤ r → wordOf s m i 2 ≡ e → Once (member-entries s m (a ++ i ∷ b))
-      → member-record s′ m f (member-chain s′ m r d) ≡ cond (eqb e f) 0 (member-record s m f (member-chain s m r d))
-  out-record r e f h q u =
-      ap (member-record s′ m f) (out-chain r h)
-      ∙ member-record-same s s′ m f (a ++ b) (O .entries)
-      ∙ without-record s m f i e q a b u
-      ∙ ap (λ x. cond (eqb e f) 0 (member-record s m f x)) (sym (chain-is s m r (wordOf s m d 6) (a ++ i ∷ b) was h))
-
-  pub out-group : (r : ℕ) → length (a ++ i ∷ b) ≤ r → Once (member-entries s m (a ++ i ∷ b)) → Group s′ m r d
-  out-group r h u =
-      let c = sym (out-chain r h) in
-      let f : ℕ → ℕ = λ j. wordOf s m j 2 in
-      record {
-        ends = subst (Chained s′ m (wordOf s′ m d 6)) c out-chained;
-        once = subst (λ x. Once (member-entries s′ m x)) c
-            (subst Once (sym (out-entries ∙ map-append f a b)) (once-out (member-entries s m a) (wordOf s m i 2) (member-entries s m b) (subst Once (map-append f a (i ∷ b)) u)));
-        linked = subst (Linked s′ m 0) c out-linked;
-      }

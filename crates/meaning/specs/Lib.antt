@@ -10,7 +10,3 @@ pub mod Table
 pub mod Latched
 pub mod Lens
 pub mod Grouping
-pub mod Owned
-pub mod Hole
-pub mod Naming
-pub mod Again

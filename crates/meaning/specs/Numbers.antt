@@ -1,5 +1,5 @@
 -- Lists of record numbers: what all of one have, what is not in one, what stands in one only once, and how often.
-use mathlib.Core.Path.{_≡_, refl, sym, ap, subst, _∙_}
+use mathlib.Core.Path.{_≡_, refl, sym, ap, subst}
 use mathlib.Core.Bool.{Bool, cond}
 use mathlib.Core.List.{List, [], _∷_, _++_, map}
 use mathlib.Core.Logic.{_⊎_, inl, inr}
@@ -45,11 +45,6 @@ module _ {A : Type 0} where
   pub map-all : {B : Type 0} (f : A → B) (P : B → Type 0) (l : List A) → All (λ x. P (f x)) l → All P (map f l)
   map-all f P [] p = tt
   map-all f P (x ∷ l) p = (p .0, map-all f P l (p .1))
-
-  -- Two functions that agree on a list.
-  pub map-same : {B : Type 0} (f g : A → B) (l : List A) → All (λ x. f x ≡ g x) l → map f l ≡ map g l
-  map-same f g [] p = refl
-  map-same f g (x ∷ l) p = ap (λ y. y ∷ map f l) (p .0) ∙ ap (λ y. g x ∷ y) (map-same f g l (p .1))
 
 -- ---- membership
 

@@ -1,19 +1,19 @@
 -- What the words of a store and its session table mean: a state of the machine, read from the records. Total and executable.
 use mathlib.Core.Path.{_≡_}
-use mathlib.Core.Bool.{Bool, true, false, cond, not}
-use mathlib.Core.List.{List, [], _∷_, _++_, map}
+use mathlib.Core.Bool.{false, cond, not}
+use mathlib.Core.List.{List, [], _∷_, map}
 use mathlib.Core.Option.{Option, none, some}
-use Prim.Native.Nat.{ℕ, zero, suc, _+_, _-_}
+use Prim.Native.Nat.{ℕ, zero, suc, _-_}
 use lib.Dec.{eqb}
 use lib.ListN.{length}
 use Rattle.words.specs.Store.{wordOf}
-use Rattle.words.specs.Header.{headerWord, entriesPlace, recordsPlace, rootPlace, heightPlace, firstPlace, freePlace}
+use Rattle.words.specs.Header.{headerWord, entriesPlace, recordsPlace, rootPlace, heightPlace, freePlace}
 use Rattle.words.specs.Entries.{entryWord}
 use Rattle.nodes.specs.Node.{nodeAt}
 use Rattle.nodes.specs.Entries as N
 use Rattle.sessions.specs.declared.Session.{Session}
-use Rattle.machine.specs.Tree.{T, pick, flat, mapE, leaves}
-use Rattle.machine.specs.State.{Entry, Desc, Tree, Root, Stage, start, enter, at, change, take, Request, Undo, value, added, taken, State, top, with-member}
+use Rattle.machine.specs.Tree.{T, flat, mapE, leaves}
+use Rattle.machine.specs.State.{Entry, Desc, Tree, Stage, start, enter, at, change, take, Request, Undo, value, added, taken, State, top, with-member}
 use Rattle.machine.specs.State as M
 
 -- ---- chains

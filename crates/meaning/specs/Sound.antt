@@ -5,14 +5,14 @@ use mathlib.Core.Path.{_≡_}
 use mathlib.Core.Bool.{Bool, true, false, cond}
 use mathlib.Core.List.{List, [], _∷_, _++_, map}
 use mathlib.Core.Logic.{_⊎_}
-use Prim.Native.Nat.{ℕ, zero, suc, _+_, _-_, _≤_, _<_}
+use Prim.Native.Nat.{ℕ, zero, suc, _≤_}
 use lib.Dec.{eqb}
 use lib.ListN.{length}
 use Rattle.words.specs.Store.{wordOf}
 use Rattle.words.specs.Header.{headerWord, heightPlace, firstPlace, freePlace}
 use Rattle.sessions.specs.declared.Session.{Session}
 use Rattle.sessions.specs.Sessions.{session-at}
-use Rattle.machine.specs.Tree.{pick, flat, leaves}
+use Rattle.machine.specs.Tree.{pick, leaves}
 use Rattle.machine.specs.Holders.{width, latch-word}
 use Rattle.machine.specs.Calls.{records-for}
 use Rattle.machine.specs.Sound as M

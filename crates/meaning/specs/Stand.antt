@@ -3,13 +3,11 @@ use mathlib.Core.Path.{_≡_, refl, sym, ap, subst, _∙_}
 use mathlib.Core.List.{List, [], _∷_, _++_}
 use Prim.Native.Nat.{ℕ, zero, suc, _+_, _-_, _≤_}
 use native.Mathlib.Omega.{arith}
-use mathlib.Core.Bool.{cond}
-use lib.Dec.{leb, eqb}
 use borrow.Author.Tests.{eq-eqb, ne-eqb}
 use Rattle.words.specs.Store.{wordOf}
 use Rattle.nodes.specs.Node.{nodeAt}
 use Rattle.nodes.specs.Entries as N
-use Rattle.machine.specs.Tree.{mapE, pick, pick-hit, Seg, Hit, hit}
+use Rattle.machine.specs.Tree.{mapE, pick-hit, Seg, Hit, hit}
 use Rattle.machine.specs.Order.{Ord}
 use Rattle.meaning.specs.Reading.{Numbered, read-sons, read-tree, erase}
 use Rattle.meaning.specs.Sound.{number-at}
@@ -28,18 +26,6 @@ number-fill {k} x here u w = rw (eq-eqb (suc k) (suc k) refl) refl
 number-fill {k} x (under {h = h} v pre c b post) u w =
     rw (ne-eqb (suc h) (suc k) (λ e. omega (arith, e, ctx-height c)))
     (pick-hit x 0 (number-at (suc k) x h) pre (fill c u) b post (w .0) (w .1) ∙ number-fill x c u (w .2))
-
--- A tree in the hole with the same records on the path leaves all on it as they are.
-pick-swap : {A B : Type 0} (x : ℕ) (z : B) (g : A → B) (pre : List (A × ℕ)) (a a′ : A) (b : ℕ) (post : List (A × ℕ)) → g a ≡ g a′
-    → pick x z g (pre ++ (a, b) ∷ post) ≡ pick x z g (pre ++ (a′, b) ∷ post)
-pick-swap x z g [] a a′ b post e = ap (λ y. cond (leb x b) y (pick x z g post)) e
-pick-swap x z g (p ∷ pre) a a′ b post e = ap (λ y. cond (leb x (p .1)) (g (p .0)) y) (pick-swap x z g pre a a′ b post e)
-
-pub number-same : (j x : ℕ) {k h : ℕ} (c : NCtx k h) (u u′ : Numbered k) → number-at j x k u ≡ number-at j x k u′ → number-at j x h (fill c u) ≡ number-at j x h (fill c u′)
-unfolding number-at
-number-same j x here u u′ e = e
-number-same j x (under {h = h} v pre c b post) u u′ e =
-    ap (λ y. cond (eqb (suc h) j) (v .num) y) (pick-swap x 0 (number-at j x h) pre (fill c u) (fill c u′) b post (number-same j x c u u′ e))
 
 -- ---- the path
 

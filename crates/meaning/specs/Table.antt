@@ -1,13 +1,13 @@
--- The session table: each party's session is read from its record, and a record that is replaced replaces that session alone.
+-- The session table: each party's session is read from its record.
 use mathlib.Core.Path.{_≡_, refl, sym, ap, _∙_}
 use mathlib.Core.List.{List, [], _∷_}
 use Prim.Native.Nat.{ℕ, zero, suc, _+_, _<_}
 use native.Mathlib.Omega.{arith}
-use lib.ListN.{length, getD, set}
+use lib.ListN.{length, getD}
 use Rattle.sessions.specs.declared.Session.{Session}
 use Rattle.sessions.specs.Sessions.{session-at}
 use Rattle.machine.specs.Holders.{width}
-use Rattle.machine.specs.State.{sessionOf, on-session, idle, with-table}
+use Rattle.machine.specs.State.{sessionOf, idle}
 use Rattle.machine.specs.Sound as S
 use Rattle.meaning.specs.Reading.{session-of, sessions-of, M-of, R-of, meaning}
 
@@ -23,14 +23,6 @@ module _ (s : List ℕ) (m r : ℕ) where
       let e : suc q + p ≡ q + suc p = omega arith in
       sessions-get (suc q) p t (omega (arith, l)) ∙ ap (λ n. session-of s m r n (session-at t p)) e
 
-  pub sessions-set : (q p : ℕ) (t : List Session) (x : Session) → sessions-of s m r q (set t p x) ≡ set (sessions-of s m r q t) p (session-of s m r (q + p) x)
-  sessions-set q zero [] x = refl
-  sessions-set q (suc p) [] x = refl
-  sessions-set q zero (y ∷ t) x = let e : q ≡ q + 0 = omega arith in ap (λ n. session-of s m r n x ∷ sessions-of s m r (suc q) t) e
-  sessions-set q (suc p) (y ∷ t) x =
-      let e : suc q + p ≡ q + suc p = omega arith in
-      ap (λ l. session-of s m r q y ∷ l) (sessions-set (suc q) p t x ∙ ap (λ n. set (sessions-of s m r (suc q) t) p (session-of s m r n x)) e)
-
 module _ (s : List ℕ) (t : List Session) where
   -- A party's session is read from its record.
   pub session-is : (p : ℕ) → p < length t → sessionOf p (meaning s t) ≡ session-of s (M-of s) (R-of s) p (session-at t p)
@@ -42,10 +34,3 @@ module _ (s : List ℕ) (t : List Session) where
   pub table-many : S.Sound (meaning s t) → length t ≡ suc width
   unfolding meaning
   table-many A = sym (sessions-many s (M-of s) (R-of s) 0 t) ∙ A .seats
-
-  -- A session record is replaced.
-  pub put-session : (p : ℕ) (x : Session) → meaning s (set t p x) ≡ on-session p (λ _. session-of s (M-of s) (R-of s) p x) (meaning s t)
-  unfolding meaning on-session
-  put-session p x =
-      let e : 0 + p ≡ p = omega arith in
-      ap (λ l. with-table l (meaning s t)) (sessions-set s (M-of s) (R-of s) 0 p t x ∙ ap (λ n. set (sessions-of s (M-of s) (R-of s) 0 t) p (session-of s (M-of s) (R-of s) n x)) e)

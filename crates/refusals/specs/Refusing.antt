@@ -1,20 +1,20 @@
 -- The refusals of each call as they are read from the session table, in document 01's order: the first number whose test is true, 0 if none is.
-use mathlib.Core.Path.{_≡_, refl, sym, ap, ap₂, subst, _∙_}
+use mathlib.Core.Path.{_≡_, refl, sym, ap, _∙_}
 use mathlib.Core.Bool.{Bool, true, false, cond, not, _&&_, _||_}
-use mathlib.Core.List.{List, [], _∷_, _++_}
-use mathlib.Core.Option.{Option, none, some}
-use Prim.Native.Nat.{ℕ, zero, suc, _≤_, _<_}
+use mathlib.Core.List.{List, [], _∷_}
+use mathlib.Core.Option.{none}
+use Prim.Native.Nat.{ℕ, zero, suc, _<_}
 use native.Mathlib.Omega.{arith}
 use lib.Dec.{eqb, leb, ltb, eqb·suc-zero}
 use lib.ListN.{length}
-use borrow.Author.Tests.{eq-eqb, ne-eqb}
+use borrow.Author.Tests.{ne-eqb}
 use Rattle.sessions.specs.declared.Session.{Session}
 use Rattle.sessions.specs.Sessions.{session-at}
 use Rattle.machine.specs.Logic.{leb-not}
 use Rattle.machine.specs.Holders.{width}
-use Rattle.machine.specs.State.{State, Outcome, refused, sessionOf}
+use Rattle.machine.specs.State.{State, Outcome, refused}
 use Rattle.machine.specs.Steps.{answer}
-use Rattle.machine.specs.Calls.{refusing, has-begun, in-hand, is-some, no-party, no-session, bad-code, bad-entry, bad-key, request-checks, put-checks, step-checks, begin-checks, commit-checks, abort-checks}
+use Rattle.machine.specs.Calls.{refusing, has-begun, in-hand, is-some, no-party, no-session, bad-code, bad-key, put-checks, step-checks, begin-checks, commit-checks, abort-checks}
 use Rattle.meaning.specs.Reading.{hand-of, M-of, meaning}
 use Rattle.meaning.specs.Sound.{Sound}
 use Rattle.meaning.specs.Parts.{entries-are, entries-many}

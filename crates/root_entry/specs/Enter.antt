@@ -14,12 +14,11 @@ use Rattle.nodes.specs.Entries.{son-here}
 use Rattle.sessions.specs.declared.Session.{Session}
 use Rattle.sessions.specs.Sessions.{session-at}
 use Rattle.serial.specs.Serial.{true≢false}
-use Rattle.serial.specs.Calls as C
 use Rattle.outcomes.specs.Said.{Stepped, said}
 use Rattle.machine.specs.Logic.{eqb-is, eqb-not, eqb-no, leb-yes}
 use Rattle.machine.specs.Tree.{mapE}
 use Rattle.machine.specs.Holders.{width, latch-word, elem, latch-blockers}
-use Rattle.machine.specs.State.{State, Tree, Root, Request, Outcome, top, enter, at, refused}
+use Rattle.machine.specs.State.{State, Root, Request, Outcome, top, enter, at, refused}
 use Rattle.machine.specs.Descent.{lone}
 use Rattle.machine.specs.Steps.{answer, ended, goes-on, guarded, fills, whole-root, halved-root, enter-step, next-step}
 use Rattle.machine.specs.Parts.{Free}

@@ -20,7 +20,7 @@ use Rattle.sessions.specs.declared.Session.{Session}
 use Rattle.machine.specs.Logic.{eqb-is, eqb-not, eqb-yes, eqb-no, leb-yes}
 use Rattle.machine.specs.Tree.{mapE}
 use Rattle.machine.specs.Holders.{latch-word, elem, latch-blockers}
-use Rattle.machine.specs.State.{Tree, top}
+use Rattle.machine.specs.State.{top}
 use Rattle.machine.specs.Descent.{lone}
 use Rattle.machine.specs.Parts.{Free}
 use Rattle.machine.specs.Sound.{times}

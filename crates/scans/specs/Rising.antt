@@ -21,14 +21,6 @@ Rising (x ∷ l) = Least x l
 
 -- ---- one entry put in
 
-pub raise-first : (e x : ℕ) (l : List ℕ) → e ≤ x → raise e (x ∷ l) ≡ e ∷ x ∷ l
-unfolding raise
-raise-first e x l h = simp (le-leb e x h)
-
-pub raise-next : (e x : ℕ) (l : List ℕ) → x < e → raise e (x ∷ l) ≡ x ∷ raise e l
-unfolding raise
-raise-next e x l h = simp (lt-leb e x h)
-
 pub length-raise : (e : ℕ) (l : List ℕ) → length (raise e l) ≡ suc (length l)
 unfolding raise
 length-raise e [] = refl
@@ -55,11 +47,6 @@ raise-rising e (x ∷ l) r = go (leb e x) refl
     go : (b : Bool) → leb e x ≡ b → Rising (cond b (e ∷ x ∷ l) (x ∷ raise e l))
     go true q = (leb-true e x q, r)
     go false q = raise-least x e l (let z : x < e = leb-false e x q in omega arith) r
-
-pub rising-rises : (l : List ℕ) → Rising (rising l)
-unfolding rising Rising
-rising-rises [] = tt
-rising-rises (e ∷ l) = raise-rising e (rising l) (rising-rises l)
 
 pub length-rising : (l : List ℕ) → length (rising l) ≡ length l
 unfolding rising

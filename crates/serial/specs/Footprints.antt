@@ -1,6 +1,5 @@
 -- What each request of the logical model depends on and changes, item by item, and the model as one that the serial-run theorem speaks of.
 use mathlib.Core.Path.{_≡_, refl, sym, _∙_, ap, subst}
-use mathlib.Core.List.{List, [], _∷_}
 use Prim.Native.Nat.{ℕ, _-_}
 use native.Mathlib.Decide.{ℕ-discrete}
 use lib.ListN.{length}

@@ -5,7 +5,6 @@ pub mod Footprints
 pub mod Locks
 pub mod LockMachine
 pub mod Calls
-pub mod Answers
 pub mod Example
 pub mod ExampleLaws
 pub mod Traces

@@ -1,6 +1,6 @@
 -- Document 01's logical model: a value for each entry, at first 0, and a set of memberships (key, entry), at first empty.
 -- Fed a request, it answers and changes as codes 1 to 5 say. It knows no locks, no sessions and no tree.
-use mathlib.Core.Path.{_≡_, refl, sym}
+use mathlib.Core.Path.{_≡_, sym}
 use mathlib.Core.List.{List, [], _∷_}
 use mathlib.Core.Logic.{_⊎_, inl, inr}
 use mathlib.Core.Option.{Option, none, some}

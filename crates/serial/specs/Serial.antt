@@ -2,10 +2,9 @@
 use mathlib.Core.Path.{_≡_, refl, sym, _∙_, ap, subst}
 use mathlib.Core.Bool.{Bool, true, false}
 use mathlib.Core.List.{List, [], _∷_, _++_, map}
-use mathlib.Core.Logic.{_⊎_, inl, inr}
-use Prim.Native.Nat.{ℕ, suc, _+_, _≤_, _<_}
+use mathlib.Core.Logic.{_⊎_}
+use Prim.Native.Nat.{ℕ}
 use native.Mathlib.Decide.{ℕ-discrete}
-use native.Mathlib.Omega.{arith}
 
 -- A logical model: databases read item by item, and requests with an effect and an answer.
 pub record Model : Type 1 where
@@ -157,9 +156,6 @@ module _ (𝓜 : Model) where
 
   agree-trans : (touched : Item → Bool) (d e f : Db) → AgreeOn touched d e → AgreeOn touched e f → AgreeOn touched d f
   agree-trans touched d e f h k i t = h i t ∙ k i t
-
-  agree-sym : (touched : Item → Bool) (d e : Db) → AgreeOn touched d e → AgreeOn touched e d
-  agree-sym touched d e h i t = sym (h i t)
 
   -- A cover at one database is one at any other that agrees on what is held.
   pub covered-agree : (touched changed : Item → Bool) → ((i : Item) → changed i ≡ true → touched i ≡ true) → (r : Req) (d e : Db) → Good e → AgreeOn touched d e
@@ -720,58 +716,3 @@ module _ (𝓜 : Model) where
   -- The theorem: every run of the lock machine from a fresh state.
   pub serializable : (d₀ : Db) → Good d₀ → (σ τ : State) (es : List Event) → Fresh d₀ σ → Run σ es τ → Demand d₀ (hist none-yet es) τ
   serializable d₀ g σ τ es f r = inv-demand d₀ (hist none-yet es) τ (inv-run d₀ none-yet r (inv-fresh d₀ g σ f))
-
-  -- Each abort of an unfinished session is accepted.
-  abbrev pub aborted : State → ℕ → State
-  aborted σ s = record {
-    db = undo (σ .log s) (σ .db);
-    begun = put (σ .begun) s false;
-    touches = put (σ .touches) s (λ i. false);
-    changes = put (σ .changes) s (λ i. false);
-    log = put (σ .log) s [];
-  }
-
-  pub abort-accepted : (σ : State) (s : ℕ) → σ .begun s ≡ true → Aborts s σ (aborted σ s)
-  abort-accepted σ s b = record {
-    ends = record {
-      was = b;
-      now = put-same (σ .begun) s false;
-      touches-off = λ i. ap (λ f. f i) (put-same (σ .touches) s (λ i. false));
-      changes-off = λ i. ap (λ f. f i) (put-same (σ .changes) s (λ i. false));
-      log-off = put-same (σ .log) s [];
-      others = λ t n. record {
-        touches-kept = λ i. ap (λ f. f i) (put-other (σ .touches) s (λ i. false) t n);
-        changes-kept = λ i. ap (λ f. f i) (put-other (σ .changes) s (λ i. false) t n);
-        log-kept = put-other (σ .log) s [] t n;
-      };
-      begun-others = λ t n. put-other (σ .begun) s false t n;
-    };
-    db-undone = λ i. refl;
-  }
-
-  -- Any list of the unfinished sessions, each once, can be aborted in that order, and then none is unfinished.
-  pub abort-all : (ss : List ℕ) (σ : State) → Distinct ss → ((s : ℕ) → In s ss → σ .begun s ≡ true) → ((s : ℕ) → σ .begun s ≡ true → In s ss)
-      → (τ : State) × Run σ (map abort ss) τ × ((t : ℕ) → τ .begun t ≡ false)
-  abort-all [] σ d h k = (σ, stop, λ t. not-true (σ .begun t) (k t))
-  abort-all (s ∷ ss) σ d h k =
-      let q = abort-all ss (aborted σ s) (d .1)
-      (λ u m. put-other (σ .begun) s false u (λ e. d .0 (subst (λ x. In x ss) (sym e) m)) ∙ h u (inr m))
-      (λ u b. left u b (ℕ-discrete s u)) in
-      (q .0, next (abort-accepted σ s (h s (inl refl))) (q .1), q .2)
-    where
-      tail-of : (u : ℕ) → ¬ (s ≡ u) → In u (s ∷ ss) → In u ss
-      tail-of u n (inl e) = absurd (n (sym e))
-      tail-of u n (inr m) = m
-
-      left : (u : ℕ) → put (σ .begun) s false u ≡ true → Dec (s ≡ u) → In u ss
-      left u b (yes e) = absurd (true≢false b (subst (λ x. put (σ .begun) s false x ≡ false) e (put-same (σ .begun) s false)))
-      left u b (no n) = tail-of u n (k u (sym (put-other (σ .begun) s false u n) ∙ b))
-
-  -- Runs join, and so do their histories: one call of the store may be several events.
-  pub run-append : {σ ρ τ : State} {es fs : List Event} → Run σ es ρ → Run ρ fs τ → Run σ (es ++ fs) τ
-  run-append stop q = q
-  run-append (next p r) q = next p (run-append r q)
-
-  pub hist-append : (h : Hist) (es fs : List Event) → hist h (es ++ fs) ≡ hist (hist h es) fs
-  hist-append h [] fs = refl
-  hist-append h (e ∷ es) fs = hist-append (hstep e h) es fs

@@ -6,6 +6,8 @@
 // How many parties there are: the sessions and the housekeeper.
 pub const PARTIES: usize = 17;
 
+// In memory: its 13 words in this order, as a C program lends them.
+#[repr(C)]
 pub struct Session {
     // Not 0: the session is begun. Unused for party 0.
     pub begun: u32,

@@ -5,7 +5,6 @@ use mathlib.Core.List.{List, [], _∷_}
 use Prim.Native.Nat.{ℕ, zero, suc, _+_, _-_, _≤_, _<_}
 use native.Mathlib.Decide.{ℕ-discrete}
 use native.Mathlib.Omega.{arith}
-use lib.Dec.{eqb}
 use lib.ListN.{length, set, length-set}
 use borrow.Author.Tests.{eq-eqb, ne-eqb, eqb-true}
 use Rattle.words.specs.Store.{wordOf}
@@ -41,10 +40,6 @@ module _ (s : List ℕ) (m : ℕ) where
   along-chained i [] c = c
   along-chained i (j ∷ l) c = (c .0, c .1, along-chained (wordOf s m i 0) l (c .2))
 
-  -- There is at most one chain from a record on.
-  pub chained-same : (i : ℕ) (l k : List ℕ) → Chained s m i l → Chained s m i k → l ≡ k
-  chained-same i l k a b = along-same (next-in s m) i l k (chained-along i l a) (chained-along i k b)
-
   chain-stops : (n i : ℕ) → i ≡ 0 → chain s m n i ≡ []
   unfolding chain
   chain-stops zero i e = refl
@@ -60,15 +55,6 @@ module _ (s : List ℕ) (m : ℕ) where
   chain-is zero i (j ∷ l) c h = absurd (omega (arith, h))
   chain-is (suc n) i (j ∷ l) c h =
       chain-goes n i (c .1) ∙ ap (λ x. x ∷ chain s m n (wordOf s m i 0)) (c .0) ∙ ap (λ x. j ∷ x) (chain-is n (wordOf s m i 0) l (c .2) (omega (arith, h)))
-
-  pub chain-most : (n i : ℕ) → length (chain s m n i) ≤ n
-  unfolding chain
-  chain-most zero i = omega arith
-  chain-most (suc n) i = go (eqb i 0) (chain-most n (wordOf s m i 0))
-    where
-      go : (b : Bool) → length (chain s m n (wordOf s m i 0)) ≤ n → length (cond b [] (i ∷ chain s m n (wordOf s m i 0))) ≤ suc n
-      go true h = omega arith
-      go false h = omega (arith, h)
 
 -- ---- the walk
 

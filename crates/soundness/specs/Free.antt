@@ -1,30 +1,24 @@
 -- The last pass of the test: with `left` records not yet met, the free chain is gone along and nothing is left exactly if it ends, its records were not
 -- yet met, and it has `left` of them.
 use mathlib.Core.Path.{_≡_, refl, sym, ap, subst, _∙_}
-use mathlib.Core.Bool.{Bool, true, false, _&&_}
+use mathlib.Core.Bool.{Bool, true, _&&_}
 use mathlib.Core.List.{List, [], _∷_}
 use Prim.Native.Nat.{ℕ, _<_}
 use native.Mathlib.Omega.{arith}
 use lib.Dec.{eqb}
 use lib.ListN.{length, set}
-use borrow.Author.Tests.{eq-eqb, eqb-true}
+use borrow.Author.Tests.{eqb-true}
 use Rattle.meaning.specs.Reading.{chain, Chained}
 use Rattle.marks.specs.Steps.{both}
 use Rattle.marks.specs.Trail.{Turn, turn, Trail, ends, chainOf}
-use Rattle.soundness.specs.Marking.{mark-all, Fresh, once-most}
-use Rattle.soundness.specs.Chains.{next-in, chain-is, Turns, chained-found, chained-walks}
+use Rattle.soundness.specs.Marking.{mark-all, Fresh}
+use Rattle.soundness.specs.Chains.{next-in, Turns, chained-found, chained-walks}
 
 -- The chain from record i on is whole, and has all the records that are left.
 pub record Rest (s : List ℕ) (m r : ℕ) (seen : List ℕ) (i left : ℕ) : Type 0 where
   pub chained : Chained s m i (chain s m r i)
   pub fresh : Fresh seen r (chain s m r i)
   pub many : length (chain s m r i) ≡ left
-
-pub rest-of : (s : List ℕ) (m r : ℕ) (seen : List ℕ) (i left : ℕ) (l : List ℕ) → Chained s m i l → Fresh seen r l → length l ≡ left → Rest s m r seen i left
-rest-of s m r seen i left l c f e = record { chained = subst (Chained s m i) q c; fresh = subst (Fresh seen r) q f; many = ap length (sym q) ∙ e }
-  where
-    q : l ≡ chain s m r i
-    q = sym (chain-is s m r i l c (once-most r l (f .inside) (f .once)))
 
 -- A walk went well, and nothing is left.
 abbrev pub spent : {A : Type 0} → Trail A → Bool
@@ -54,6 +48,3 @@ module _ {A : Type 0} (f : List ℕ → A → ℕ → Turn A) (idle : Idle A f) 
     rest-walks d =
         chained-walks s m r kind f seen a i left (chain s m r i) a (d .chained) (d .fresh) (omega (arith, d .many)) (idle-turns kind seen a (chain s m r i))
         ∙ ap (λ (n : ℕ). ends true n (mark-all seen (chain s m r i) kind) a) (omega (arith, d .many))
-
-    pub rest-spent : Rest s m r seen i left → spent (chainOf (next-in s m) r kind f seen a i left) ≡ true
-    rest-spent d = ap spent (rest-walks d) ∙ eq-eqb 0 0 refl

@@ -1,7 +1,7 @@
 -- The holders of groups, by the words of the descriptors and as the machine sees them: each descriptor's words fit exactly if only begun sessions hold a
 -- key or a gap, no two holders conflict, and each locate holds what it has passed.
 use mathlib.Core.Path.{_≡_, refl, sym, ap, subst, _∙_}
-use mathlib.Core.Bool.{Bool, true, false, cond, false≢true}
+use mathlib.Core.Bool.{Bool, true, cond, false≢true}
 use mathlib.Core.List.{List, [], _∷_, map}
 use mathlib.Core.Logic.{_⊎_, inl, inr}
 use Prim.Native.Nat.{ℕ, suc, _+_, _-_, _≤_, _<_}
@@ -354,16 +354,6 @@ module _ (s : List ℕ) (m r begun : ℕ) (t : List Session) (tally : List ℕ) 
   each-held (d ∷ ds) h c = (held-one d (next-key s m ds) (subst (DescHeld begun t (desc-at s m r d)) (sym (next-same ds)) (h .0)) (c .0), each-held ds (h .1) (c .1))
 
 -- ---- pins
-
--- A key that is not stored has no pins.
-pub unstored-pins : (k : ℕ) (l : List Desc) → stored-in k l ≡ false → pins-in k l ≡ 0
-unfolding stored-in pins-in
-unstored-pins k [] h = refl
-unstored-pins k (x ∷ l) h = go (eqb (x .key) k) h (unstored-pins k l)
-  where
-    go : (b : Bool) → cond b true (stored-in k l) ≡ false → (stored-in k l ≡ false → pins-in k l ≡ 0) → cond b (x .pins) (pins-in k l) ≡ 0
-    go true e ih = absurd (false≢true (sym e))
-    go false e ih = ih e
 
 -- A stored key has the pins of its descriptor.
 pins-each : (lo e : ℕ) (l : List Desc) → Rises lo e l → All (λ d. (lo ≤ d .key) × (pins-in (d .key) l ≡ d .pins)) l

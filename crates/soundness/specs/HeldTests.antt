@@ -102,10 +102,6 @@ begun-test : (x : Session) → (isBegun x ≡ true) ↔ ((x .begun ≡ 0) → �
 unfolding isBegun
 begun-test x = (λ e. eqb-false (x .begun) 0 (not-true (eqb (x .begun) 0) e), λ n. ap not (ne-eqb (x .begun) 0 n))
 
-pub begun-is : (t : List Session) (p : ℕ) → (holds (begunMask t) p ≡ true) ↔ ((1 ≤ p) × (p ≤ width) × (session-at t p .begun ≡ 0 → ⊥))
-unfolding begunMask
-begun-is t p = sessions-that isBegun (λ x. x .begun ≡ 0 → ⊥) begun-test t p
-
 pub begun-less : (t : List Session) → begunMask t < 2 ^ word-bits
 unfolding begunMask
 begun-less t = sessions-less isBegun t

@@ -1,19 +1,17 @@
 -- One group of the test: its members and its undo records. The stamps of the test say, for each entry, by which record the group lists it.
 use mathlib.Core.Path.{_≡_, refl, sym, ap, subst, _∙_}
-use mathlib.Core.Bool.{Bool, true, false, cond, not, _&&_}
-use mathlib.Core.List.{List, [], _∷_, _++_, map}
-use mathlib.Core.Logic.{_⊎_, inl, inr}
-use Prim.Native.Nat.{ℕ, zero, suc, _+_, _-_, _≤_, _<_}
+use mathlib.Core.Bool.{Bool, true, false, cond, not}
+use mathlib.Core.List.{List, [], _∷_}
+use Prim.Native.Nat.{ℕ, zero, suc, _+_, _≤_}
 use native.Mathlib.Decide.{ℕ-discrete}
 use native.Mathlib.Omega.{arith}
 use lib.Dec.{eqb, leb}
 use lib.ListN.{length, getD, set, length-set}
 use lib.Seq.{getD-set-same, getD-set-other}
 use borrow.Author.Tests.{eq-eqb, ne-eqb, le-leb, eqb-true, eqb-false, leb-true, not-true}
-use Rattle.words.specs.Store.{wordOf}
 use Rattle.groups.specs.Membership.{membershipAt}
 use Rattle.undos.specs.Undo.{undoAt}
-use Rattle.meaning.specs.Sound.{All, Apart, Once, Linked}
+use Rattle.meaning.specs.Sound.{All}
 use Rattle.marks.specs.Marks.{entryOk, membership-mark}
 use Rattle.marks.specs.Steps.{no as never, both}
 use Rattle.marks.specs.Trail.{Turn, turn, thenTurn}
@@ -230,9 +228,6 @@ module _ (s : List ℕ) (m d : ℕ) (small : m ≤ 1024) (nd : ¬ (d ≡ 0)) whe
   unfolding undoOne
   one-undone l g S i nz inside out back = go (ℕ-discrete (undoAt s m i .kind) 2)
     where
-      e : ℕ
-      e = undoAt s m i .entry
-
       go : Dec (undoAt s m i .kind ≡ 2) → Undone l g i
       go (yes q) = record {
         inside = inside;

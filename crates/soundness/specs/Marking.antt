@@ -8,11 +8,11 @@ use native.Mathlib.Decide.{ℕ-discrete}
 use native.Mathlib.Omega.{arith}
 use lib.Dec.{eqb, leb}
 use lib.ListN.{length, getD, set, length-set}
-use lib.Seq.{getD-set-same, getD-set-other, set-comm}
+use lib.Seq.{getD-set-same, getD-set-other}
 use borrow.Author.Tests.{eq-eqb, ne-eqb, le-leb, eqb-true, eqb-false, leb-true, not-true}
 use Rattle.machine.specs.Sound.{times}
 use Rattle.meaning.specs.Sound.{All, Apart, Once}
-pub use Rattle.meaning.specs.Numbers.{In, in?, not-in, apart-from, all-append, all-left, all-right, all-as, all-of, all-in, all-from, apart-append, apart-left, apart-right, once-apart, times-append, times-apart, times-in, in-times, apart-times}
+pub use Rattle.meaning.specs.Numbers.{In, in?, not-in, apart-from, all-append, all-left, all-right, all-as, all-in, all-from, apart-append, apart-left, once-apart, times-append, times-apart, times-in, in-times, apart-times}
 use Rattle.marks.specs.Marks.{Visit, isNew, meet, isMet}
 use Rattle.marks.specs.Steps.{no as never, both, met-in}
 
@@ -89,9 +89,6 @@ once-times (i ∷ l) o k = go (ℕ-discrete i k) (once-times l (o .1) k)
 pub times-once : (l : List ℕ) → ((k : ℕ) → times k l ≤ 1) → Once l
 times-once [] h = tt
 times-once (i ∷ l) h = (apart-times i l (omega (arith, h i, one-is i i refl)), times-once l (λ k. omega (arith, h k)))
-
-pub once-in : (l : List ℕ) → Once l → (k : ℕ) → In k l → times k l ≡ 1
-once-in l o k i = omega (arith, once-times l o k, times-in k l i)
 
 -- ---- as many as there are places
 
@@ -195,19 +192,6 @@ kind-after seen l kind j k nk h e = go (in? j l)
     go (inl i) = absurd (nk (sym (mark-in seen l kind j h i) ∙ e))
     go (inr a) = (a, sym (mark-other seen l kind j a) ∙ e)
 
-pub unmarked-after : (seen l : List ℕ) (kind j : ℕ) → (kind ≡ 0 → ⊥) → j < length seen → getD (mark-all seen l kind) j 0 ≡ 0 → Apart j l × (getD seen j 0 ≡ 0)
-unmarked-after seen l kind j nz = kind-after seen l kind j 0 nz
-
-mark-set : (seen l : List ℕ) (kind i k : ℕ) → Apart i l → mark-all (set seen i k) l kind ≡ set (mark-all seen l kind) i k
-mark-set seen [] kind i k a = refl
-mark-set seen (j ∷ l) kind i k a = ap (λ (x : List ℕ). mark-all x l kind) (set-comm seen i j k kind (a .0)) ∙ mark-set (set seen j kind) l kind i k (a .1)
-
--- Of two lists with nothing in common either may be marked first.
-pub mark-swap : (seen a b : List ℕ) (k n : ℕ) → ((j : ℕ) → In j a → Apart j b) → mark-all (mark-all seen a k) b n ≡ mark-all (mark-all seen b n) a k
-mark-swap seen [] b k n d = refl
-mark-swap seen (i ∷ a) b k n d =
-    mark-swap (set seen i k) a b k n (λ j h. d j (inr h)) ∙ ap (λ (x : List ℕ). mark-all x a k) (mark-set seen b n i k (d i (inl refl)))
-
 -- Exactly the records of l were marked, of whatever kinds.
 pub record Marked (seen l after : List ℕ) : Type 0 where
   pub long : length after ≡ length seen
@@ -220,21 +204,6 @@ marked-all seen l kind nz = record {
   new = λ j h i e. nz (sym (mark-in seen l kind j h i) ∙ e);
   old = λ j a. mark-other seen l kind j a;
 }
-
-pub marked-none : (seen : List ℕ) → Marked seen [] seen
-marked-none seen = record { long = refl; new = λ j h i. absurd i; old = λ j a. refl }
-
-pub marked-append : (seen a b : List ℕ) {x y : List ℕ} → Marked seen a x → Marked x b y → Marked seen (a ++ b) y
-marked-append seen a b {x} {y} p q = record {
-  long = q .long ∙ p .long;
-  new = λ j h i e. go j h e (in? j b) (in-append j a b i);
-  old = λ j c. q .old j (apart-right j a b c) ∙ p .old j (apart-left j a b c);
-}
-  where
-    go : (j : ℕ) → j < length seen → getD y j 0 ≡ 0 → In j b ⊎ Apart j b → In j a ⊎ In j b → ⊥
-    go j h e (inl i) o = q .new j (subst (λ n. j < n) (sym (p .long)) h) i e
-    go j h e (inr c) (inl i) = p .new j h i (sym (q .old j c) ∙ e)
-    go j h e (inr c) (inr i) = not-in j b c i
 
 -- ---- not yet met
 

@@ -6,22 +6,19 @@ use mathlib.Core.List.{List}
 use Prim.Native.Nat.{ℕ, _≤_}
 use native.Mathlib.Decide.{decLe}
 use native.Mathlib.Omega.{arith}
-use Rattle.words.specs.Store.{wordOf}
 use Rattle.sessions.specs.declared.Session.{Session}
 use Rattle.sessions.specs.Sessions.{session-at}
 use Rattle.machine.specs.Holders.{width}
-use Rattle.machine.specs.State.{Desc, top}
 use Rattle.machine.specs.Housekeeping.{lvs}
 use Rattle.machine.specs.Sound.{stored-in, pins-in, total, pins-by}
 use Rattle.machine.specs.Sound as M
 use Rattle.machine.specs.Looks.{pinned-stored}
-use Rattle.meaning.specs.Reading.{Leaf, M-of, R-of, meaning}
+use Rattle.meaning.specs.Reading.{Leaf, meaning}
 use Rattle.meaning.specs.Sound.{All, leaves-of, Hand}
 use Rattle.marks.specs.Steps.{no as never}
-use Rattle.soundness.specs.UndoLeaves.{descs, nums, Read, leaves-meant, leaves-read}
-use Rattle.soundness.specs.Marking.{In, all-as}
-use Rattle.soundness.specs.TreeLeaves.{each-leaf}
-use Rattle.soundness.specs.TreeKnown.{TreeKnown, leaf-low, stored-low, pins-stored, pins-leaf}
+use Rattle.soundness.specs.UndoLeaves.{descs, leaves-meant}
+use Rattle.soundness.specs.Marking.{all-as}
+use Rattle.soundness.specs.TreeKnown.{TreeKnown, stored-low, pins-stored}
 use Rattle.soundness.specs.PartyMeaning.{stands-but}
 use Rattle.soundness.specs.PartiesPass.{Requests}
 
@@ -43,15 +40,6 @@ pub match-stored : (s : List ℕ) (t : List Session) → Pins-match s t → Pins
 match-stored s t f k h = pinned-stored k (lvs (meaning s t)) (omega (arith, f k, h))
 
 module _ (s seen : List ℕ) (t : List Session) (K : TreeKnown s seen) where
-  pub match-leaves : Pins-match s t → Leaf-pins s t
-  match-leaves f = each-leaf (Read s (M-of s) (R-of s)) (λ l. l .desc .pins ≡ pinned-by s t (l .desc .key)) (leaves-of s) (leaves-read s) one
-    where
-      one : (l : Leaf) → In (l .num) (nums (leaves-of s)) → Read s (M-of s) (R-of s) l → l .desc .pins ≡ pinned-by s t (l .desc .key)
-      one l n d =
-          let e : l .desc .key ≡ wordOf s (M-of s) (l .num) 1 = ap (λ (c : Desc). c .key) d in
-          let h : l .desc .key ≤ top = omega (arith, e, leaf-low s seen K (l .num) n) in
-          sym (pins-leaf s seen K (l .desc .key) h l n d refl) ∙ sym (ap (pins-in (l .desc .key)) (leaves-meant s t)) ∙ f (l .desc .key)
-
   pub leaves-match : Leaf-pins s t → Pins-stored s t → Pins-match s t
   leaves-match a f k = ap (pins-in k) (leaves-meant s t) ∙ go (stored-in k (descs (leaves-of s))) refl
     where

@@ -12,7 +12,7 @@ use Rattle.words.specs.Header.{headerWord, rootPlace, heightPlace, firstPlace}
 use Rattle.machine.specs.Tree.{leaves}
 use Rattle.machine.specs.State.{Desc, top}
 use Rattle.machine.specs.Sound.{Shaped, stored-in}
-use Rattle.meaning.specs.Reading.{Numbered, Chained, read-tree, erase, numbers, node-numbers, height-of, M-of, R-of, tree-of}
+use Rattle.meaning.specs.Reading.{Numbered, Chained, read-tree, erase, numbers, node-numbers, height-of}
 use Rattle.meaning.specs.Sound.{All}
 use Rattle.marks.specs.Steps.{both}
 use Rattle.tree_walk.specs.TreeWalk.{Tour, tour, treeFrom, endTour, startWalk, rootTour}
@@ -151,8 +151,3 @@ module _ (s : List ℕ) (m r : ℕ) (seen order : List ℕ) (small : r ≤ 4096)
         let z : 0 + j ≡ j = omega arith in
         subst (λ (i : ℕ). getD (fill order 0 (leaf-numbers h (root-tree s m r))) i 0 ≡ getD (leaf-numbers h (root-tree s m r)) j 0) z
         (fill-in order 0 (leaf-numbers h (root-tree s m r)) j b l)
-
--- It is the tree of the store's meaning.
-pub root-means : (s : List ℕ) → root-tree s (M-of s) (R-of s) ≡ tree-of s
-unfolding tree-of
-root-means s = refl

@@ -18,7 +18,7 @@ use Rattle.machine.specs.State.{Desc, Tree}
 use Rattle.machine.specs.Order as O
 use Rattle.machine.specs.Order.{ord-in}
 use Rattle.machine.specs.Looks.{shaped-ordered}
-use Rattle.machine.specs.Sound.{LowestEnds, EndsWell, Shaped, stored-in, latch-count}
+use Rattle.machine.specs.Sound.{LowestEnds, EndsWell, Shaped, stored-in}
 use Rattle.meaning.specs.Reading.{Leaf, Mark, Numbered, read-sons, read-tree, erase, numbers, node-numbers}
 use Rattle.marks.specs.Marks.{node-mark}
 use Rattle.marks.specs.Steps.{no}
@@ -102,12 +102,6 @@ module _ (s : List ℕ) (m r : ℕ) where
   latched-same =
       sum-same (λ h t. latched-many h (erase h t)) (λ i u v. refl)
       (λ h w es fs e. ap (λ (n : ℕ). cond (eqb (w .word) 0) 0 1 + n) (sum-erase (erase h) (latched-many h) es ∙ e ∙ sym (sum-erase (erase h) (latched-many h) fs)))
-
-  pub latches-same : (x h i u v : ℕ) → latch-count x h (erase h (read-tree s m r h i u)) ≡ latch-count x h (erase h (read-tree s m r h i v))
-  unfolding latch-count erase read-tree
-  latches-same x =
-      sum-same (λ h t. latch-count x h (erase h t)) (λ i u v. refl)
-      (λ h w es fs e. ap (λ (n : ℕ). cond (eqb (w .word) x) 1 0 + n) (sum-erase (erase h) (latch-count x h) es ∙ e ∙ sym (sum-erase (erase h) (latch-count x h) fs)))
 
 -- ---- the last entry
 

@@ -15,7 +15,7 @@ use Rattle.machine.specs.Order.{ord-in, in-wide}
 use Rattle.machine.specs.Order as Order
 use Rattle.machine.specs.Sound.{Shaped, stored-in, pins-in}
 use Rattle.machine.specs.Looks.{shaped-ordered, stored-range, pins-at}
-use Rattle.meaning.specs.Reading.{Leaf, desc-at, erase, numbers, node-numbers, M-of, R-of, height-of, tree-of}
+use Rattle.meaning.specs.Reading.{Leaf, erase, numbers, node-numbers, M-of, R-of, height-of, tree-of}
 use Rattle.meaning.specs.Sound.{All, leaves-of, number-at, record-of}
 use Rattle.marks.specs.Marks.{isMet, descriptor-mark}
 use Rattle.marks.specs.Steps.{both}
@@ -24,8 +24,8 @@ use Rattle.soundness.specs.Marking.{Among, In, all-in, all-right, all-as
 use Rattle.soundness.specs.TreePaths.{leaf-number, Node-at, Known, Reads}
 use Rattle.soundness.specs.TreePaths as P
 use Rattle.soundness.specs.Leaves.{erase-leaves}
-use Rattle.soundness.specs.UndoLeaves.{descs, nums, Read, leaves-read}
-use Rattle.soundness.specs.TreeLeaves.{Split, split, stored-split, split-stored, record-at, Says, key-range, number-split, in-mid}
+use Rattle.soundness.specs.UndoLeaves.{descs, nums, leaves-read}
+use Rattle.soundness.specs.TreeLeaves.{Split, split, stored-split, split-stored, record-at, Says, number-split, in-mid}
 use Rattle.soundness.specs.TreeRecords.{leaf-in, TreeMarks, is-leaf}
 use Rattle.soundness.specs.TreeWalked.{Few}
 use Rattle.soundness.specs.RootPass.{root-tree, RootInOrder}
@@ -118,9 +118,6 @@ module _ (s seen : List ℕ) (K : TreeKnown s seen) where
       let t = erase h (tree-of s) in
       subst (Order.In 0 (suc top)) (erase-leaves h (tree-of s)) (ord-in h 0 top t (shaped-ordered h 1 0 top t (K .shaped)))
 
-  pub leaf-low : (i : ℕ) → In i (nums (leaves-of s)) → key-word s i ≤ top
-  leaf-low i n = let q = key-range (key-word s) 0 (suc top) i (leaves-of s) keys-low says n .1 in omega (arith, q)
-
   pub stored-low : (k : ℕ) → stored-in k (descs (leaves-of s)) ≡ true → k ≤ top
   stored-low k e = let q = stored-range k 0 (suc top) (descs (leaves-of s)) keys-low e .1 in omega (arith, q)
 
@@ -155,10 +152,6 @@ module _ (s seen : List ℕ) (K : TreeKnown s seen) where
 
     path-record : on-path .l .desc .key ≡ key → record-of key (leaves-of s) ≡ on-path .l .num
     path-record e = let S = on-path in ap (record-of key) (S .was) ∙ record-at key 0 (S .lo) (S .A) (S .l) (S .B) (S .low) (S .at-least) e
-
-    -- The record of a stored key is that of the descriptor on the path to it.
-    pub record-path : stored-in key (descs (leaves-of s)) ≡ true → record-of key (leaves-of s) ≡ leaf-number key (suc (height-of s)) (tree-of s)
-    record-path e = path-record (path-stored e) ∙ sym (on-path .leaf)
 
     pub record-in : stored-in key (descs (leaves-of s)) ≡ true → In (record-of key (leaves-of s)) (nums (leaves-of s))
     record-in e = subst (λ (i : ℕ). In i (nums (leaves-of s))) (sym (path-record (path-stored e))) path-in
@@ -197,16 +190,6 @@ module _ (s seen : List ℕ) (K : TreeKnown s seen) where
         let q = path-stored e in
         subst P (sym (path-pins q))
         (all-right (λ (l : Leaf). l .desc .key ≡ key → P (l .desc .pins)) (S .A) (S .l ∷ S .B) (subst (All (λ (l : Leaf). l .desc .key ≡ key → P (l .desc .pins))) (S .was) a) .0 q)
-
-    pub pins-leaf : (x : Leaf) → In (x .num) (nums (leaves-of s)) → Read s (M-of s) (R-of s) x → x .desc .key ≡ key → pins-in key (descs (leaves-of s)) ≡ x .desc .pins
-    pins-leaf x n d e =
-        let S = on-path in
-        let q = number-split (key-word s) key (x .num) (S .A) (S .l) (S .B) 0 (S .lo) (S .hi) (suc top) (S .low) (S .high) (S .at-least) (S .at-most)
-        (subst (Says (key-word s)) (S .was) says) (subst (λ (l : List Leaf). In (x .num) (nums l)) (S .was) n) (sym (ap (λ (c : Desc). c .key) d) ∙ e) in
-        path-pins (q .1) ∙ ap (λ (c : Desc). c .pins) (path-read ∙ ap (desc-at s (M-of s) (R-of s)) (sym (q .0)) ∙ sym d)
-      where
-        path-read : Read s (M-of s) (R-of s) (on-path .l)
-        path-read = let S = on-path in all-right (Read s (M-of s) (R-of s)) (S .A) (S .l ∷ S .B) (subst (All (Read s (M-of s) (R-of s))) (S .was) (leaves-read s)) .0
 
     -- ---- descriptors that are pinned
 

@@ -41,11 +41,6 @@ after-toured : (s : List ℕ) (m d : ℕ) (t : Numbered (suc d)) (v : Tour) → 
 unfolding after trace toured
 after-toured s m d t v = same-tour (ap (λ (n : ℕ). v .walk .left - n) (kinds-length (suc d) t)) refl refl refl refl refl refl
 
-pub toured-left : (s : List ℕ) (m r d least hi : ℕ) (t : Numbered (suc d)) (v : Tour) → InOrder s m r d least hi t v
-    → toured s m d t v .walk .left + length (numbers (suc d) t) ≡ v .walk .left
-unfolding toured
-toured-left s m r d least hi t v k = omega (arith, k .enough)
-
 module _ (s : List ℕ) (m r d least i hi : ℕ) (v : Tour) (some : 1 ≤ least) (b : Ready r v) where
   abbrev the : Numbered (suc d)
   the = read-tree s m r (suc d) i hi
@@ -72,7 +67,3 @@ module _ (s : List ℕ) (m r d least i hi : ℕ) (v : Tour) (some : 1 ≤ least)
         threaded = k .threaded;
       })
       ∙ after-toured s m d the v
-
-  pub tree-ok : InOrder s m r d least hi (read-tree s m r (suc d) i hi) v → treeFrom s m r d least i hi v .walk .ok ≡ true
-  unfolding toured
-  tree-ok k = ap (λ (w : Tour). w .walk .ok) (tree-walks k)

@@ -218,9 +218,6 @@ module _ (h : ℕ) (t : Numbered h) where
   has-number : (j k : ℕ) → Has j k (kinds h t) → In j (numbers h t)
   has-number j k i = subst (In j) (kinds-numbers h t) (has-in j k (kinds h t) i)
 
-  pub node-in : (j : ℕ) → In j (node-numbers h t) → In j (numbers h t)
-  node-in j i = has-number j node-mark (has-node j h t i)
-
   pub leaf-in : (j : ℕ) → In j (leaf-numbers h t) → In j (numbers h t)
   leaf-in j i = has-number j descriptor-mark (has-leaf j h t i)
 
@@ -252,13 +249,6 @@ module _ (h : ℕ) (t : Numbered h) where
         go : In j (numbers h t) ⊎ Apart j (numbers h t) → In j (node-numbers h t) ⊎ In j (leaf-numbers h t)
         go (inl i) = in-numbers j h t i
         go (inr a) = absurd (n (m .other j a ∙ z))
-
-    pub is-node : getD now j 0 ≡ node-mark → In j (node-numbers h t)
-    is-node e = go (in-tree (λ q. omega arith))
-      where
-        go : In j (node-numbers h t) ⊎ In j (leaf-numbers h t) → In j (node-numbers h t)
-        go (inl i) = i
-        go (inr i) = absurd (omega (arith, m .leaf j i))
 
     pub is-leaf : getD now j 0 ≡ descriptor-mark → In j (leaf-numbers h t)
     is-leaf e = go (in-tree (λ q. omega arith))

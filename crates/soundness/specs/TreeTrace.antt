@@ -96,10 +96,6 @@ fill-append : (order : List ℕ) (c : ℕ) (a b : List ℕ) → fill order c (a 
 fill-append order c [] b = ap (λ (n : ℕ). fill order n b) (omega arith)
 fill-append order c (i ∷ a) b = fill-append (set order c i) (c + 1) a b ∙ ap (λ (n : ℕ). fill (fill (set order c i) (c + 1) a) n b) (omega arith)
 
-pub fill-length : (order : List ℕ) (c : ℕ) (l : List ℕ) → length (fill order c l) ≡ length order
-fill-length order c [] = refl
-fill-length order c (i ∷ l) = fill-length (set order c i) (c + 1) l ∙ length-set order c i
-
 -- Outside its places nothing is changed, and at them stands the list.
 pub fill-out : (order : List ℕ) (c : ℕ) (l : List ℕ) (j : ℕ) → (j < c) ⊎ (c + length l ≤ j) → getD (fill order c l) j 0 ≡ getD order j 0
 fill-out order c [] j h = refl

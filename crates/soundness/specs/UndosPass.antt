@@ -1,9 +1,9 @@
 -- The sessions' chains of undo records: the pass over them is true exactly if each chain ends, its records were not yet met, and each record has what it
 -- needs; then the records are filed by descriptor.
 use mathlib.Core.Path.{_≡_, refl, sym, ap, subst, _∙_}
-use mathlib.Core.Bool.{Bool, true, false, cond, not, _&&_, _||_}
+use mathlib.Core.Bool.{Bool, true, false, cond, not, _&&_}
 use mathlib.Core.List.{List, [], _∷_, _++_, append-assoc}
-use mathlib.Core.Logic.{_⊎_, inl, inr}
+use mathlib.Core.Logic.{inl, inr}
 use Prim.Native.Nat.{ℕ, zero, suc, _+_, _-_, _≤_, _<_}
 use native.Mathlib.Decide.{ℕ-discrete}
 use native.Mathlib.Omega.{arith}
@@ -16,13 +16,13 @@ use Rattle.sessions.specs.declared.Session.{Session}
 use Rattle.sessions.specs.Sessions.{session-at}
 use Rattle.meaning.specs.Reading.{chain, Chained}
 use Rattle.meaning.specs.Sound.{All, Apart, Once}
-use Rattle.marks.specs.Marks.{undo-mark, descriptor-mark, isMet}
+use Rattle.marks.specs.Marks.{undo-mark, descriptor-mark}
 use Rattle.marks.specs.Steps.{no as never}
-use Rattle.marks.specs.Trail.{Turn, turn, Trail, ends, thenTrail, chainOf}
+use Rattle.marks.specs.Trail.{turn, Trail, ends, thenTrail, chainOf}
 use Rattle.undo_chains.specs.UndoChains.{groupHeld, undoOk, fileAt, fileUndo, undoTurn, undosFrom}
 use Rattle.parties.specs.Parties.{undosOf}
-use Rattle.soundness.specs.Marking.{mark-all, Fresh, Marked, marked-all, mark-append, mark-length, is-met-after, fresh-none, fresh-left, fresh-right, fresh-append, In, not-in, all-append, all-left, all-right, all-as, apart-left, apart-right, apart-append, once-left, once-right, once-apart, Among}
-use Rattle.soundness.specs.Chains.{Along, Turns, Read, chained-found, chained-walks, chain-is}
+use Rattle.soundness.specs.Marking.{mark-all, Fresh, mark-append, mark-length, is-met-after, fresh-none, fresh-left, fresh-right, fresh-append, In, not-in, all-as, apart-append}
+use Rattle.soundness.specs.Chains.{Along, Turns, Read, chained-found, chained-walks}
 use Rattle.soundness.specs.Filing.{Lists, append-to, Record, Files, file-more}
 
 -- ---- filing a list of records

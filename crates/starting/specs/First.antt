@@ -1,5 +1,5 @@
 -- The first step of a request, whatever its code, is the machine's; and the words have what the code asks for.
-use mathlib.Core.Path.{_≡_, refl, ap}
+use mathlib.Core.Path.{_≡_, refl}
 use mathlib.Core.Bool.{Bool, true, false, cond}
 use mathlib.Core.List.{List, [], _∷_}
 use Prim.Native.Nat.{ℕ, _≤_}
@@ -10,8 +10,8 @@ use Rattle.sessions.specs.declared.Session.{Session}
 use Rattle.sessions.specs.Sessions.{session-at}
 use Rattle.machine.specs.Logic.{leb-is}
 use Rattle.machine.specs.Holders.{width}
-use Rattle.machine.specs.State.{Request, State, start}
-use Rattle.machine.specs.Steps.{finished, read-step, write-step, entry-step, first-step, next-step}
+use Rattle.machine.specs.State.{State}
+use Rattle.machine.specs.Steps.{finished, read-step, write-step, entry-step, first-step}
 use Rattle.meaning.specs.Reading.{M-of}
 use Rattle.layout.specs.Layout.{means}
 use Rattle.layout.specs.Row.{Stands}
@@ -20,11 +20,6 @@ use Rattle.starting.specs.Starting.{readStep, writeStep, entryStep, tidi
 use Rattle.starting.specs.Start.{Steps, code-least, entry-ready}
 use Rattle.starting.specs.Rows.{read-moves, entry-moves, tidied-moves}
 use Rattle.starting.specs.Writing.{first-has, write-moves}
-
--- The step that is next is the first one.
-pub next-first : (n p : ℕ) (r : Request) (σ : State) → r .stage ≡ start → next-step n p r σ (r .stage) ≡ first-step p r σ
-unfolding next-step
-next-first n p r σ e = ap (next-step n p r σ) e
 
 module _ (s : List ℕ) (t : List Session) (A : Stands s t) (p : ℕ) (party : p ≤ width) (at-start : session-at t p .stage ≡ 1) where
   abbrev own : Session

@@ -57,18 +57,6 @@ pub start-stage : (x : Session) → x .stage ≡ 1 → request-in x .stage ≡ s
 unfolding request-in
 start-stage x e = rw (eq-eqb (x .stage) 1 e) refl
 
-pub request-code : (x : Session) → request-in x .code ≡ x .code
-unfolding request-in
-request-code x = refl
-
-pub request-entry : (x : Session) → request-in x .entry ≡ x .entry
-unfolding request-in
-request-entry x = refl
-
-pub request-first : (x : Session) → request-in x .first ≡ x .first
-unfolding request-in
-request-first x = refl
-
 pub idle-hand : (x : Session) → hand-of (idled x) ≡ none
 unfolding idled
 idle-hand x = refl

@@ -1,13 +1,16 @@
 // Store: the six calls over a lent store, a lent session table and, for step, a lent list.
 //
-// Each refuses a table that is not of 17 records (refusal 1), and then changes nothing. Else it loads the records, makes the call on them by value and
-// stores them back: it promises what the call by value promises, over words, table and list at entry and at exit (specs/Lent). Nothing is asked of the
-// caller. It rests on calls for the calls by value, on endings for an idle session record.
+// Each refuses a table that is not of 17 records (refusal 1), and then changes nothing. Else it loads the records, as the test of soundness reads them all,
+// and makes the call on them by value. Of the table that the call gives back begin, put, step, commit and abort store ONE record, their party's: the call
+// leaves the others as they were (specs/OneRecord). Format clears the table and stores all 17. Each promises what the call by value promises, over words,
+// table and list at entry and at exit (specs/Lent). Nothing is asked of the caller. It rests on calls for the calls by value, on refusals for a party's
+// record, on endings for an idle one.
 ghost use mathlib.Core.Path.{_≡_};
 ghost use Prim.Native.Nat.{_<_};
 ghost use lib.ListN.{length, set, replicate};
 ghost use Rattle.sessions.specs.Sessions.{idle-session, session-at, parties};
-ghost use Rattle.store.specs.Lent.{Formatted, Begun, Put, Committed, Aborted, On17, Stepped17};
+ghost use Rattle.store.specs.Lent.{Formatted, Begun, Put, Stepped, Committed, Aborted, On17, Stepped17};
+ghost use Rattle.store.specs.OneRecord.{seated};
 use calls::Served;
 use outcomes::Answer;
 use sessions::PARTIES;
@@ -20,6 +23,13 @@ pub struct Ask {
     pub entry: u32,
     pub first: u32,
     pub second: u32,
+}
+
+// What a call leaves: its party, the party's record, and the answer.
+struct Seat {
+    party: u32,
+    session: Session,
+    answer: Answer,
 }
 
 // ---- the table by value
@@ -56,7 +66,7 @@ fn wrong_table() -> Answer
 }
 
 // The 17 records of a lent table, by value.
-fn load_all(table: &[Session]) -> [Session; PARTIES]
+pub fn load_all(table: &[Session]) -> [Session; PARTIES]
     requires { ⌜ length (now table) ≡ parties ⌝ }
     ensures { λ r. ⌜ r ≡ now (table .entry) ⌝ }
 {
@@ -81,18 +91,67 @@ fn save_all(table: &mut [Session], t: [Session; PARTIES])
     }
 }
 
-// ---- the two calls that only read the store, with the store lent as to the others
-
-fn begin_by_value(store: &mut [u32], t: [Session; PARTIES], p: u32) -> Served
-    ensures { λ r. ⌜ Begun (now (store .entry)) t p (r .answer) (now (store .exit)) (r .table) ⌝ }
+// One record goes into a lent table: party p's. A number that is no party's stores nothing.
+fn store_session(table: &mut [Session], p: u32, x: Session)
+    requires { ⌜ length (now table) ≡ parties ⌝ }
+    ensures { λ _. ⌜ now (table .exit) ≡ set (now (table .entry)) p x ⌝ }
 {
-    calls::begin(store, t, p)
+    let at = p as usize;
+    if PARTIES <= at {
+        return;
+    }
+    table[at] = x;
 }
 
-fn put_by_value(store: &mut [u32], t: [Session; PARTIES], k: Ask) -> Served
-    ensures { λ r. ⌜ Put (now (store .entry)) t k (r .answer) (now (store .exit)) (r .table) ⌝ }
+// ---- the calls by value, of whose table only the record of the call's party is kept
+
+// The record of party p out of what a call gave back, with the call's answer.
+fn seat_of(served: Served, p: u32) -> Seat
+    ensures { λ r. ⌜ r ≡ record { party = p; session = session-at (served .table) p; answer = served .answer } ⌝ }
 {
-    calls::put(store, t, k.party, k.code, k.entry, k.first, k.second)
+    let t = served.table;
+    let answer = served.answer;
+    let session = refusals::seat(t, p);
+    Seat {
+        party: p,
+        session: session,
+        answer: answer,
+    }
+}
+
+fn begin_by_value(store: &mut [u32], t: [Session; PARTIES], p: u32) -> Seat
+    ensures { λ r. ⌜ Begun (now (store .entry)) t p (r .answer) (now (store .exit)) (seated t r) ⌝ }
+{
+    let served = calls::begin(store, t, p);
+    seat_of(served, p)
+}
+
+fn put_by_value(store: &mut [u32], t: [Session; PARTIES], k: Ask) -> Seat
+    ensures { λ r. ⌜ Put (now (store .entry)) t k (r .answer) (now (store .exit)) (seated t r) ⌝ }
+{
+    let served = calls::put(store, t, k.party, k.code, k.entry, k.first, k.second);
+    seat_of(served, k.party)
+}
+
+fn step_by_value(store: &mut [u32], list: &mut [u32], t: [Session; PARTIES], p: u32) -> Seat
+    ensures { λ r. ⌜ Stepped (now (store .entry)) t (now (list .entry)) p (r .answer) (now (store .exit)) (seated t r) (now (list .exit)) ⌝ }
+{
+    let served = calls::step(store, list, t, p);
+    seat_of(served, p)
+}
+
+fn commit_by_value(store: &mut [u32], t: [Session; PARTIES], p: u32) -> Seat
+    ensures { λ r. ⌜ Committed (now (store .entry)) t p (r .answer) (now (store .exit)) (seated t r) ⌝ }
+{
+    let served = calls::commit(store, t, p);
+    seat_of(served, p)
+}
+
+fn abort_by_value(store: &mut [u32], t: [Session; PARTIES], p: u32) -> Seat
+    ensures { λ r. ⌜ Aborted (now (store .entry)) t p (r .answer) (now (store .exit)) (seated t r) ⌝ }
+{
+    let served = calls::abort(store, t, p);
+    seat_of(served, p)
 }
 
 // ---- the six calls
@@ -119,10 +178,10 @@ pub fn begin(store: &mut [u32], table: &mut [Session], p: u32) -> Answer
         return wrong_table();
     }
     let t = load_all(table);
-    let served = begin_by_value(store, t, p);
-    let after = served.table;
-    save_all(table, after);
-    served.answer
+    let seat = begin_by_value(store, t, p);
+    let x = seat.session;
+    store_session(table, seat.party, x);
+    seat.answer
 }
 
 // A party's request: it is in hand until a step answers done.
@@ -133,10 +192,10 @@ pub fn put(store: &mut [u32], table: &mut [Session], k: Ask) -> Answer
         return wrong_table();
     }
     let t = load_all(table);
-    let served = put_by_value(store, t, k);
-    let after = served.table;
-    save_all(table, after);
-    served.answer
+    let seat = put_by_value(store, t, k);
+    let x = seat.session;
+    store_session(table, seat.party, x);
+    seat.answer
 }
 
 // One step of the request that party p has in hand; a locate's last step writes the list.
@@ -147,10 +206,10 @@ pub fn step(store: &mut [u32], table: &mut [Session], list: &mut [u32], p: u32) 
         return wrong_table();
     }
     let t = load_all(table);
-    let served = calls::step(store, list, t, p);
-    let after = served.table;
-    save_all(table, after);
-    served.answer
+    let seat = step_by_value(store, list, t, p);
+    let x = seat.session;
+    store_session(table, seat.party, x);
+    seat.answer
 }
 
 // A session ends and keeps what it did.
@@ -161,10 +220,10 @@ pub fn commit(store: &mut [u32], table: &mut [Session], p: u32) -> Answer
         return wrong_table();
     }
     let t = load_all(table);
-    let served = calls::commit(store, t, p);
-    let after = served.table;
-    save_all(table, after);
-    served.answer
+    let seat = commit_by_value(store, t, p);
+    let x = seat.session;
+    store_session(table, seat.party, x);
+    seat.answer
 }
 
 // A session ends and what it did is undone.
@@ -175,8 +234,8 @@ pub fn abort(store: &mut [u32], table: &mut [Session], p: u32) -> Answer
         return wrong_table();
     }
     let t = load_all(table);
-    let served = calls::abort(store, t, p);
-    let after = served.table;
-    save_all(table, after);
-    served.answer
+    let seat = abort_by_value(store, t, p);
+    let x = seat.session;
+    store_session(table, seat.party, x);
+    seat.answer
 }

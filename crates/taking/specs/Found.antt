@@ -177,10 +177,5 @@ module _ (s : List ℕ) (t : List Session) (A : Stands s t) (p : ℕ) (party : p
       keeps-mid next-desc next-record 0 (suc top) (leaves-before (take-place .around)) (take-place .leaf) (leaves-behind (take-place .around)) (take-place .below) (take-place .above)
       (subst (Keeps next-desc next-record) (take-place .was) keeps-next) .0
 
-  -- It is not above second, nor below the place.
-  pub next-upto : next-desc .key ≤ x .second
-  unfolding request-in
-  next-upto = takes-of (A .sound) p (request-in x) (next-key x) in-hand in-take .to-second
-
   pub next-from : next-key x ≤ next-desc .key
   next-from = takes-of (A .sound) p (request-in x) (next-key x) in-hand in-take .next .from

@@ -20,8 +20,6 @@ use Rattle.finishing.specs.Finishing.{endRequest}
 use Rattle.finishing.specs.Ended.{refused-moves}
 use Rattle.serial.specs.Locks.{weak}
 use Rattle.serial.specs.Model.{two-words}
-use Rattle.serial.specs.Calls as C
-use Rattle.machine.specs.Demand.{list-after}
 use Rattle.machine.specs.Logic.{leb-yes, eqb-yes}
 use Rattle.machine.specs.Holders.{width, elem}
 use Rattle.machine.specs.State.{Desc, State, Request, Outcome, take, done, refused}
@@ -40,7 +38,7 @@ use Rattle.taking.specs.Found.{next-key}
 use Rattle.taking.specs.Pass.{tookKey, take-pass}
 use Rattle.taking.specs.Last.{found, last-words, last-count, take-last}
 use Rattle.taking.specs.Blocked.{blockers-are, blocker-proper}
-use Rattle.taking.specs.Taking.{inWayOf, foundIn, waitStep, passStep, doneStep, shortStep, lastStep, freeStep, takeStep, lastWritten, freeWritten, takeWritten, over}
+use Rattle.taking.specs.Taking.{inWayOf, foundIn, waitStep, passStep, doneStep, shortStep, lastStep, freeStep, takeStep, lastWritten, freeWritten, takeWritten}
 
 module _ (s : List ℕ) (t : List Session) (A : Stands s t) (p : ℕ) (party : p ≤ width) (stage : session-at t p .stage ≡ 5) where
   abbrev x : Session
@@ -175,10 +173,6 @@ module _ (s : List ℕ) (t : List Session) (A : Stands s t) (p : ℕ) (party : p
     pub take-list : takeWritten s (M-of s) (R-of s) n p x ≡ two-words (take-step n p r (next-key x) σ .written)
     unfolding take-step take-desc request-in
     take-list = guard-list (group-blockers weak p D) refl
-
-    -- The list at exit is the machine's: later words are as they were.
-    pub take-list-after : (w : List ℕ) → over (takeWritten s (M-of s) (R-of s) n p x) w ≡ list-after (C.step p w) (take-step n p r (next-key x) σ .written)
-    take-list-after w = ap (λ v. over v w) take-list
 
     -- As the step that is next.
     pub take-next : take-step n p r (next-key x) σ ≡ next-step n p r σ (r .stage)

@@ -21,7 +21,6 @@ use Rattle.machine.specs.Sound as S
 use Rattle.machine.specs.Undoing.{with-undos, undo-sound}
 use Rattle.meaning.specs.Reading.{M-of, R-of}
 use Rattle.layout.specs.Layout.{Lay, Undone, means, UndosFit, Holds}
-use Rattle.layout.specs.Row.{Stands, Becomes}
 use Rattle.layout.specs.Keep.{table-here}
 use Rattle.layout.specs.Asked.{set-same}
 use Rattle.layout.specs.Ordering.{Rising, rising-of}
@@ -260,29 +259,6 @@ undo-all-row s t L H A p least party = undo-chain-row (L .undos p) (R-of s) s t 
     short : (p : ℕ) → 1 ≤ p → p ≤ width → length (L .undos p) ≤ R-of s
     short zero a b = absurd (omega (arith, a))
     short (suc p) a b = omega (arith, undos-short L (H .owned) p b, length-map (L .undos (suc p)) (λ u. u .num), H .fits .records)
-
--- What the code asks.
-pub undo-ready : (s : List ℕ) (t : List Session) (L : Lay) → Holds s t L → S.Sound (means L t) → (p : ℕ) → 1 ≤ p → p ≤ width → Undoings s (M-of s) (R-of s) (session-at t p .undo)
-undo-ready s t L H A p least party = undo-all-row s t L H A p least party .ready
-
--- From a sound state to a sound state.
-pub undo-all-becomes : (s : List ℕ) (t : List Session) (A : Stands s t) (p : ℕ) → 1 ≤ p → p ≤ width
-    → Becomes s (undoAll s (M-of s) (R-of s) (session-at t p .undo)) (set t p (with-undo (session-at t p) 0)) (all-undone-state p (sessionOf p (means (A .lay) t) .undos) (means (A .lay) t))
-undo-all-becomes s t A p least party =
-    let W = undo-all-row s t (A .lay) (A .holds) (A .sound) p least party in
-    record {
-      lay = W .lay;
-      holds = W .holds;
-      means-next = W .means-next ∙ ap (λ bs. all-undone-state p bs (means (A .lay) t)) (sym (undos-means (A .lay) t p least (omega (arith, A .holds .seats, party))));
-      long = W .written .long;
-      entries = W .written .entries;
-      records = W .written .records;
-      rest = W .written .rest;
-    }
-
-pub undo-all-stands : (s : List ℕ) (t : List Session) (A : Stands s t) (p : ℕ) → 1 ≤ p → p ≤ width
-    → Stands (undoAll s (M-of s) (R-of s) (session-at t p .undo)) (set t p (with-undo (session-at t p) 0))
-undo-all-stands s t A p least party = let W = undo-all-row s t (A .lay) (A .holds) (A .sound) p least party in record { lay = W .lay; holds = W .holds; sound = W .sound }
 
 -- ---- abort
 

@@ -1,10 +1,9 @@
 -- An undo record (document 01's take-back) as the 20 words of a record, and one for each change that abort undoes.
 use mathlib.Core.Path.{_≡_, refl}
 use mathlib.Core.List.{List, _∷_}
-use Prim.Native.Nat.{ℕ, _≤_}
+use Prim.Native.Nat.{ℕ}
 use lib.ListN.{getD, length, replicate}
-use Rattle.words.specs.Store.{HasRecord}
-use Rattle.kinds.specs.Kind.{Kind, readAt, writeAt, write-same, write-other}
+use Rattle.kinds.specs.Kind.{Kind, readAt, writeAt}
 use Rattle.undos.specs.declared.Undo.{Undo}
 
 -- the unused words of the record are written as 0
@@ -28,18 +27,6 @@ undoAt s m i = readAt undoKind s m i
 
 abbrev pub putUndo : List ℕ → ℕ → ℕ → Undo → List ℕ
 putUndo s m i u = writeAt undoKind s m i u
-
-pub decode-encode : (u : Undo) → decodeUndo (encodeUndo u) ≡ u
-unfolding decodeUndo encodeUndo
-decode-encode u = refl
-
--- ---- an undo record written to a store
-
-pub undo-same : (s : List ℕ) (m i : ℕ) (u : Undo) → HasRecord s m i → undoAt (putUndo s m i u) m i ≡ u
-undo-same s m i u has = write-same undoKind s m i u has (decode-encode u)
-
-pub undo-other : (s : List ℕ) (m i : ℕ) (u : Undo) (j : ℕ) → HasRecord s m i → 1 ≤ j → (i ≡ j → ⊥) → undoAt (putUndo s m i u) m j ≡ undoAt s m j
-undo-other s m i u j has h ne = write-other undoKind s m i u has decodeUndo j h ne
 
 -- ---- the three kinds, each before the older ones of its session
 

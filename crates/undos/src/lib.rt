@@ -5,8 +5,8 @@
 // group). A record of kind TAKEN is the former membership's own record, written over, and becomes a membership again when it
 // is undone; so taking out needs no record. An older ADDED may name this very record.
 //
-// Each function promises that its result, or the store it leaves, EQUALS a definition of specs/Undo.antt (the record's words, the laws
-// of one written to a store, one record for each kind). Nothing here undoes anything. It rests on the crates words and kinds.
+// Each function promises that its result, or the store it leaves, EQUALS a definition of specs/Undo.antt (the record's words, and
+// one record for each kind). Nothing here undoes anything. It rests on the crates words and kinds.
 ghost use mathlib.Core.Path.{_≡_};
 ghost use lib.ListN.{length};
 ghost use Rattle.words.specs.Store.{HasRecord};

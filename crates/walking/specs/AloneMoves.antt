@@ -2,43 +2,36 @@
 use mathlib.Core.Path.{_≡_, refl, sym, ap, subst, _∙_}
 use mathlib.Core.Bool.{Bool, true, false, cond, not, _&&_}
 use mathlib.Core.List.{List, [], _∷_, _++_}
-use mathlib.Core.Logic.{_⊎_, inl, inr}
-use Prim.Native.Nat.{ℕ, zero, suc, _+_, _-_, _≤_, _<_}
+use Prim.Native.Nat.{ℕ, zero, suc, _-_, _≤_, _<_}
 use native.Mathlib.Numerals.{add-one}
 use native.Mathlib.Omega.{arith}
 use lib.Dec.{eqb, leb}
-use lib.ListN.{length, set}
+use lib.ListN.{length}
 use borrow.Author.Tests.{eq-eqb, ne-eqb}
-use Rattle.words.specs.Store.{wordOf}
 use Rattle.words.specs.Header.{headerWord, freePlace}
 use Rattle.nodes.specs.Node.{nodeAt}
 use Rattle.sessions.specs.declared.Session.{Session}
 use Rattle.sessions.specs.Sessions.{session-at}
-use Rattle.serial.specs.Calls as C
 use Rattle.serial.specs.Serial.{true≢false}
 use Rattle.machine.specs.Logic.{leb-yes, leb-no, eqb-is, both}
-use Rattle.machine.specs.Tree.{mapE, mapE-append, Below}
-use Rattle.machine.specs.Holders.{width, latch-word, latch-blockers, elem}
+use Rattle.machine.specs.Tree.{mapE, Below}
+use Rattle.machine.specs.Holders.{width, latch-word, latch-blockers}
 use Rattle.machine.specs.State.{Tree, Request, State, Outcome, at, more, wait, refused}
 use Rattle.machine.specs.Descent.{Sons, sons-of}
 use Rattle.machine.specs.Steps.{answer, ended, goes-on, guarded, small, fills, son-at, taking-part, level-blockers, level-need, level-state, level-step, stand-step, at-step}
-use Rattle.machine.specs.Parts.{Free, AllFree, free-words}
+use Rattle.machine.specs.Parts.{Free, free-words}
 use Rattle.machine.specs.Sound.{Room}
 use Rattle.meaning.specs.Reading.{Chained, Numbered, erase, M-of}
 use Rattle.meaning.specs.Around.{below-erase}
 use Rattle.layout.specs.Layout.{Lay, Holds, means}
-use Rattle.layout.specs.Row.{Stands, Becomes, Moves}
+use Rattle.layout.specs.Row.{Stands, Moves}
 use Rattle.layout.specs.Asked.{request-in, wait-moves}
 use Rattle.layout.specs.Room.{Sizes, sizes-of}
 use Rattle.outcomes.specs.Said.{Stepped, said}
-use Rattle.outcomes.specs.declared.Answer.the-variants.{More, Wait, Refused}
-use Rattle.endings.specs.Table.{idled}
-use Rattle.finishing.specs.Finishing.{endRequest}
 use Rattle.finishing.specs.Ended.{refused-moves}
 use Rattle.descents.specs.Descents.{sonToward, plainSon, splitSon, splitSonHalf, hasFree, inWay}
-use Rattle.walking.specs.Hands.{nd, standing-at}
 use Rattle.walking.specs.Levels.{length-mapE, mapE-mid, son-is, plain-words, plain-becomes, plain-words-is, toward-is, split-words, mid, split-becomes, split-words-is, split-half-is, son-count, son-latch}
-use Rattle.walking.specs.Sites.{Site, site-of}
+use Rattle.walking.specs.Sites.{Site}
 use Rattle.walking.specs.Ways.{Way, clear, shut, way-one}
 use Rattle.walking.specs.Walking.{waitsFor, refusedFull, standsAt, plainStep, splitStep, downStep, aloneStep}
 
@@ -93,9 +86,6 @@ module _ (s : List ℕ) (t : List Session) (A : Stands s t) (p : ℕ) (l : p ≤
   abbrev Z : Sizes (A .lay)
   Z = sizes-of (A .lay) t (A .sound)
 
-  abbrev k : ℕ
-  k = N .k
-
   abbrev a : Numbered (suc (N .k))
   a = N .son
 
@@ -135,10 +125,6 @@ module _ (s : List ℕ) (t : List Session) (A : Stands s t) (p : ℕ) (l : p ≤
 
   pub latch-is : nodeAt s m (sonToward s m (x .at) key) .latch ≡ a .latch .word
   latch-is = ap (λ i. nodeAt s m i .latch) toward ∙ son-latch s t L H Z (N .around) (N .mark) (N .pre) (N .son) (N .bound) (N .post) (N .is)
-
-  pub erased-latch : site-son .latch ≡ a .latch .word
-  unfolding erase
-  erased-latch = refl
 
   fills-is : not (eqb p 0) && eqb (nodeAt s m (sonToward s m (x .at) key) .count) 8 ≡ fills p (N .k) site-son
   fills-is = ap (λ n. not (eqb p 0) && eqb n 8) (count-is ∙ sym many-is)

@@ -1,46 +1,44 @@
 -- The root dropped; and what entering it comes to: as it is, dropped, split, dropped and split.
 use mathlib.Core.Path.{_≡_, refl, sym, ap, subst, _∙_}
-use mathlib.Core.Bool.{Bool, true, false, cond}
+use mathlib.Core.Bool.{false}
 use mathlib.Core.List.{List, [], _∷_, _++_, append-nil}
-use mathlib.Core.Logic.{_⊎_, inl, inr}
-use Prim.Native.Nat.{ℕ, zero, suc, _+_, _-_, _≤_, _<_}
+use mathlib.Core.Logic.{inl, inr}
+use Prim.Native.Nat.{ℕ, zero, suc, _+_, _-_, _≤_}
 use native.Mathlib.Omega.{arith}
-use lib.Dec.{leb, eqb, lit<}
+use lib.Dec.{eqb, lit<}
 use lib.ListN.{length, set}
 use Rattle.words.specs.Store.{HasRecord, has-kept}
 use Rattle.words.specs.Header.{headerWord, rootPlace, heightPlace, firstPlace, freePlace}
 use Rattle.nodes.specs.Node.{nodeAt}
 use Rattle.nodes.specs.Live.{Usable}
-use Rattle.nodes.specs.Entries as N
 use Rattle.nodes.specs.Entries.{last-bound}
 use Rattle.chain.specs.Free.{pushFree}
 use Rattle.sessions.specs.declared.Session.{Session}
 use Rattle.sessions.specs.Sessions.{session-at}
 use Rattle.serial.specs.Serial.{true≢false}
-use Rattle.machine.specs.Tree.{mapE, flat, leaves}
+use Rattle.machine.specs.Tree.{flat, leaves}
 use Rattle.machine.specs.Holders.{width, latch-word}
-use Rattle.machine.specs.State.{State, Tree, Root, top, at, with-free, with-root}
-use Rattle.machine.specs.Descent.{Sons, node, halves, lone, lone-son, drop-lone, entered, split-root}
-use Rattle.machine.specs.Steps.{root-left, root-gain, whole-root, halved-root, goes-on}
+use Rattle.machine.specs.State.{State, Tree, top, at, with-free, with-root}
+use Rattle.machine.specs.Descent.{Sons, node, lone, lone-son, drop-lone, entered, split-root}
+use Rattle.machine.specs.Steps.{whole-root, halved-root, goes-on}
 use Rattle.machine.specs.Parts.{Free, free-other}
 use Rattle.machine.specs.Sound.{times}
 use Rattle.meaning.specs.Reading.{Chained, Leaf, Mark, Numbered, erase, numbers, node-numbers, M-of, R-of}
 use Rattle.meaning.specs.Sound.{All, Apart}
 use Rattle.meaning.specs.Numbers.{times-append, apart-times}
-use Rattle.meaning.specs.Frame.{SameAt}
 use Rattle.meaning.specs.Around.{here, num-of}
-use Rattle.layout.specs.Layout.{Lay, leaves-in, Has, NodeFits, TreeFits, SomeSon, Marked, HandFits, Holds, means}
+use Rattle.layout.specs.Layout.{Lay, leaves-in, Has, NodeFits, TreeFits, SomeSon, Marked, Holds, means}
 use Rattle.layout.specs.Row.{Becomes}
 use Rattle.layout.specs.Written.{Written, written-then, entries-then, push-written, push-entries, push-head, push-free}
-use Rattle.layout.specs.Keep.{with-tree, Hands, tree-keep, chained-keep, hand-as}
+use Rattle.layout.specs.Keep.{with-tree, tree-keep, chained-keep, hand-as}
 use Rattle.layout.specs.Puts.{free-pushed}
 use Rattle.layout.specs.Room.{Sizes}
 use Rattle.layout.specs.Asked.{request-in, set-same}
-use Rattle.walking.specs.Traces.{Trace, trace-none}
+use Rattle.walking.specs.Traces.{trace-none}
 use Rattle.walking.specs.Holes.{fits-usable, Ours, hole-most, ours-has, ours-in, proper, part-keep}
 use Rattle.walking.specs.Hands.{nd, standing-at, marked-below, node-times, one-self, becomes-by}
 use Rattle.walking.specs.Levels.{numbers-law, nodes-law}
-use Rattle.walking.specs.Roots.{Topped, put-top, topped, root-row, entered-tree, entered-words, entered-written, entered-holds, root-mid, root-words, root-node, root-half, root-topped, root-holds, root-erase}
+use Rattle.walking.specs.Roots.{Topped, put-top, topped, root-row, entered-tree, entered-words, entered-written, entered-holds, root-words, root-node, root-half, root-topped, root-holds, root-erase}
 
 -- ---- a record given back
 

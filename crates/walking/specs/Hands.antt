@@ -3,24 +3,23 @@ use mathlib.Core.Path.{_≡_, refl, sym, ap, subst, _∙_}
 use mathlib.Core.Bool.{true, false, cond}
 use mathlib.Core.List.{List, [], _∷_, _++_}
 use mathlib.Core.Logic.{_⊎_, inl, inr}
-use mathlib.Core.Option.{some}
-use Prim.Native.Nat.{ℕ, zero, suc, _+_, _-_, _≤_, _<_}
+use Prim.Native.Nat.{ℕ, suc, _+_, _<_}
 use native.Mathlib.Omega.{arith}
 use lib.Dec.{eqb}
 use lib.ListN.{length, set}
 use Rattle.sessions.specs.declared.Session.{Session}
 use Rattle.sessions.specs.Sessions.{session-at}
-use Rattle.machine.specs.Tree.{Node, mapE, flat, flat-append}
-use Rattle.machine.specs.Holders.{width, latch-word}
-use Rattle.machine.specs.State.{State, at, with-free, with-root, on-tree, set-hand, in-stage}
+use Rattle.machine.specs.Tree.{Node, flat, flat-append}
+use Rattle.machine.specs.Holders.{latch-word}
+use Rattle.machine.specs.State.{State, at, with-free, with-root, on-tree, set-hand}
 use Rattle.machine.specs.Steps.{goes-on, descended}
 use Rattle.machine.specs.Descent.{on-latch}
 use Rattle.machine.specs.Context.{Focus, plug}
 use Rattle.machine.specs.Sound.{times}
-use Rattle.meaning.specs.Reading.{Leaf, Mark, Numbered, erase, hand-of}
+use Rattle.meaning.specs.Reading.{Mark, Numbered, erase, hand-of}
 use Rattle.meaning.specs.Sound.{pins-first}
 use Rattle.meaning.specs.Numbers.{one-is, times-append}
-use Rattle.meaning.specs.Around.{NCtx, here, under, fill, erase-ctx, erase-fill}
+use Rattle.meaning.specs.Around.{NCtx, here, under, fill, erase-fill}
 use Rattle.layout.specs.Layout.{Lay, leaves-in, Has, SomeSon, Marked, HandFits, Holds, means}
 use Rattle.layout.specs.Row.{Becomes}
 use Rattle.layout.specs.Written.{Written}

@@ -1,30 +1,29 @@
 -- A part of a layout's tree replaced: what is in the hole is another tree, with the same leaves, made of the same nodes and of free records.
 use mathlib.Core.Path.{_≡_, refl, sym, ap, subst, _∙_}
 use mathlib.Core.List.{List, [], _∷_, _++_, zip, zipWith}
-use mathlib.Core.Logic.{_⊎_, inl, inr}
-use Prim.Native.Nat.{ℕ, zero, suc, _+_, _-_, _≤_, _<_}
+use Prim.Native.Nat.{ℕ, zero, suc, _+_, _-_, _≤_}
 use native.Mathlib.Omega.{arith}
 use lib.Dec.{lit<}
 use lib.ListN.{length, set, take}
-use Rattle.words.specs.Store.{HasRecord, recordAt, wordOf}
-use Rattle.words.specs.Header.{headerWord, rootPlace, heightPlace, firstPlace, freePlace}
+use Rattle.words.specs.Store.{HasRecord, recordAt}
+use Rattle.words.specs.Header.{rootPlace, heightPlace, firstPlace}
 use Rattle.nodes.specs.declared.Node.{Node}
 use Rattle.nodes.specs.Live.{Usable}
 use Rattle.nodes.specs.Node.{nodeAt, decodeNode, sized-decode}
 use Rattle.nodes.specs.Entries as N
 use Rattle.sessions.specs.declared.Session.{Session}
-use Rattle.machine.specs.Tree.{mapE, flat, leaves}
+use Rattle.machine.specs.Tree.{flat, leaves}
 use Rattle.machine.specs.Holders.{width}
 use Rattle.machine.specs.State.{top}
 use Rattle.machine.specs.Sound.{times}
 use Rattle.meaning.specs.Reading.{Chained, Leaf, Mark, Numbered, numbers, node-numbers, M-of, R-of}
 use Rattle.meaning.specs.Sound.{All, Apart}
-use Rattle.meaning.specs.Numbers.{times-append, times-in, in-times, apart-times, apart-append, all-in, all-from, all-as, all-right}
+use Rattle.meaning.specs.Numbers.{times-append, times-in, in-times, apart-times, apart-append, all-in, all-from, all-as}
 use Rattle.meaning.specs.Frame.{SameAt, leaf-records, numbers-times}
 use Rattle.meaning.specs.Around.{NCtx, fill, num-of, bound-in, numbers-around, times-fill, nodes-fill, leaves-fill, before, behind, number-of, nothing}
 use Rattle.layout.specs.Layout.{Lay, leaves-in, members-of, undos-from, all-records, Each, NodeFits, TreeFits, Holds}
 use Rattle.layout.specs.Written.{Written}
-use Rattle.layout.specs.Keep.{with-tree, Hands, records-times, owned-most, own-all, own-tree, CtxFits, ctx-keep, fits-open, fits-close, tree-keep, chained-keep, each-keep, same-apart, tree-row, num-fill, num-in}
+use Rattle.layout.specs.Keep.{with-tree, Hands, records-times, owned-most, own-all, CtxFits, ctx-keep, fits-open, fits-close, tree-keep, each-keep, same-apart, tree-row, num-fill, num-in}
 use Rattle.layout.specs.Room.{Sizes, owned-in, owned-has}
 use Rattle.walking.specs.Traces.{Trace}
 

@@ -1,11 +1,11 @@
 -- One level down: the node at which a party stands is released, and its son on the path is latched as it is, or in two.
-use mathlib.Core.Path.{_≡_, refl, sym, ap, ap₂, subst, _∙_}
-use mathlib.Core.Bool.{Bool, true, false, cond, not, _&&_}
+use mathlib.Core.Path.{_≡_, refl, sym, ap, subst, _∙_}
+use mathlib.Core.Bool.{Bool, true, false, cond}
 use mathlib.Core.List.{List, [], _∷_, _++_, append-assoc, map}
 use mathlib.Core.Logic.{_⊎_, inl, inr}
 use Prim.Native.Nat.{ℕ, zero, suc, _+_, _-_, _≤_, _<_}
 use native.Mathlib.Omega.{arith}
-use lib.Dec.{leb, eqb, lit<}
+use lib.Dec.{leb}
 use lib.ListN.{length, set, getD, take, drop, length-append}
 use Rattle.words.specs.Store.{HasRecord, recordAt, wordOf}
 use Rattle.words.specs.Header.{headerWord, freePlace}
@@ -22,17 +22,17 @@ use Rattle.sessions.specs.declared.Session.{Session}
 use Rattle.sessions.specs.Sessions.{session-at}
 use Rattle.machine.specs.Tree.{mapE, mapE-append, flat, flat-append, leaves, Below, onp-hit, pick-hit}
 use Rattle.machine.specs.Holders.{width, latch-word}
-use Rattle.machine.specs.State.{State, Tree, top, same, at, with-free, on-tree}
-use Rattle.machine.specs.Descent.{Sons, node, halves, sons-of, on-latch}
-use Rattle.machine.specs.Steps.{small, fills, son-at, stepped, descended, level-state, level-gain, goes-on}
+use Rattle.machine.specs.State.{Tree, top, same, at, with-free, on-tree}
+use Rattle.machine.specs.Descent.{Sons, node, halves, on-latch}
+use Rattle.machine.specs.Steps.{small, fills, son-at, stepped, descended, level-state, goes-on}
 use Rattle.machine.specs.Context.{Focus}
 use Rattle.machine.specs.Parts.{Free, free-other}
 use Rattle.machine.specs.Sound.{times}
-use Rattle.meaning.specs.Reading.{Chained, Leaf, Mark, Numbered, erase, numbers, node-numbers, M-of, R-of}
+use Rattle.meaning.specs.Reading.{Chained, Leaf, Mark, Numbered, erase, numbers, node-numbers, M-of}
 use Rattle.meaning.specs.Sound.{All}
 use Rattle.meaning.specs.Numbers.{times-append}
 use Rattle.meaning.specs.Around.{NCtx, fill, num-of, bound-in, leaves-fill, before, behind, nothing}
-use Rattle.layout.specs.Layout.{Lay, leaves-in, Each, NodeFits, TreeFits, SomeSon, Marked, Holds, means}
+use Rattle.layout.specs.Layout.{Lay, Each, NodeFits, TreeFits, SomeSon, Marked, Holds, means}
 use Rattle.layout.specs.Row.{Becomes}
 use Rattle.layout.specs.Keep.{with-tree, Hands, each-cut, each-join, chained-keep, marked-fill}
 use Rattle.layout.specs.Places.{Erased}
@@ -41,7 +41,7 @@ use Rattle.layout.specs.Room.{Sizes}
 use Rattle.layout.specs.Asked.{request-in}
 use Rattle.walking.specs.Traces.{Trace, trace-none, trace-node, trace-pop, trace-has, two-first, two-second, three-first, three-second, three-third}
 use Rattle.walking.specs.Holes.{fits-usable, Ours, hole-most, ours-has, ours-in, part-keep, sons-keep, hole-fits, hole-row}
-use Rattle.walking.specs.Hands.{nd, standing-at, own-hand, some-mid, some-left, some-right, some-cut, marked-into, marked-below, marked-under, marked-self, node-times, flat-times, one-self, means-level, becomes-at}
+use Rattle.walking.specs.Hands.{nd, standing-at, own-hand, some-mid, some-right, some-cut, marked-into, marked-below, marked-under, marked-self, node-times, flat-times, one-self, means-level, becomes-at}
 
 -- ---- lists
 

@@ -1,19 +1,19 @@
 -- One level down for the housekeeper where the son on the path has 3 sons; and one level down, whole: the step on words is the machine's.
 use mathlib.Core.Path.{_≡_, refl, sym, ap, subst, _∙_}
-use mathlib.Core.Bool.{Bool, true, false, cond, not, _&&_}
+use mathlib.Core.Bool.{Bool, true, false, cond, _&&_}
 use mathlib.Core.List.{List, [], _∷_, _++_, append-assoc}
 use mathlib.Core.Logic.{_⊎_, inl, inr}
-use Prim.Native.Nat.{ℕ, zero, suc, _+_, _-_, _≤_, _<_}
+use Prim.Native.Nat.{ℕ, suc, _+_, _-_, _≤_, _<_}
 use native.Mathlib.Numerals.{add-one}
 use native.Mathlib.Omega.{arith}
 use lib.Dec.{eqb, leb}
-use lib.ListN.{length, set, length-append}
+use lib.ListN.{length, length-append}
 use borrow.Author.Tests.{eq-eqb, ne-eqb}
 use Rattle.nodes.specs.Node.{nodeAt}
 use Rattle.nodes.specs.Ops.{sonFor}
 use Rattle.sessions.specs.declared.Session.{Session}
 use Rattle.sessions.specs.Sessions.{session-at}
-use Rattle.machine.specs.Logic.{leb-yes, leb-no, leb-is, leb-not, eqb-is, both}
+use Rattle.machine.specs.Logic.{leb-is, leb-not, eqb-is, both}
 use Rattle.machine.specs.Tree.{mapE, mapE-append, Below}
 use Rattle.machine.specs.Holders.{width, latch-word, latch-blockers}
 use Rattle.machine.specs.State.{Tree, Request, State, Outcome, at, more}
@@ -25,18 +25,18 @@ use Rattle.machine.specs.Sound.{Room}
 use Rattle.meaning.specs.Reading.{Mark, Numbered, erase, stage-of, M-of}
 use Rattle.meaning.specs.Around.{NCtx, fill, num-of, below-erase}
 use Rattle.layout.specs.Layout.{Lay, Each, Holds, means}
-use Rattle.layout.specs.Row.{Stands, Becomes, Moves}
+use Rattle.layout.specs.Row.{Stands}
 use Rattle.layout.specs.Places.{Erased}
 use Rattle.layout.specs.Asked.{request-in, wait-moves}
 use Rattle.layout.specs.Room.{Sizes, sizes-of}
-use Rattle.outcomes.specs.Said.{Stepped, said}
+use Rattle.outcomes.specs.Said.{Stepped}
 use Rattle.descents.specs.Descents.{sonAt, sonToward, pairPlace, downBound, joinSons, moveRight, moveLeft, firstInWay}
-use Rattle.walking.specs.Hands.{nd, standing-at}
-use Rattle.walking.specs.Levels.{length-mapE, mapE-mid}
-use Rattle.walking.specs.Pairs.{down, down-num, AtPair, pair-pick, Which, A-count, B-count, A-latch, B-latch, left-son, right-son, pair-place-is, first-is, down-is, join-words, join-is, join-becomes, right-words-is, right-becomes, left-words-is, left-becomes}
+use Rattle.walking.specs.Hands.{nd}
+use Rattle.walking.specs.Levels.{length-mapE}
+use Rattle.walking.specs.Pairs.{down, down-num, AtPair, pair-pick, A-count, B-count, A-latch, B-latch, left-son, right-son, pair-place-is, first-is, down-is, join-is, join-becomes, right-words-is, right-becomes, left-words-is, left-becomes}
 use Rattle.walking.specs.Sites.{Site, site-of}
 use Rattle.walking.specs.Ways.{Way, clear, shut, way-two}
-use Rattle.walking.specs.AloneMoves.{Steps, guard-shut, guard-open, site-sons, site-son, picked, step-level, count-is, many-is, alone-moves}
+use Rattle.walking.specs.AloneMoves.{Steps, guard-shut, guard-open, site-son, picked, step-level, count-is, many-is, alone-moves}
 use Rattle.walking.specs.Walking.{waitsFor, standsAt, mendStep, pairStep, aloneStep, levelStep}
 
 -- ---- lists by their last
@@ -210,9 +210,6 @@ module _ (s : List ℕ) (t : List Session) (A : Stands s t) (p : ℕ) (lp : p �
 
   abbrev Z : Sizes (A .lay)
   Z = sizes-of (A .lay) t (A .sound)
-
-  abbrev k : ℕ
-  k = N .k
 
   abbrev a : Numbered (suc (N .k))
   a = nd (N .wa) (N .ai ++ (N .z, N .zb) ∷ [])
@@ -408,9 +405,6 @@ module _ (s : List ℕ) (t : List Session) (A : Stands s t) (p : ℕ) (lp : p �
   unfolding level-step
   pair-moves = subst (λ y. Steps s t p y (guarded (level-blockers p key (N .k) ES S) (level-need p (N .k) S) p rq σ goal)) (sym pair-is) (go (way-two p (N .wa .word) (N .b .latch .word)))
     where
-      b₀ : ℕ
-      b₀ = firstInWay p (N .wa .word) (N .b .latch .word)
-
       go : Way (firstInWay p (N .wa .word) (N .b .latch .word)) (latch-blockers p (N .wa .word ∷ N .b .latch .word ∷ []))
           → Steps s t p (cond (eqb (firstInWay p (N .wa .word) (N .b .latch .word)) 0) (mendStep s m p x) (waitsFor s x (firstInWay p (N .wa .word) (N .b .latch .word)))) (guarded (level-blockers p key (N .k) ES S) (level-need p (N .k) S) p rq σ goal)
       go (clear e f) =

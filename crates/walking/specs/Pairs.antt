@@ -1,7 +1,7 @@
 -- One level down for the housekeeper, where the son on the path has 3 sons: it is joined with its neighbour, or takes one son from it.
 use mathlib.Core.Path.{_≡_, refl, sym, ap, subst, _∙_}
-use mathlib.Core.Bool.{Bool, true, false, cond, not, _&&_}
-use mathlib.Core.List.{List, [], _∷_, _++_, append-assoc, append-nil, map}
+use mathlib.Core.Bool.{Bool, true, false, cond}
+use mathlib.Core.List.{List, [], _∷_, _++_, append-assoc, append-nil}
 use mathlib.Core.Logic.{_⊎_, inl, inr}
 use Prim.Native.Nat.{ℕ, zero, suc, _+_, _-_, _≤_, _<_}
 use native.Mathlib.Omega.{arith}
@@ -13,36 +13,35 @@ use Rattle.words.specs.Header.{headerWord, freePlace}
 use Rattle.words.specs.Frames.{header-record}
 use Rattle.nodes.specs.declared.Node.{Node}
 use Rattle.nodes.specs.declared.Neighbours.{Neighbours}
-use Rattle.nodes.specs.Node.{nodeAt, putNode, decodeNode, Sized, sized-decode}
-use Rattle.nodes.specs.Ops.{sonFor, withLatch, removeBehind, removeBefore, dropSon, setBound, joinNodes, moveFromLeft, moveFromRight}
+use Rattle.nodes.specs.Node.{nodeAt, putNode, decodeNode, Sized}
+use Rattle.nodes.specs.Ops.{sonFor, withLatch, removeBehind, dropSon, setBound, joinNodes, moveFromLeft, moveFromRight}
 use Rattle.nodes.specs.Live.{Usable, drop-usable, set-usable, join-usable, from-left-usable, from-right-usable}
 use Rattle.nodes.specs.Entries as N
 use Rattle.nodes.specs.Entries.{latch-entries, entries-length, find-here, son-here, entries-upto, last-bound, right-out, bound-set, bound-between, join-entries, from-left-left, from-left-up, from-left-right, from-right-left, from-right-up, from-right-right}
 use Rattle.chain.specs.Free.{pushFree}
-use Rattle.descents.specs.Descents.{sonAt, sonToward, pairPlace, lastOfLeft, downBound, joinSons, moveRight, moveLeft}
+use Rattle.descents.specs.Descents.{sonAt, pairPlace, lastOfLeft, downBound, joinSons, moveRight, moveLeft}
 use Rattle.sessions.specs.declared.Session.{Session}
 use Rattle.sessions.specs.Sessions.{session-at}
 use Rattle.machine.specs.Logic.{leb-yes, leb-no}
 use Rattle.machine.specs.Tree.{mapE, mapE-append, flat, flat-append, leaves, Below}
 use Rattle.machine.specs.Holders.{width, latch-word}
-use Rattle.machine.specs.State.{State, Tree, top, same, at, with-free, on-tree}
-use Rattle.machine.specs.Descent.{Sons, node, sons-of, down-to, on-last, last-of, but-last, bound-of, joined, moved-right, moved-left, on-pair, pick-pair, joins, mended, on-latch}
+use Rattle.machine.specs.State.{Tree, top, at, with-free, on-tree}
+use Rattle.machine.specs.Descent.{Sons, node, down-to, on-last, last-of, but-last, bound-of, joined, moved-right, moved-left, on-pair, pick-pair, joins, mended, on-latch}
 use Rattle.machine.specs.Steps.{small, fills, son-at, stepped, descended, level-state, goes-on}
 use Rattle.machine.specs.Context.{Focus}
 use Rattle.machine.specs.Parts.{Free, free-other}
 use Rattle.machine.specs.Sound.{times}
-use Rattle.meaning.specs.Reading.{Chained, Leaf, Mark, Numbered, erase, numbers, node-numbers, M-of, R-of}
-use Rattle.meaning.specs.Sound.{All, Apart}
+use Rattle.meaning.specs.Reading.{Leaf, Mark, Numbered, erase, numbers, node-numbers, M-of, R-of}
 use Rattle.meaning.specs.Numbers.{one-is, times-append, apart-times}
 use Rattle.meaning.specs.Around.{NCtx, fill, num-of, bound-in, leaves-fill, before, behind, nothing}
-use Rattle.layout.specs.Layout.{Lay, leaves-in, Each, NodeFits, TreeFits, SomeSon, Marked, Holds, means}
+use Rattle.layout.specs.Layout.{Lay, Each, NodeFits, TreeFits, SomeSon, Marked, Holds, means}
 use Rattle.layout.specs.Row.{Becomes}
-use Rattle.layout.specs.Keep.{with-tree, Hands, each-cut, each-join, chained-keep, marked-fill}
+use Rattle.layout.specs.Keep.{with-tree, each-cut, each-join, chained-keep, marked-fill}
 use Rattle.layout.specs.Places.{Erased}
-use Rattle.layout.specs.Puts.{node-latch, node-count, node-fits}
+use Rattle.layout.specs.Puts.{node-latch, node-fits}
 use Rattle.layout.specs.Room.{Sizes}
 use Rattle.layout.specs.Asked.{request-in}
-use Rattle.walking.specs.Traces.{Trace, trace-none, trace-node, trace-push, trace-has, two-first, two-second, two-has, three-first, three-second, three-third}
+use Rattle.walking.specs.Traces.{Trace, trace-none, trace-node, trace-push, trace-has, two-first, two-second, three-first, three-second, three-third}
 use Rattle.walking.specs.Holes.{fits-usable, Ours, hole-most, in-has, ours-has, ours-in, proper, part-keep, sons-keep, hole-fits, hole-row}
 use Rattle.walking.specs.Hands.{nd, standing-at, own-hand, some-mid, some-left, some-right, some-cut, marked-into, marked-below, marked-under, marked-self, node-times, flat-times, one-self, means-level, becomes-at}
 use Rattle.walking.specs.Levels.{length-mapE, below-nodes, numbers-law, nodes-law, sized-latch, latch-fits}
@@ -80,11 +79,6 @@ bound-snoc u [] z b = refl
 bound-snoc u (e ∷ es) z b = bound-snoc (e .1) es z b
 
 -- ---- the machine's pair
-
--- The pair is cut at p and q: q is on the path, or p is and there is none before it.
-abbrev pub PairAt : {A : Type 0} → ℕ → List (A × ℕ) → ℕ → ℕ → Type 0
-PairAt x [] u v = x ≤ v
-PairAt x (e ∷ es) u v = Below x (e ∷ es) × (u < x) × (x ≤ v)
 
 module _ {A : Type 0} (x : ℕ) where
   pair-on : (g : (A × ℕ) → (A × ℕ) → List (A × ℕ)) (pre : List (A × ℕ)) (p q : A × ℕ) (post : List (A × ℕ)) → Below x pre → (1 ≤ length pre → p .1 < x) → x ≤ q .1
@@ -338,9 +332,6 @@ module _ (s : List ℕ) (t : List Session) (L : Lay) (H : Holds s t L) (Z : Size
 
   a-part : (j : ℕ) → times j (flat (numbers k) (a .sons)) ≤ times j (numbers (suc (suc k)) U)
   a-part j = omega (arith, cut j)
-
-  b-part : (j : ℕ) → times j (flat (numbers k) (b .sons)) ≤ times j (numbers (suc (suc k)) U)
-  b-part j = omega (arith, cut j)
 
   -- ---- both as one
 
@@ -794,9 +785,6 @@ module _ (s : List ℕ) (t : List Session) (L : Lay) (H : Holds s t L) (Z : Size
 
   -- ---- what the machine does
 
-  abbrev E : Numbered (suc k) → Tree (suc k)
-  E = erase (suc k)
-
   abbrev ES : Sons (suc k)
   ES = mapE (erase (suc k)) (pre ++ (a, va) ∷ (b, vb) ∷ post)
 
@@ -923,9 +911,6 @@ module _ (s : List ℕ) (t : List Session) (L : Lay) (H : Holds s t L) (Z : Size
   pub pair-room : i₀ < 7
   pair-room = omega (arith, P-count, P-usable .most, length-mapE (num-of (suc k)) pre)
 
-  pub P-some : 1 ≤ P .count
-  P-some = P-usable .least
-
   pub A-few : (1 ≤ A .count) × (A .count ≤ 8)
   A-few = (A-usable .least, A-usable .most)
 
@@ -954,13 +939,6 @@ module _ (s : List ℕ) (t : List Session) (L : Lay) (H : Holds s t L) (Z : Size
         go : Which x → eqb (sonFor P x) 0 ≡ leb x va
         go (inl e) = eq-eqb (sonFor P x) 0 (place-first (e .0) (e .1)) ∙ sym (leb-yes x va (e .1))
         go (inr u) = let z = place-second u in ne-eqb (sonFor P x) 0 (λ o. omega (arith, o, z)) ∙ sym (leb-no x va u)
-
-    pub toward-pair : sonToward s m here x ≡ cond (leb x va) l q
-    toward-pair = go which
-      where
-        go : Which x → sonToward s m here x ≡ cond (leb x va) l q
-        go (inl e) = rw (leb-yes x va (e .1)) (ap (λ i. getD (P .sons) i 0) (place-first (e .0) (e .1) ∙ ap (λ es. length (mapE (num-of (suc k)) es)) (sym (e .0))) ∙ left-son)
-        go (inr u) = rw (leb-no x va u) (ap (λ i. getD (P .sons) i 0) (place-second u) ∙ right-son)
 
   pub last-left : lastOfLeft s m here i₀ ≡ num-of k z
   last-left =

@@ -1,12 +1,12 @@
 -- Words that hold a layout of a sound state have what the code asks for.
 use mathlib.Core.Path.{_≡_, refl, sym, ap, subst, _∙_}
 use mathlib.Core.Bool.{Bool, true, false, cond, not, _&&_}
-use mathlib.Core.List.{List, [], _∷_, _++_}
-use Prim.Native.Nat.{ℕ, zero, suc, _+_, _-_, _≤_, _<_}
+use mathlib.Core.List.{List, [], _∷_}
+use Prim.Native.Nat.{ℕ, suc, _+_, _≤_, _<_}
 use native.Mathlib.Omega.{arith}
 use lib.Dec.{eqb, leb}
 use lib.ListN.{length}
-use borrow.Author.Tests.{eq-eqb, ne-eqb}
+use borrow.Author.Tests.{eq-eqb}
 use Rattle.words.specs.Store.{HasRecord}
 use Rattle.words.specs.Header.{headerWord, freePlace}
 use Rattle.nodes.specs.Node.{nodeAt}
@@ -19,24 +19,21 @@ use Rattle.machine.specs.Logic.{leb-is, leb-not, eqb-is, both}
 use Rattle.machine.specs.Holders.{width}
 use Rattle.machine.specs.Descent.{sons-of}
 use Rattle.machine.specs.Sound.{times}
-use Rattle.meaning.specs.Reading.{Chained, Numbered, M-of}
+use Rattle.meaning.specs.Reading.{Chained, M-of}
 use Rattle.meaning.specs.Numbers.{one-is}
-use Rattle.meaning.specs.Around.{num-of}
-use Rattle.layout.specs.Layout.{Lay, all-records, Holds, means}
+use Rattle.layout.specs.Layout.{Lay, Holds}
 use Rattle.layout.specs.Keep.{records-times}
 use Rattle.layout.specs.Row.{Stands}
 use Rattle.layout.specs.Room.{Sizes, sizes-of, owned-has}
-use Rattle.finishing.specs.Finishing.{Endable}
 use Rattle.finishing.specs.Ready.{end-ready}
-use Rattle.descents.specs.Descents.{sonAt, sonToward, Toward, CanSplitSon, CanBeOne, CanJoin, CanGoLeft, CanGoRight, CanMoveLeft, CanMoveRight, HasDown, pairPlace, lastOfLeft}
-use Rattle.walking.specs.Hands.{nd}
-use Rattle.walking.specs.Levels.{length-mapE, toward-ready, parent-count}
-use Rattle.walking.specs.Pairs.{pair-room, P-some, A-few, pair-has, last-left, last-has}
+use Rattle.descents.specs.Descents.{sonAt, sonToward, Toward, pairPlace, lastOfLeft}
+use Rattle.walking.specs.Levels.{toward-ready, parent-count}
+use Rattle.walking.specs.Pairs.{pair-room, A-few, pair-has, last-left, last-has}
 use Rattle.walking.specs.Sites.{Site, site-of}
-use Rattle.walking.specs.AloneMoves.{few-sons, count-is, many-is, site-son, picked}
+use Rattle.walking.specs.AloneMoves.{few-sons, count-is, many-is, picked}
 use Rattle.walking.specs.PairMoves.{PairSite, pair-site, site-many, place, first, lo-is, qo-is, count-a, count-b, some-b}
 use Rattle.walking.specs.Walking.{otherCount}
-use Rattle.walking.specs.Ready.{Walker, SplitReady, AloneReady, Mendable, PairReady, LevelReady}
+use Rattle.walking.specs.Ready.{Walker, AloneReady, Mendable, PairReady, LevelReady}
 
 -- The first free record is there.
 pub free-ready : (s : List ℕ) (t : List Session) (L : Lay) → Holds s t L → Sizes L → Poppable s (M-of s)

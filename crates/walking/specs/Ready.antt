@@ -11,7 +11,7 @@ use Rattle.nodes.specs.Ops.{sonFor}
 use Rattle.chain.specs.Free.{Poppable}
 use Rattle.sessions.specs.declared.Session.{Session}
 use Rattle.finishing.specs.Finishing.{Endable}
-use Rattle.descents.specs.Descents.{sonAt, sonToward, Toward, CanSplitSon, CanJoin, CanMoveLeft, CanMoveRight, HasDown, pairPlace, downBound}
+use Rattle.descents.specs.Descents.{sonAt, sonToward, Toward, CanSplitSon, CanJoin, CanMoveLeft, CanMoveRight, HasDown, pairPlace}
 use Rattle.walking.specs.Walking.{otherCount}
 
 -- One of 17 parties, at a node above the lowest.

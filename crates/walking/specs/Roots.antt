@@ -1,48 +1,44 @@
 -- The root: entered as it is, split under a new one, dropped where its lone son is a node.
 use mathlib.Core.Path.{_≡_, refl, sym, ap, subst, _∙_}
-use mathlib.Core.Bool.{Bool, true, false, cond, not, _&&_}
-use mathlib.Core.List.{List, [], _∷_, _++_, append-assoc, append-nil, map}
+use mathlib.Core.Bool.{Bool, true, false, cond}
+use mathlib.Core.List.{List, [], _∷_, _++_, append-nil, map}
 use mathlib.Core.Logic.{_⊎_, inl, inr}
-use Prim.Native.Nat.{ℕ, zero, suc, _+_, _-_, _≤_, _<_}
+use Prim.Native.Nat.{ℕ, suc, _+_, _≤_}
 use native.Mathlib.Omega.{arith}
-use lib.Dec.{leb, eqb, lit<}
+use lib.Dec.{leb, lit<}
 use lib.ListN.{length, set, getD, take, drop}
-use Rattle.words.specs.Store.{HasRecord, recordAt, wordOf, has-kept}
+use Rattle.words.specs.Store.{HasRecord, wordOf}
 use Rattle.words.specs.Header.{headerWord, putHeaderWord, rootPlace, heightPlace, firstPlace, freePlace}
 use Rattle.words.specs.Frames.{header-same, header-other, header-record}
 use Rattle.nodes.specs.declared.Node.{Node}
 use Rattle.nodes.specs.declared.Neighbours.{Neighbours}
-use Rattle.nodes.specs.Node.{nodeAt, putNode, decodeNode, encodeNode, length-encode, Sized, sized-decode}
+use Rattle.nodes.specs.Node.{nodeAt, putNode, decodeNode}
 use Rattle.nodes.specs.Ops.{withLatch, splitNode, insertBehind, insertSon, loneNode}
 use Rattle.nodes.specs.Live.{Usable, left-usable, right-usable, insert-usable}
 use Rattle.nodes.specs.Entries as N
-use Rattle.nodes.specs.Entries.{entries-length, behind-entries, lone-entries, last-bound, split-left, split-up, split-right}
-use Rattle.chain.specs.Free.{popFree, pushFree}
+use Rattle.nodes.specs.Entries.{entries-length, behind-entries, lone-entries, split-left, split-up, split-right}
+use Rattle.chain.specs.Free.{popFree}
 use Rattle.sessions.specs.declared.Session.{Session}
 use Rattle.sessions.specs.Sessions.{session-at}
-use Rattle.serial.specs.Serial.{true≢false}
-use Rattle.machine.specs.Tree.{mapE, flat, flat-append, leaves}
+use Rattle.machine.specs.Tree.{mapE, flat, leaves}
 use Rattle.machine.specs.Holders.{width, latch-word}
-use Rattle.machine.specs.State.{State, Tree, Root, top, at, with-free, with-root}
-use Rattle.machine.specs.Descent.{Sons, node, halves, sons-of, lone, lone-son, drop-lone, entered, split-root}
-use Rattle.machine.specs.Steps.{root-left, root-gain, whole-root, halved-root, goes-on}
+use Rattle.machine.specs.State.{top, at}
+use Rattle.machine.specs.Descent.{Sons, node, halves, lone, entered}
 use Rattle.machine.specs.Parts.{Free, free-other}
 use Rattle.machine.specs.Sound.{times}
-use Rattle.meaning.specs.Reading.{Chained, Leaf, Mark, Numbered, erase, numbers, node-numbers, M-of, R-of}
-use Rattle.meaning.specs.Sound.{All, Apart}
-use Rattle.meaning.specs.Numbers.{times-append, apart-times, all-as}
-use Rattle.meaning.specs.Around.{NCtx, here, fill, num-of, bound-in}
-use Rattle.layout.specs.Layout.{Lay, leaves-in, Each, NodeFits, TreeFits, SomeSon, Marked, Holds, means}
-use Rattle.layout.specs.Row.{Becomes}
-use Rattle.layout.specs.Written.{Written, SameEntries, written-then, written-none, entries-then, head-written, head-entries, push-written, push-entries, push-head, push-free}
-use Rattle.layout.specs.Keep.{with-tree, Hands, tree-keep, tree-row, chained-keep}
-use Rattle.layout.specs.Puts.{node-count, node-fits, free-pushed}
+use Rattle.meaning.specs.Reading.{Chained, Leaf, Mark, Numbered, erase, numbers, node-numbers, M-of}
+use Rattle.meaning.specs.Sound.{All}
+use Rattle.meaning.specs.Numbers.{times-append, all-as}
+use Rattle.meaning.specs.Around.{here, num-of}
+use Rattle.layout.specs.Layout.{Lay, leaves-in, Each, NodeFits, TreeFits, SomeSon, Marked, Holds}
+use Rattle.layout.specs.Written.{Written, SameEntries, written-then, entries-then, head-written, head-entries}
+use Rattle.layout.specs.Keep.{with-tree, Hands, tree-row, chained-keep}
+use Rattle.layout.specs.Puts.{node-fits}
 use Rattle.layout.specs.Room.{Sizes}
-use Rattle.layout.specs.Asked.{request-in, set-same}
 use Rattle.layout.specs.LatchRows.{relatched, latch-put, latch-written}
 use Rattle.walking.specs.Traces.{Trace, trace-none, trace-node, trace-pop, trace-has, three-first, three-second, three-third}
-use Rattle.walking.specs.Holes.{fits-usable, Ours, hole-most, ours-has, ours-in, ours-far, proper, part-keep, sons-keep, hole-fits}
-use Rattle.walking.specs.Hands.{nd, standing-at, own-hand, some-right, some-cut, marked-below, marked-under, marked-self, node-times, flat-times, one-self, becomes-by}
+use Rattle.walking.specs.Holes.{fits-usable, Ours, hole-most, ours-has, ours-in, ours-far, part-keep, sons-keep}
+use Rattle.walking.specs.Hands.{nd, standing-at, own-hand, some-cut, marked-below, marked-under, marked-self, node-times, flat-times, one-self}
 use Rattle.walking.specs.Levels.{length-mapE, mapE-take, mapE-drop, mapE-bounds, take-drop, flat-halves, each-split, numbers-law, nodes-law, sized-latch, latch-fits}
 
 -- ---- the header's root and height
@@ -83,9 +79,6 @@ module _ (s s₁ : List ℕ) (W : List ℕ) (f : ℕ) (T : Trace s s₁ W f) (r 
 -- ---- a whole tree replaced
 
 module _ (s : List ℕ) (t : List Session) (L : Lay) (H : Holds s t L) where
-  abbrev whole : Numbered (suc (L .height))
-  whole = L .tree
-
   pub root-row : (s′ : List ℕ) (W : List ℕ) (f r g : ℕ) → Topped s s′ W f r g → All (Ours L (suc (L .height)) (L .tree)) W → (h′ : ℕ) (T′ : Numbered (suc h′)) (f′ : List ℕ)
       → leaves Leaf Mark (suc h′) T′ ≡ leaves-in L → g ≡ suc h′ → r ≡ num-of (suc h′) T′ → TreeFits s′ (M-of s) (suc h′) top T′ → Chained s′ (M-of s) f f′
       → ((i : ℕ) → times i (numbers (suc h′) T′) + times i f′ ≡ times i (numbers (suc (L .height)) (L .tree)) + times i (L .free))

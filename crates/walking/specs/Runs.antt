@@ -3,17 +3,15 @@ use mathlib.Core.Path.{_≡_, refl, sym, ap, subst, _∙_}
 use mathlib.Core.Bool.{Bool, true, false, cond, not, _&&_}
 use mathlib.Core.List.{List}
 use Prim.Native.Nat.{ℕ, _+_, _-_, _≤_, _<_}
-use native.Mathlib.Omega.{arith}
 use lib.Dec.{eqb, leb}
-use borrow.Author.Tests.{eq-eqb, ne-eqb}
-use Rattle.words.specs.Store.{HasRecord}
+use borrow.Author.Tests.{eq-eqb}
 use Rattle.words.specs.Header.{headerWord, freePlace}
 use Rattle.nodes.specs.declared.Node.{Node}
 use Rattle.nodes.specs.Node.{nodeAt}
 use Rattle.nodes.specs.Ops.{sonFor, splitNode}
 use Rattle.sessions.specs.declared.Session.{Session}
 use Rattle.outcomes.specs.Said.{Stepped, moved}
-use Rattle.outcomes.specs.declared.Answer.the-variants.{More, Wait, Refused}
+use Rattle.outcomes.specs.declared.Answer.the-variants.{More, Refused}
 use Rattle.outcomes.specs.declared.Moved.{Moved}
 use Rattle.serial.specs.Serial.{true≢false}
 use Rattle.machine.specs.Logic.{eqb-is}

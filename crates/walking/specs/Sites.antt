@@ -3,7 +3,7 @@ use mathlib.Core.Path.{_≡_, refl, sym, ap, subst, _∙_}
 use mathlib.Core.Bool.{false}
 use mathlib.Core.List.{List, [], _∷_, _++_}
 use mathlib.Core.Option.{some}
-use Prim.Native.Nat.{ℕ, zero, suc, _≤_, _<_}
+use Prim.Native.Nat.{ℕ, zero, suc, _≤_}
 use native.Mathlib.Omega.{arith}
 use lib.Dec.{eqb}
 use lib.ListN.{length}
@@ -12,18 +12,17 @@ use Rattle.sessions.specs.declared.Session.{Session}
 use Rattle.sessions.specs.Sessions.{session-at}
 use Rattle.machine.specs.Tree.{mapE, Seg, Hit, hit, Below}
 use Rattle.machine.specs.Holders.{width, latch-word}
-use Rattle.machine.specs.State.{State, sessionOf, top, at}
-use Rattle.machine.specs.Descent.{sons-of}
+use Rattle.machine.specs.State.{sessionOf, top, at}
 use Rattle.machine.specs.Sound as S
 use Rattle.machine.specs.Sound.{Shaped, Descends}
-use Rattle.machine.specs.Context.{Focus, plug}
-use Rattle.machine.specs.Focus.{Lens, least-in, shaped-plug}
+use Rattle.machine.specs.Context.{Focus}
+use Rattle.machine.specs.Focus.{Lens, shaped-plug}
 use Rattle.machine.specs.Looks.{shaped-le}
 use Rattle.machine.specs.Safety.{descent-most}
 use Rattle.meaning.specs.Reading.{Mark, Numbered, erase, hand-of, stage-of}
-use Rattle.meaning.specs.Around.{NCtx, fill, Way}
+use Rattle.meaning.specs.Around.{NCtx, fill}
 use Rattle.layout.specs.Layout.{Lay, Undone, Each, HandFits, session-in, means}
-use Rattle.layout.specs.Places.{AtMark, at-mark, Erased, session-means}
+use Rattle.layout.specs.Places.{at-mark, Erased, session-means}
 use Rattle.layout.specs.Asked.{request-in, hand-in}
 use Rattle.walking.specs.Hands.{nd}
 use Rattle.walking.specs.Levels.{length-mapE}

@@ -2,16 +2,15 @@
 use mathlib.Core.Path.{_≡_, refl, sym, ap, subst, _∙_}
 use mathlib.Core.List.{List, [], _∷_, _++_}
 use Prim.Native.Nat.{ℕ, _≤_, _<_}
-use native.Mathlib.Omega.{arith}
 use lib.Dec.{lit<}
 use lib.ListN.{length}
-use Rattle.words.specs.Store.{HasRecord, recordAt, putRecord, wordOf, has-kept, length-putRecord}
-use Rattle.words.specs.Header.{headerWord, putHeaderWord, rootPlace, heightPlace, freePlace}
+use Rattle.words.specs.Store.{HasRecord, putRecord, wordOf, has-kept, length-putRecord}
+use Rattle.words.specs.Header.{headerWord, freePlace}
 use Rattle.nodes.specs.declared.Node.{Node}
-use Rattle.nodes.specs.Node.{nodeAt, putNode, encodeNode, decodeNode, length-encode, Sized, node-same, node-other}
+use Rattle.nodes.specs.Node.{nodeAt, putNode, encodeNode, length-encode, Sized, node-same, node-other}
 use Rattle.chain.specs.Free.{popFree, pushFree}
 use Rattle.meaning.specs.Reading.{M-of, R-of}
-use Rattle.layout.specs.Written.{Written, SameEntries, written-none, written-then, entries-then, has-written, put-head, put-written, put-entries, pop-written, pop-entries, pop-free, pop-head, push-written, push-entries, push-head, push-free}
+use Rattle.layout.specs.Written.{Written, SameEntries, written-none, written-then, entries-then, put-head, put-written, put-entries, pop-written, pop-entries, pop-free, pop-head, push-written, push-entries, push-head, push-free}
 
 -- From s to s′ only the records of W are written; f is the free word then, and the other header words are the same.
 pub record Trace (s s′ : List ℕ) (W : List ℕ) (f : ℕ) : Type 0 where

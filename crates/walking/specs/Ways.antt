@@ -1,9 +1,9 @@
 -- Latches in the way: what the words' test answers, and the machine's list.
-use mathlib.Core.Path.{_≡_, refl, sym, ap, subst, _∙_}
-use mathlib.Core.Bool.{Bool, true, false, cond, _||_}
+use mathlib.Core.Path.{_≡_, refl, sym, subst, _∙_}
+use mathlib.Core.Bool.{Bool, true, false, cond}
 use mathlib.Core.List.{List, [], _∷_}
 use mathlib.Core.Logic.{_⊎_, inl, inr}
-use Prim.Native.Nat.{ℕ, zero, suc, _+_, _-_, _≤_, _<_}
+use Prim.Native.Nat.{ℕ, suc, _-_}
 use native.Mathlib.Decide.{ℕ-discrete}
 use native.Mathlib.Numerals.{add-one}
 use native.Mathlib.Omega.{arith}
@@ -31,12 +31,6 @@ mine p w = go (ℕ-discrete w 0) (ℕ-discrete w (latch-word p))
     go (yes e) d = none e
     go (no n) (yes e) = own e n
     go (no n) (no k) = others n k
-
-way-is : (p w : ℕ) → Mine p w → inWay p w ≡ cond (eqb w 0 || eqb w (latch-word p)) 0 w
-unfolding inWay
-way-is p w (none e) = rw (eq-eqb w 0 e) refl
-way-is p w (own e n) = rw (ne-eqb w 0 n, add-one p, eq-eqb w (suc p) e) refl
-way-is p w (others n k) = rw (ne-eqb w 0 n, add-one p, ne-eqb w (suc p) k) refl
 
 -- What is added to the machine's list by one word.
 free-in : (p w : ℕ) → (w ≡ 0) ⊎ (w ≡ latch-word p) → (inWay p w ≡ 0) × ((ws : List ℕ) → latch-blockers p (w ∷ ws) ≡ latch-blockers p ws)

@@ -8,7 +8,7 @@ use lib.ListN.{take, drop, length, getD}
 use borrow.Rule.Slice.PartMut.{putMid}
 use Prim.Native.Nat.{ℕ, _+_, _-_, _*_, _≤_, _<_}
 use native.Mathlib.Omega.{arith}
-use Rattle.words.specs.Window.{wordsAt, putAt, length-put, words-put, words-put-before, words-put-after, words-get, words-part, length-words, put-put, put-back}
+use Rattle.words.specs.Window.{wordsAt, putAt, length-put, words-put, words-put-before, words-put-after, words-get, words-part, length-words}
 
 -- how many words an entry has
 abbrev pub entryWords : ℕ
@@ -74,16 +74,6 @@ module _ (s : List ℕ) (m i : ℕ) (w : List ℕ) (has : HasRecord s m i) (whol
       after : i ≤ j → (i ≡ j) ⊎ (i < j) → baseOf m i + 20 ≤ baseOf m j
       after p (inl e) = absurd (ne e)
       after p (inr q) = let f : 1 ≤ i = has .first in omega arith
-
--- the later write of a record counts, and what was read is put back
-pub put-again : (s : List ℕ) (m i : ℕ) (v w : List ℕ) → HasRecord s m i → length v ≡ 20 → length w ≡ 20
-    → putRecord (putRecord s m i v) m i w ≡ putRecord s m i w
-unfolding putRecord
-put-again s m i v w has hv hw = put-put s (baseOf m i) 20 v w (has .inside) hv hw
-
-pub put-read : (s : List ℕ) (m i : ℕ) → HasRecord s m i → putRecord s m i (recordAt s m i) ≡ s
-unfolding putRecord recordAt
-put-read s m i has = put-back s (baseOf m i) 20 (has .inside)
 
 pub length-record : (s : List ℕ) (m i : ℕ) → length (recordAt s m i) ≡ 20
 unfolding recordAt

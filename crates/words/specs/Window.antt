@@ -1,7 +1,7 @@
 -- A window of k words of a list, read and replaced, with the laws of the two.
 use mathlib.Core.Path.{_≡_, refl, sym, ap, _∙_}
 use mathlib.Core.List.{List, [], _∷_, _++_}
-use mathlib.Core.Logic.{_⊎_, inl, inr, ⊎-elim}
+use mathlib.Core.Logic.{_⊎_, inl, inr}
 use Prim.Native.Nat.{ℕ, zero, suc, _+_, _-_, _≤_, _<_}
 use native.Mathlib.Omega.{arith}
 use native.Mathlib.Nat.{add-zero}
@@ -102,32 +102,6 @@ module _ (s : List ℕ) (at k : ℕ) (w : List ℕ) (fits : at + k ≤ length s)
 
 -- ---- writes of windows: the later one counts, what was read is put back, and windows apart are written in either order
 
--- two lists of one length that agree before, in and after a window are one list
-pub put-ext : (l r : List ℕ) (at k : ℕ) → length l ≡ length r → ((j : ℕ) → j < at → getD l j 0 ≡ getD r j 0)
-    → ((j : ℕ) → j < k → getD l (at + j) 0 ≡ getD r (at + j) 0) → ((j : ℕ) → at + k ≤ j → getD l j 0 ≡ getD r j 0) → l ≡ r
-put-ext l r at k e before in-it after = ext-getD 0 l r e (λ j p. ⊎-elim (before j) (λ q. ⊎-elim (mid j q) (after j) (order j (at + k))) (order j at))
-  where
-    mid : (j : ℕ) → at ≤ j → j < at + k → getD l j 0 ≡ getD r j 0
-    mid j q h = at-same l j (at + (j - at)) (omega arith) ∙ in-it (j - at) (omega arith) ∙ at-same r (at + (j - at)) j (omega arith)
-
-pub put-put : (s : List ℕ) (at k : ℕ) (v w : List ℕ) → at + k ≤ length s → length v ≡ k → length w ≡ k
-    → putAt (putAt s at k v) at k w ≡ putAt s at k w
-put-put s at k v w fits hv hw =
-    let e = length-put s at k v fits hv in
-    let t : List ℕ = putAt s at k v in
-    let f : at + k ≤ length t = omega arith in
-    put-ext (putAt t at k w) (putAt s at k w) at k (length-put t at k w f hw ∙ e ∙ sym (length-put s at k w fits hw))
-    (λ j p. put-before t at k w f hw j p ∙ put-before s at k v fits hv j p ∙ sym (put-before s at k w fits hw j p))
-    (λ j p. put-in t at k w f hw j p ∙ sym (put-in s at k w fits hw j p))
-    (λ j p. put-after t at k w f hw j p ∙ put-after s at k v fits hv j p ∙ sym (put-after s at k w fits hw j p))
-
-pub put-back : (s : List ℕ) (at k : ℕ) → at + k ≤ length s → putAt s at k (wordsAt s at k) ≡ s
-put-back s at k fits =
-    let w : List ℕ = wordsAt s at k in
-    let hw = length-words s at k in
-    put-ext (putAt s at k w) s at k (length-put s at k w fits hw) (put-before s at k w fits hw)
-    (λ j p. put-in s at k w fits hw j p ∙ words-get s at k j p) (put-after s at k w fits hw)
-
 -- a word that is replaced leaves each window that it is not in
 pub words-set : (s : List ℕ) (at v b n : ℕ) → (at < b) ⊎ (b + n ≤ at) → wordsAt (set s at v) b n ≡ wordsAt s b n
 words-set s at v b n h = words-same (set s at v) s b b n (λ j p. getD-set-other s at (b + j) v 0 (apart j p h))
@@ -135,9 +109,3 @@ words-set s at v b n h = words-same (set s at v) s b b n (λ j p. getD-set-other
     apart : (j : ℕ) → j < n → (at < b) ⊎ (b + n ≤ at) → b + j ≡ at → ⊥
     apart j p (inl q) e = omega arith
     apart j p (inr q) e = omega arith
-
--- a part that was lent and came back changed by f, as the borrow checker says it
-pub lent-put : (s : List ℕ) (at k : ℕ) {ys : List ℕ} (f : List ℕ → List ℕ) → at + k ≤ length s → ys ≡ f (take k (drop at s))
-    → take at s ++ (ys ++ drop k (drop at s)) ≡ putAt s at k (f (wordsAt s at k))
-unfolding putAt
-lent-put s at k {ys} f h e = ap (λ (y : List ℕ). take at s ++ (y ++ drop k (drop at s))) (e ∙ ap f (words-part s at k h))

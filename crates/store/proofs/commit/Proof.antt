@@ -3,7 +3,7 @@ use contract.Running.{givenOf, tables, tablesOf}
 use denote.Triple.Spec.{tripleOf}
 use denote.Triple.Table.{entered, cited}
 use Rattle.store.specs.Lent.{Committed}
-use Rattle.store.proofs.Callees.{Wrong, Load, Save}
+use Rattle.store.proofs.Callees.{Wrong, Load, Store}
 use Rattle.store.proofs.Thin.{Core, thin-meets}
 use Rattle.store.proofs.Plains.{wordLaws, Word, wordTy}
 use Rattle.store.proofs.wrong_table.Symbol as wrong-def
@@ -12,12 +12,12 @@ use Rattle.store.proofs.wrong_table.Met as wrong-thm
 use Rattle.store.proofs.load_all.Symbol as load-def
 use Rattle.store.proofs.load_all.Symbol.{name as #store·load-all}
 use Rattle.store.proofs.load_all.Met as load-thm
-use Rattle.store.proofs.save_all.Symbol as save-def
-use Rattle.store.proofs.save_all.Symbol.{name as #store·save-all}
-use Rattle.store.proofs.save_all.Met as save-thm
-use Rattle.calls.proofs.commit.Symbol as core-def
-use Rattle.calls.proofs.commit.Symbol.{name as #calls·commit}
-use Rattle.calls.proofs.commit.Met as core-thm
+use Rattle.store.proofs.store_session.Symbol as store-def
+use Rattle.store.proofs.store_session.Symbol.{name as #store·store-session}
+use Rattle.store.proofs.store_session.Met as store-thm
+use Rattle.store.proofs.commit_by_value.Symbol as core-def
+use Rattle.store.proofs.commit_by_value.Symbol.{name as #store·commit-by-value}
+use Rattle.store.proofs.commit_by_value.Met as core-thm
 use Rattle.store.proofs.commit.Key.{name as #store·commit}
 use Rattle.store.proofs.commit as fn
 use Rattle.store.proofs.commit.Statement as stated
@@ -28,8 +28,8 @@ unfolding code.routine tablesOf
 commit-spec 𝓤 H 𝓜 𝓖 𝓡 =
     entered 𝓤 H (tripleOf 𝓤 H (𝓖 .A) fn.signature (fn.spec 𝓤 H (𝓖 .A) (𝓜 .mem) (𝓡 .run)))
     (tables 𝓤 H 𝓜 𝓡 code.env .C) (tables 𝓤 H 𝓜 𝓡 code.env .Λ) #store·commit code.function (code.unfolded 𝓤 H 𝓜 𝓡)
-    (thin-meets (Word .Denot) wordTy (Word .written) (Word .reaches) (Word .own) (Word .coded) wordLaws #calls·commit Committed 𝓤 H (𝓖 .A) (givenOf 𝓤 H 𝓜 𝓖) (𝓜 .mem) (𝓡 .run) (tablesOf 𝓤 H 𝓜 (tables 𝓤 H 𝓜 𝓡 code.env))
+    (thin-meets (Word .Denot) wordTy (Word .written) (Word .reaches) (Word .own) (Word .coded) wordLaws #store·commit-by-value Committed 𝓤 H (𝓖 .A) (givenOf 𝓤 H 𝓜 𝓖) (𝓜 .mem) (𝓡 .run) (tablesOf 𝓤 H 𝓜 (tables 𝓤 H 𝓜 𝓡 code.env))
     (cited 𝓤 H (Wrong 𝓤 H (𝓖 .A) (𝓜 .mem) (𝓡 .run)) 𝓜 𝓡 code.env #store·wrong-table wrong-def.routine code.calls-store·wrong-table (wrong-thm.met 𝓤 H 𝓜 𝓖 𝓡))
     (cited 𝓤 H (Load 𝓤 H (𝓖 .A) (𝓜 .mem) (𝓡 .run)) 𝓜 𝓡 code.env #store·load-all load-def.routine code.calls-store·load-all (load-thm.met 𝓤 H 𝓜 𝓖 𝓡))
-    (cited 𝓤 H (Core (Word .Denot) wordTy (Word .written) (Word .reaches) (Word .own) (Word .coded) wordLaws #calls·commit Committed 𝓤 H (𝓖 .A)) 𝓜 𝓡 code.env #calls·commit core-def.routine code.calls-calls·commit (core-thm.met 𝓤 H 𝓜 𝓖 𝓡))
-    (cited 𝓤 H (Save 𝓤 H (𝓖 .A) (𝓜 .mem) (𝓡 .run)) 𝓜 𝓡 code.env #store·save-all save-def.routine code.calls-store·save-all (save-thm.met 𝓤 H 𝓜 𝓖 𝓡)))
+    (cited 𝓤 H (Core (Word .Denot) wordTy (Word .written) (Word .reaches) (Word .own) (Word .coded) wordLaws #store·commit-by-value Committed 𝓤 H (𝓖 .A)) 𝓜 𝓡 code.env #store·commit-by-value core-def.routine code.calls-store·commit-by-value (core-thm.met 𝓤 H 𝓜 𝓖 𝓡))
+    (cited 𝓤 H (Store 𝓤 H (𝓖 .A) (𝓜 .mem) (𝓡 .run)) 𝓜 𝓡 code.env #store·store-session store-def.routine code.calls-store·store-session (store-thm.met 𝓤 H 𝓜 𝓖 𝓡)))

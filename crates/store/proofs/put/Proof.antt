@@ -3,7 +3,7 @@ use contract.Running.{givenOf, tables, tablesOf}
 use denote.Triple.Spec.{tripleOf}
 use denote.Triple.Table.{entered, cited}
 use Rattle.store.specs.Lent.{Put}
-use Rattle.store.proofs.Callees.{Wrong, Load, Save}
+use Rattle.store.proofs.Callees.{Wrong, Load, Store}
 use Rattle.store.proofs.Thin.{Core, thin-meets}
 use Rattle.store.proofs.Plains.{askLaws, AskR, askTy}
 use Rattle.store.proofs.wrong_table.Symbol as wrong-def
@@ -12,9 +12,9 @@ use Rattle.store.proofs.wrong_table.Met as wrong-thm
 use Rattle.store.proofs.load_all.Symbol as load-def
 use Rattle.store.proofs.load_all.Symbol.{name as #store·load-all}
 use Rattle.store.proofs.load_all.Met as load-thm
-use Rattle.store.proofs.save_all.Symbol as save-def
-use Rattle.store.proofs.save_all.Symbol.{name as #store·save-all}
-use Rattle.store.proofs.save_all.Met as save-thm
+use Rattle.store.proofs.store_session.Symbol as store-def
+use Rattle.store.proofs.store_session.Symbol.{name as #store·store-session}
+use Rattle.store.proofs.store_session.Met as store-thm
 use Rattle.store.proofs.put_by_value.Symbol as core-def
 use Rattle.store.proofs.put_by_value.Symbol.{name as #store·put-by-value}
 use Rattle.store.proofs.put_by_value.Met as core-thm
@@ -32,4 +32,4 @@ put-spec 𝓤 H 𝓜 𝓖 𝓡 =
     (cited 𝓤 H (Wrong 𝓤 H (𝓖 .A) (𝓜 .mem) (𝓡 .run)) 𝓜 𝓡 code.env #store·wrong-table wrong-def.routine code.calls-store·wrong-table (wrong-thm.met 𝓤 H 𝓜 𝓖 𝓡))
     (cited 𝓤 H (Load 𝓤 H (𝓖 .A) (𝓜 .mem) (𝓡 .run)) 𝓜 𝓡 code.env #store·load-all load-def.routine code.calls-store·load-all (load-thm.met 𝓤 H 𝓜 𝓖 𝓡))
     (cited 𝓤 H (Core (AskR .Denot) askTy (AskR .written) (AskR .reaches) (AskR .own) (AskR .coded) askLaws #store·put-by-value Put 𝓤 H (𝓖 .A)) 𝓜 𝓡 code.env #store·put-by-value core-def.routine code.calls-store·put-by-value (core-thm.met 𝓤 H 𝓜 𝓖 𝓡))
-    (cited 𝓤 H (Save 𝓤 H (𝓖 .A) (𝓜 .mem) (𝓡 .run)) 𝓜 𝓡 code.env #store·save-all save-def.routine code.calls-store·save-all (save-thm.met 𝓤 H 𝓜 𝓖 𝓡)))
+    (cited 𝓤 H (Store 𝓤 H (𝓖 .A) (𝓜 .mem) (𝓡 .run)) 𝓜 𝓡 code.env #store·store-session store-def.routine code.calls-store·store-session (store-thm.met 𝓤 H 𝓜 𝓖 𝓡)))

@@ -1,0 +1,44 @@
+// Compare: a second model beside the store on long random schedules of 6 and of 16 sessions and the housekeeper.
+//
+// Every call is made on the store (crate calls) and on a model of plain arrays that was written from document 01 alone (crate naive). Answers and
+// lists are compared at every call; entries, the holders and members of keys, free count and tree at every call of a small round and at every few of
+// a large one. Each committed session runs whole on the logical model, in order of commit, and each aborted one on a copy; the store, with all that
+// are unfinished aborted, is compared with the logical content. The checker judges the store throughout. Random and fixed: each run is the same.
+mod choose;
+mod make;
+mod report;
+mod rounds;
+
+use comparing::book::BOOK;
+use comparing::both::LISTS;
+use report::report;
+use rounds::round;
+use schedules::content::CONTENT;
+use schedules::logs::LOGS;
+use schedules::words::SIDE;
+
+const ROUNDS: u32 = 40;
+
+fn main() {
+    let mut s = [0u32; SIDE];
+    let mut lists = [0u32; LISTS];
+    let mut a = [0u32; naive::SIZE];
+    let mut b = [0u32; BOOK];
+    let mut l = [0u32; LOGS];
+    let mut content = [0u32; CONTENT];
+    b[0] = 19890229;
+    let mut number = 0;
+    while number < ROUNDS {
+        round(
+            &mut s,
+            &mut lists,
+            &mut a,
+            &mut b,
+            &mut l,
+            &mut content,
+            number,
+        );
+        number += 1;
+    }
+    report(&a, &b);
+}

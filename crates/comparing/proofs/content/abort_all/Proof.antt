@@ -1,0 +1,50 @@
+-- `comparing::content::abort_all` is safe and ends.
+use Prim.Native.Nat.{_-_}
+use borrow.Author.Needs.{needs}
+use Rattle.comparing.proofs.content.abort_all.Statement.{statement}
+use Rattle.comparing.proofs.content.abort_all.Tie as tie
+
+abbrev Inv-loop : tie.InvT-loop
+Inv-loop s₀ b₀ lists₀ x i₀ s b lists i = Unit {0}
+
+abbrev μ-loop : tie.MeasureT-loop
+μ-loop s₀ b₀ lists₀ x i₀ s b lists i = 16 - i
+
+random-requires : tie.Need-random-requires Inv-loop μ-loop
+random-requires c κs = search needs
+
+loop-holds : tie.Need-loop-holds Inv-loop μ-loop
+loop-holds c = search needs
+
+in-sequence-requires : tie.Need-in-sequence-requires Inv-loop μ-loop
+in-sequence-requires c κs = search needs
+
+abort-one-requires : tie.Need-abort-one-requires Inv-loop μ-loop
+abort-one-requires c κs = search needs
+
+add-i : tie.Need-add-i Inv-loop μ-loop
+add-i c = search needs
+
+loop-less : tie.Need-loop-less Inv-loop μ-loop
+loop-less c = search needs
+
+loop-again : tie.Need-loop-again Inv-loop μ-loop
+loop-again c = search needs
+
+returns : tie.Need-returns Inv-loop μ-loop
+returns c = search needs
+
+pub abort-all-spec : {M : Type 1} → statement M
+abort-all-spec =
+    tie.close
+    (tie.spec
+    Inv-loop
+    μ-loop
+    random-requires
+    loop-holds
+    in-sequence-requires
+    abort-one-requires
+    add-i
+    loop-less
+    loop-again
+    returns)

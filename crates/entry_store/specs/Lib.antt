@@ -1,0 +1,4 @@
+pub mod Brief
+pub mod Exported
+pub mod Packed
+pub mod Turns

@@ -1,0 +1,123 @@
+-- Demand 3 as a C program sees it: of its calls, of the numbers that they returned and of its lists, with the answers read off the numbers (`unpacked`).
+use mathlib.Core.Path.{_≡_, refl, sym, ap, subst, _∙_}
+use mathlib.Core.Bool.{true}
+use mathlib.Core.List.{List, [], _∷_, map}
+use Prim.Native.Nat.{ℕ, _<_}
+use lib.Dec.{T, ltb, ltb→lt}
+use lib.ListN.{length}
+use Rattle.sessions.specs.declared.Session.{Session}
+use Rattle.sessions.specs.Sessions.{parties}
+use Rattle.serial.specs.Calls.{Turn, nothing, told, Run, stop, next, Demand-3}
+use Rattle.serial.specs.Calls as C
+use Rattle.serial.specs.Serial.{true≢false}
+use Rattle.outcomes.specs.declared.Answer.{Answer}
+use Rattle.outcomes.specs.Said.{said}
+use Rattle.promises.specs.Demands.{Lending, Returns, words}
+use Rattle.store.specs.declared.Ask.{Ask}
+use Rattle.store.specs.Lent.{Formatted, Begun, Put, Committed, Aborted}
+use Rattle.store.specs.Turns.{format-turn, begin-turn, put-turn, step-turn, commit-turn, abort-turn, lent-demand-3}
+use Rattle.entry_store.specs.Packed.{unpacked, unpacked-packed, Small, Worded, Packs}
+use Rattle.entry_store.specs.Brief.{brief, calls-brief, formats-brief}
+use Rattle.entry_store.specs.Exported.{Told, Stepped}
+
+-- ---- the answer read off the number
+
+below : (n : ℕ) → ltb n 256 ≡ true → n < 256
+below n e = ltb→lt n 256 (subst T (sym e) tt)
+
+small-of : (a : C.Answer) → Worded a → brief a ≡ true → Small a
+small-of C.ok w e = tt
+small-of C.more w e = tt
+small-of (C.wait p) w e = w
+small-of (C.done []) w e = tt
+small-of (C.done (n ∷ [])) w e = w
+small-of (C.done (k ∷ b ∷ [])) w e = (w, below b e)
+small-of (C.done (k ∷ b ∷ n ∷ ns)) w e = absurd (true≢false refl (sym e))
+small-of (C.refused n k) w e = (below n e, w)
+
+-- The number that a call returns has its answer, whole.
+pub reads : (a : C.Answer) (r : ℕ) → Packs a r → brief a ≡ true → unpacked r ≡ a
+reads a r P e = ap unpacked (P .is) ∙ unpacked-packed a (small-of a (P .words) e)
+
+-- ---- calls in turn
+
+-- One call, the number that it returned, and the words of the lent list then.
+pub record Exchange : Type 0 where
+  pub call : C.Call
+  pub number : ℕ
+  pub list : List ℕ
+
+-- What it tells: the answer read off the number. Calls but step have no list.
+abbrev pub list-told : C.Call → List ℕ → List ℕ
+list-told (C.format m) l = []
+list-told (C.begin p) l = []
+list-told (C.put p c e f g) l = []
+list-told (C.step p w) l = l
+list-told (C.commit p) l = []
+list-told (C.abort p) l = []
+
+abbrev pub turn-of : Exchange → Turn
+turn-of k = record { call = k .call; answer = unpacked (k .number); list = list-told (k .call) (k .list) }
+
+-- The exported function of the call may return so.
+abbrev pub Exported : Lending → C.Call → ℕ → List ℕ → Lending → Type 0
+Exported x (C.format m) r l y = Told Formatted (x .store) (x .table) m r (y .store) (y .table)
+Exported x (C.begin p) r l y = Told Begun (x .store) (x .table) p r (y .store) (y .table)
+Exported x (C.put p c e f g) r l y = Told Put (x .store) (x .table) (record { party = p; code = c; entry = e; first = f; second = g }) r (y .store) (y .table)
+Exported x (C.step p w) r l y = Stepped (x .store) (x .table) w p r (y .store) (y .table) l
+Exported x (C.commit p) r l y = Told Committed (x .store) (x .table) p r (y .store) (y .table)
+Exported x (C.abort p) r l y = Told Aborted (x .store) (x .table) p r (y .store) (y .table)
+
+-- A list of calls.
+pub data Exchanges : Lending → List Exchange → Lending → Type 0 where
+  over : {x : Lending} → Exchanges x [] x
+  then : {x y z : Lending} {k : Exchange} {ks : List Exchange} → Exported x (k .call) (k .number) (k .list) y → Exchanges y ks z → Exchanges x (k ∷ ks) z
+
+module _ (x y : Lending) (r : ℕ) (n : length (x .table) ≡ parties) where
+  abbrev s : List ℕ
+  s = x .store
+
+  abbrev t : List Session
+  t = x .table
+
+  abbrev s′ : List ℕ
+  s′ = y .store
+
+  abbrev t′ : List Session
+  t′ = y .table
+
+  read-off : (c : C.Call) (a : C.Answer) (l : List ℕ) → Packs a r → brief a ≡ true → Returns x (record { call = c; answer = a; list = l }) y → Returns x (record { call = c; answer = unpacked r; list = l }) y
+  read-off c a l P e h = subst (λ z. Returns x (record { call = c; answer = z; list = l }) y) (sym (reads a r P e)) h
+
+  returns : (c : C.Call) (l : List ℕ) → Exported x c r l y → Returns x (record { call = c; answer = unpacked r; list = list-told c l }) y
+  returns (C.format m) l h = let a = h .answer in read-off (C.format m) (said a) [] (h .packs) (formats-brief m s t (said a) s′ t′ (h .does .0 n)) (format-turn s t a s′ t′ n m (h .does))
+  returns (C.begin p) l h = let a = h .answer in read-off (C.begin p) (said a) [] (h .packs) (calls-brief (C.begin p) s t (said a) [] s′ t′ (h .does .0 n)) (begin-turn s t a s′ t′ n p (h .does))
+  returns (C.put p c e f g) l h =
+      let a = h .answer in
+      let k : Ask = record { party = p; code = c; entry = e; first = f; second = g } in
+      read-off (C.put p c e f g) (said a) [] (h .packs) (calls-brief (C.put p c e f g) s t (said a) [] s′ t′ (h .does .0 n)) (put-turn s t a s′ t′ n k (h .does))
+  returns (C.step p w) l h = let a = h .answer in read-off (C.step p w) (said a) l (h .packs) (calls-brief (C.step p w) s t (said a) l s′ t′ (h .does .0 n)) (step-turn s t a s′ t′ n w p l (h .does))
+  returns (C.commit p) l h = let a = h .answer in read-off (C.commit p) (said a) [] (h .packs) (calls-brief (C.commit p) s t (said a) [] s′ t′ (h .does .0 n)) (commit-turn s t a s′ t′ n p (h .does))
+  returns (C.abort p) l h = let a = h .answer in read-off (C.abort p) (said a) [] (h .packs) (calls-brief (C.abort p) s t (said a) [] s′ t′ (h .does .0 n)) (abort-turn s t a s′ t′ n p (h .does))
+
+  -- The table stays of 17 records.
+  long : (c : C.Call) (l : List ℕ) → Exported x c r l y → length (y .table) ≡ parties
+  long (C.format m) l h = h .table-long ∙ n
+  long (C.begin p) l h = h .table-long ∙ n
+  long (C.put p c e f g) l h = h .table-long ∙ n
+  long (C.step p w) l h = h .table-long ∙ n
+  long (C.commit p) l h = h .table-long ∙ n
+  long (C.abort p) l h = h .table-long ∙ n
+
+runs : {x y : Lending} {ks : List Exchange} → length (x .table) ≡ parties → Exchanges x ks y → Run words x (map turn-of ks) y
+runs n over = stop
+runs n (then {x} {y} {z} {k} {ks} d r) = next (returns x y (k .number) n (k .call) (k .list) d) (runs (long x y (k .number) n (k .call) (k .list) d) r)
+
+-- A format that returned 0, ok, on a table of 17 records; then any list of calls, by any parties: it keeps demand 3.
+pub exported-demand-3 : (m : ℕ) (x x′ : Lending) → length (x .table) ≡ parties → Told Formatted (x .store) (x .table) m 0 (x′ .store) (x′ .table)
+    → (ks : List Exchange) (y : Lending) → Exchanges x′ ks y → Demand-3 words (told nothing (map turn-of ks)) y
+unfolding unpacked
+exported-demand-3 m x x′ n h ks y r =
+    let a = h .answer in
+    let e = reads (said a) 0 (h .packs) (formats-brief m (x .store) (x .table) (said a) (x′ .store) (x′ .table) (h .does .0 n)) in
+    lent-demand-3 (x .store) (x .table) a (x′ .store) (x′ .table) n m (h .does) (sym e) (map turn-of ks) y (runs (h .table-long ∙ n) r)

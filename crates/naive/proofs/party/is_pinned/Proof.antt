@@ -1,0 +1,46 @@
+-- `naive::party::is_pinned` is safe and ends.
+use borrow.Author.Needs.{needs}
+use Prim.Native.Nat.{_-_}
+use Rattle.naive.proofs.party.is_pinned.Statement.{statement}
+use Rattle.naive.proofs.party.is_pinned.Tie as tie
+
+abbrev Inv-loop : tie.InvT-loop
+Inv-loop a key q₀ q = Unit {0}
+
+abbrev μ-loop : tie.MeasureT-loop
+μ-loop a key q₀ q = 17 - q
+
+loop-holds : tie.Need-loop-holds Inv-loop μ-loop
+loop-holds c = search needs
+
+is-pinned-by-requires : tie.Need-is-pinned-by-requires Inv-loop μ-loop
+is-pinned-by-requires c κs = search needs
+
+returns : tie.Need-returns Inv-loop μ-loop
+returns c = search needs
+
+add-q : tie.Need-add-q Inv-loop μ-loop
+add-q c = search needs
+
+loop-less : tie.Need-loop-less Inv-loop μ-loop
+loop-less c = search needs
+
+loop-again : tie.Need-loop-again Inv-loop μ-loop
+loop-again c = search needs
+
+returns-2 : tie.Need-returns-2 Inv-loop μ-loop
+returns-2 c = search needs
+
+pub is-pinned-spec : {M : Type 1} → statement M
+is-pinned-spec =
+    tie.close
+    (tie.spec
+    Inv-loop
+    μ-loop
+    loop-holds
+    is-pinned-by-requires
+    returns
+    add-q
+    loop-less
+    loop-again
+    returns-2)

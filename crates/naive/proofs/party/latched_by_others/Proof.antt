@@ -1,0 +1,46 @@
+-- `naive::party::latched_by_others` is safe and ends.
+use borrow.Author.Needs.{needs}
+use Prim.Native.Nat.{_-_}
+use Rattle.naive.proofs.party.latched_by_others.Statement.{statement}
+use Rattle.naive.proofs.party.latched_by_others.Tie as tie
+
+abbrev Inv-loop : tie.InvT-loop
+Inv-loop a p n parties₀ q₀ parties q = Unit {0}
+
+abbrev μ-loop : tie.MeasureT-loop
+μ-loop a p n parties₀ q₀ parties q = 17 - q
+
+loop-holds : tie.Need-loop-holds Inv-loop μ-loop
+loop-holds c = search needs
+
+is-latched-requires : tie.Need-is-latched-requires Inv-loop μ-loop
+is-latched-requires c κs = search needs
+
+party-bit-requires : tie.Need-party-bit-requires Inv-loop μ-loop
+party-bit-requires c κs = search needs
+
+add-q : tie.Need-add-q Inv-loop μ-loop
+add-q c = search needs
+
+loop-less : tie.Need-loop-less Inv-loop μ-loop
+loop-less c = search needs
+
+loop-again : tie.Need-loop-again Inv-loop μ-loop
+loop-again c = search needs
+
+returns : tie.Need-returns Inv-loop μ-loop
+returns c = search needs
+
+pub latched-by-others-spec : {M : Type 1} → statement M
+latched-by-others-spec =
+    tie.close
+    (tie.spec
+    Inv-loop
+    μ-loop
+    loop-holds
+    is-latched-requires
+    party-bit-requires
+    add-q
+    loop-less
+    loop-again
+    returns)

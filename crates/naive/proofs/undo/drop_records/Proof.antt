@@ -1,0 +1,76 @@
+-- `naive::undo::drop_records` is safe and ends.
+use borrow.Author.Needs.{needs}
+use Prim.Native.Nat.{_-_}
+use lib.ListN.{length}
+use mathlib.Core.Path.{_≡_}
+use Rattle.naive.proofs.undo.drop_records.Statement.{statement}
+use Rattle.naive.proofs.undo.drop_records.Tie as tie
+
+abbrev Inv-loop : tie.InvT-loop
+Inv-loop a₀ p count n₀ i₀ a n i = (length a ≡ length a₀)
+
+abbrev μ-loop : tie.MeasureT-loop
+μ-loop a₀ p count n₀ i₀ a n i = 4096 - i
+
+get-requires : tie.Need-get-requires Inv-loop μ-loop
+get-requires c κs = search needs
+
+loop-holds : tie.Need-loop-holds Inv-loop μ-loop
+loop-holds c = search needs
+
+set-requires : tie.Need-set-requires Inv-loop μ-loop
+set-requires c κs = search needs
+
+minus-requires : tie.Need-minus-requires Inv-loop μ-loop
+minus-requires c κs = search needs
+
+same-length : tie.Need-same-length Inv-loop μ-loop
+same-length c = cc
+
+returns : tie.Need-returns Inv-loop μ-loop
+returns c = search needs
+
+keep-record-requires : tie.Need-keep-record-requires Inv-loop μ-loop
+keep-record-requires c κs = search needs
+
+add-i : tie.Need-add-i Inv-loop μ-loop
+add-i c = search needs
+
+loop-less : tie.Need-loop-less Inv-loop μ-loop
+loop-less c = search needs
+
+loop-again : tie.Need-loop-again Inv-loop μ-loop
+loop-again c = search needs
+
+set-requires-2 : tie.Need-set-requires-2 Inv-loop μ-loop
+set-requires-2 c κs = search needs
+
+minus-requires-2 : tie.Need-minus-requires-2 Inv-loop μ-loop
+minus-requires-2 c κs = search needs
+
+same-length-2 : tie.Need-same-length-2 Inv-loop μ-loop
+same-length-2 c = cc
+
+returns-2 : tie.Need-returns-2 Inv-loop μ-loop
+returns-2 c = search needs
+
+pub drop-records-spec : {M : Type 1} → statement M
+drop-records-spec =
+    tie.close
+    (tie.spec
+    Inv-loop
+    μ-loop
+    get-requires
+    loop-holds
+    set-requires
+    minus-requires
+    same-length
+    returns
+    keep-record-requires
+    add-i
+    loop-less
+    loop-again
+    set-requires-2
+    minus-requires-2
+    same-length-2
+    returns-2)

@@ -1,0 +1,58 @@
+-- `schedules::content::locate` is safe and ends.
+use Prim.Native.Nat.{_-_}
+use borrow.Author.Needs.{needs}
+use Rattle.schedules.proofs.content.locate.Statement.{statement}
+use Rattle.schedules.proofs.content.locate.Tie as tie
+
+abbrev Inv-loop : tie.InvT-loop
+Inv-loop c first second x₀ n i₀ x i = Unit {0}
+
+abbrev μ-loop : tie.MeasureT-loop
+μ-loop c first second x₀ n i₀ x i = n - i
+
+plain-requires : tie.Need-plain-requires Inv-loop μ-loop
+plain-requires c κs = search needs
+
+keys-requires : tie.Need-keys-requires Inv-loop μ-loop
+keys-requires c κs = search needs
+
+loop-holds : tie.Need-loop-holds Inv-loop μ-loop
+loop-holds c = search needs
+
+key-requires : tie.Need-key-requires Inv-loop μ-loop
+key-requires c κs = search needs
+
+group-requires : tie.Need-group-requires Inv-loop μ-loop
+group-requires c κs = search needs
+
+with-group-requires : tie.Need-with-group-requires Inv-loop μ-loop
+with-group-requires c κs = search needs
+
+add-i : tie.Need-add-i Inv-loop μ-loop
+add-i c = search needs
+
+loop-less : tie.Need-loop-less Inv-loop μ-loop
+loop-less c = search needs
+
+loop-again : tie.Need-loop-again Inv-loop μ-loop
+loop-again c = search needs
+
+returns : tie.Need-returns Inv-loop μ-loop
+returns c = search needs
+
+pub locate-spec : {M : Type 1} → statement M
+locate-spec =
+    tie.close
+    (tie.spec
+    Inv-loop
+    μ-loop
+    plain-requires
+    keys-requires
+    loop-holds
+    key-requires
+    group-requires
+    with-group-requires
+    add-i
+    loop-less
+    loop-again
+    returns)

@@ -1,0 +1,49 @@
+-- `schedules::reading::descriptor` is safe and ends.
+use borrow.Author.Needs.{needs}
+use Rattle.schedules.proofs.reading.descriptor.Statement.{statement}
+use Rattle.schedules.proofs.reading.descriptor.Tie as tie
+
+abbrev Inv-loop : tie.InvT-loop
+Inv-loop s places x₀ left₀ x left = Unit {0}
+
+abbrev μ-loop : tie.MeasureT-loop
+μ-loop s places x₀ left₀ x left = left
+
+first-requires : tie.Need-first-requires Inv-loop μ-loop
+first-requires c κs = search needs
+
+loop-holds : tie.Need-loop-holds Inv-loop μ-loop
+loop-holds c = search needs
+
+field-requires : tie.Need-field-requires Inv-loop μ-loop
+field-requires c κs = search needs
+
+returns : tie.Need-returns Inv-loop μ-loop
+returns c = search needs
+
+sub-left : tie.Need-sub-left Inv-loop μ-loop
+sub-left c = search needs
+
+loop-less : tie.Need-loop-less Inv-loop μ-loop
+loop-less c = search needs
+
+loop-again : tie.Need-loop-again Inv-loop μ-loop
+loop-again c = search needs
+
+returns-2 : tie.Need-returns-2 Inv-loop μ-loop
+returns-2 c = search needs
+
+pub descriptor-spec : {M : Type 1} → statement M
+descriptor-spec =
+    tie.close
+    (tie.spec
+    Inv-loop
+    μ-loop
+    first-requires
+    loop-holds
+    field-requires
+    returns
+    sub-left
+    loop-less
+    loop-again
+    returns-2)

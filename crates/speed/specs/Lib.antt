@@ -1,2 +1,0 @@
--- The specifications of the crate speed.
-pub mod Speed
