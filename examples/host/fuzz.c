@@ -1,0 +1,967 @@
+// Random calls on random and damaged words, held against the plain facts of the contract.
+//
+// Usage: fuzz SECONDS [SEED [RUN]]. Runs are numbered from 0; each has its own numbers, drawn from SEED and
+// its number, so that a run can be made again alone. With RUN only that one is made.
+//
+// A run lends a store, a table and a list. Each lies against a page that may not be touched, at its front or
+// at its end, so that any access outside on that side ends the program; the bytes on the other side have a
+// pattern, which must stay. Before each call all three are copied, and after it they are compared.
+//
+// The facts (each is a function below, and prints its name where it fails):
+//   - the bits of an answer are those that the header names: word, number, value, and how many numbers there
+//   are
+//   - which words each call may answer, and refusals 1 to 12 only
+//   - a call is refused exactly by the first check that fails, in the order of the scope paper; 11 and 12
+//   only in a
+//     step; and it is refused with 2 exactly if entry_store_fault names a part
+//   - a refusal but 11 and 12, and a wait, change nothing; 11 and 12 change the party's own record, and in
+//   the store
+//     at most one short lock and two seize counts
+//   - a wait names a party that has begun, never the caller
+//   - done ends the request in hand, more leaves it; a read answers the entry's value; a locate's pairs rise,
+//   lie in
+//     its range and are as many as it says; nothing else writes the list
+//   - only the caller's record of the table changes; begin and put leave the store
+//   - after every accepted call store and table are sound, M and R and the words beyond the records as before
+//
+// Prints how often each call gave each answer, and then ok, or the fact that failed and how to see it again.
+#define _DEFAULT_SOURCE
+#include "entry_store.h"
+
+#include <signal.h>
+#include <stdio.h>
+#include <stdlib.h>
+#include <string.h>
+#include <sys/mman.h>
+#include <time.h>
+#include <unistd.h>
+
+// ---- random numbers
+
+static uint64_t state;
+
+// splitmix64
+static uint64_t next_random(void)
+{
+    uint64_t z = state += UINT64_C(0x9e3779b97f4a7c15);
+    z = (z ^ z >> 30) * UINT64_C(0xbf58476d1ce4e5b9);
+    z = (z ^ z >> 27) * UINT64_C(0x94d049bb133111eb);
+    return z ^ z >> 31;
+}
+
+static uint32_t any_word(void)
+{
+    return (uint32_t)next_random();
+}
+
+// 0 to n - 1
+static uint32_t below(uint32_t n)
+{
+    return (uint32_t)((next_random() >> 32) * n >> 32);
+}
+
+static int one_in(uint32_t n)
+{
+    return below(n) == 0;
+}
+
+// Words that are likely to be on an edge.
+static uint32_t odd_word(void)
+{
+    static const uint32_t edges[] = {0,    1,    2,    3,    8,    15,         16,         17,         18,
+                                     1023, 1024, 1025, 4095, 4096, 4097,       0x7fffffff, 0x80000000, 0xffff,
+                                     20,   19,   21,   7,    9,    0xfffffffd, 0xfffffffe, 0xffffffff};
+    return one_in(2) ? edges[below(sizeof edges / sizeof edges[0])] : any_word();
+}
+
+// ---- lent memory between two pages that may not be touched
+
+enum { MAX_STORE = 16 + 3 * 1024 + 20 * 4096 + 64, MAX_TABLE = 24, MAX_LIST = 4096, PATTERN = 0xa5 };
+
+struct lent {
+    unsigned char *room; // between the two pages
+    size_t room_bytes;
+    unsigned char *at; // what is lent
+    size_t bytes;
+    unsigned char *copy; // as it was before the call
+};
+
+static void make_room(struct lent *l, size_t bytes)
+{
+    size_t page = (size_t)sysconf(_SC_PAGESIZE);
+    l->room_bytes = (bytes + page - 1) / page * page;
+    unsigned char *all =
+        mmap(NULL, l->room_bytes + 2 * page, PROT_READ | PROT_WRITE, MAP_PRIVATE | MAP_ANONYMOUS, -1, 0);
+    l->copy = malloc(l->room_bytes);
+    if (all == MAP_FAILED || l->copy == NULL || mprotect(all, page, PROT_NONE) != 0 ||
+        mprotect(all + page + l->room_bytes, page, PROT_NONE) != 0) {
+        fprintf(stderr, "no memory\n");
+        exit(2);
+    }
+    l->room = all + page;
+    memset(l->room, PATTERN, l->room_bytes);
+}
+
+// Lends so many bytes at the front or at the end of the room.
+static void lend(struct lent *l, size_t bytes)
+{
+    memset(l->room, PATTERN, l->room_bytes);
+    l->bytes = bytes;
+    l->at = one_in(2) ? l->room : l->room + l->room_bytes - bytes;
+}
+
+static void keep(struct lent *l)
+{
+    memcpy(l->copy, l->at, l->bytes);
+}
+
+static int unchanged(const struct lent *l)
+{
+    return memcmp(l->copy, l->at, l->bytes) == 0;
+}
+
+// The nearest bytes of the room on both sides have their pattern.
+static int pattern_kept(const struct lent *l)
+{
+    enum { NEAR = 256 };
+    size_t front = (size_t)(l->at - l->room), behind = l->room_bytes - front - l->bytes;
+    for (size_t k = 0; k < NEAR; k++) {
+        if (k < front && l->at[-1 - (ptrdiff_t)k] != PATTERN) {
+            return 0;
+        }
+        if (k < behind && l->at[l->bytes + k] != PATTERN) {
+            return 0;
+        }
+    }
+    return 1;
+}
+
+static struct lent store_room, table_room, list_room;
+static uint32_t *store, *list;
+static struct entry_store_session *table;
+static size_t store_len, table_len, list_len;
+
+static void lend_store(size_t words)
+{
+    store_len = words;
+    lend(&store_room, words * sizeof *store);
+    store = (uint32_t *)(void *)store_room.at;
+}
+
+static void lend_table(size_t records)
+{
+    table_len = records;
+    lend(&table_room, records * sizeof *table);
+    table = (struct entry_store_session *)(void *)table_room.at;
+}
+
+static void lend_list(size_t words)
+{
+    list_len = words;
+    lend(&list_room, words * sizeof *list);
+    list = (uint32_t *)(void *)list_room.at;
+}
+
+// What was there before the call.
+static const uint32_t *old_store(void)
+{
+    return (const uint32_t *)(const void *)store_room.copy;
+}
+
+static const struct entry_store_session *old_table(void)
+{
+    return (const struct entry_store_session *)(const void *)table_room.copy;
+}
+
+static const uint32_t *old_list(void)
+{
+    return (const uint32_t *)(const void *)list_room.copy;
+}
+
+// ---- one call
+
+enum call { FORMAT, BEGIN, PUT, STEP, COMMIT, ABORT, CALLS };
+
+static const char *const call_names[CALLS] = {"format", "begin", "put", "step", "commit", "abort"};
+
+struct asked {
+    enum call call;
+    uint32_t party, code, entry, first, second; // format: entry is M
+};
+
+static struct asked now;
+static uint64_t seed, run_number, call_number;
+
+static uint64_t make_call(const struct asked *a)
+{
+    switch (a->call) {
+    case FORMAT:
+        return entry_store_format(store, store_len, table, table_len, a->entry);
+    case BEGIN:
+        return entry_store_begin(store, store_len, table, table_len, a->party);
+    case PUT:
+        return entry_store_put(store, store_len, table, table_len, a->party, a->code, a->entry, a->first,
+                               a->second);
+    case STEP:
+        return entry_store_step(store, store_len, table, table_len, list, list_len, a->party);
+    case COMMIT:
+        return entry_store_commit(store, store_len, table, table_len, a->party);
+    default:
+        return entry_store_abort(store, store_len, table, table_len, a->party);
+    }
+}
+
+static void print_place(void)
+{
+    printf("seed %llu, run %llu, call %llu: %s party %u code %u entry %u first %u second %u; lengths %zu %zu "
+           "%zu\n",
+           (unsigned long long)seed, (unsigned long long)run_number, (unsigned long long)call_number,
+           call_names[now.call], now.party, now.code, now.entry, now.first, now.second, store_len, table_len,
+           list_len);
+    printf("again: fuzz 0 %llu %llu\n", (unsigned long long)seed, (unsigned long long)run_number);
+}
+
+// A fact does not hold.
+static void fails(const char *fact)
+{
+    printf("NOT SO: %s\n", fact);
+    print_place();
+    exit(1);
+}
+
+static void fact(int holds, const char *text)
+{
+    if (!holds) {
+        fails(text);
+    }
+}
+
+// An access outside what was lent, or another fault of the machine.
+static void on_signal(int number)
+{
+    printf("NOT SO: a call touches only what it is lent, and returns (signal %d)\n", number);
+    print_place();
+    fflush(stdout);
+    _exit(1);
+}
+
+// ---- the refusal that the scope paper gives, from arguments, table and lengths
+
+static uint32_t format_refusal(uint32_t m)
+{
+    if (m < 1 || m > 1024 || store_len < 16 + 3 * (size_t)m) {
+        return ENTRY_STORE_SIZES;
+    }
+    return (store_len - 16 - 3 * (size_t)m) / 20 < 8 ? ENTRY_STORE_SIZES : 0;
+}
+
+static int infinite(uint32_t key)
+{
+    return key == 0 || key == UINT32_MAX;
+}
+
+static uint32_t request_refusal(const struct asked *a)
+{
+    uint32_t code = a->code;
+    if (code < 1 || code > 6 || (code == 6) != (a->party == 0)) {
+        return ENTRY_STORE_CODE;
+    }
+    if (code <= 4 && (a->entry < 1 || a->entry > old_store()[0])) {
+        return ENTRY_STORE_ENTRY;
+    }
+    if ((code == 3 || code == 4 || code == 5) && infinite(a->first)) {
+        return ENTRY_STORE_KEY;
+    }
+    if (code == 5 && infinite(a->second)) {
+        return ENTRY_STORE_KEY;
+    }
+    return code == 5 && a->first > a->second ? ENTRY_STORE_RANGE : 0;
+}
+
+// The checks 4, 5 and 7 of a party.
+static uint32_t party_refusal(const struct asked *a)
+{
+    if (a->party > 16 || (a->party == 0 && a->call != PUT && a->call != STEP)) {
+        return ENTRY_STORE_PARTY;
+    }
+    const struct entry_store_session *s = &old_table()[a->party];
+    int begun = a->party == 0 || s->begun != 0, in_hand = s->stage != 0;
+    if (begun == (a->call == BEGIN)) {
+        return ENTRY_STORE_BEGUN;
+    }
+    if (((a->call == PUT || a->call == COMMIT) && in_hand) || (a->call == STEP && !in_hand)) {
+        return ENTRY_STORE_HAND;
+    }
+    return 0;
+}
+
+// fault is that of store and table before the call.
+static uint32_t expected_refusal(const struct asked *a, uint32_t fault)
+{
+    if (table_len != 17) {
+        return ENTRY_STORE_TABLE;
+    }
+    if (a->call == FORMAT) {
+        return format_refusal(a->entry);
+    }
+    if (fault != 0) {
+        return ENTRY_STORE_UNSOUND;
+    }
+    uint32_t refusal = party_refusal(a);
+    return refusal == 0 && a->call == PUT ? request_refusal(a) : refusal;
+}
+
+// ---- facts about an answer alone
+
+static void facts_of_bits(uint64_t bits, struct entry_store_answer a)
+{
+    uint32_t count = entry_store_count_of(bits);
+    fact(bits >> 56 == 0, "bits 56 to 63 are 0");
+    fact(a.word <= ENTRY_STORE_REFUSED, "the word is one of five");
+    switch (a.word) {
+    case ENTRY_STORE_WAIT:
+        fact(count == 1 && a.number == 0, "wait has one number");
+        break;
+    case ENTRY_STORE_DONE:
+        fact(count == 1 || count == 2, "done has one number or two");
+        fact(count == 2 || a.number == 0, "done without a second number has 0 in its place");
+        break;
+    case ENTRY_STORE_REFUSED:
+        fact(count == 2, "refused has two numbers");
+        fact(a.number >= 1 && a.number <= 12, "a refusal is 1 to 12");
+        fact(a.value == 0 || a.number == ENTRY_STORE_LIST, "0 stands beside a refusal but 12");
+        break;
+    default:
+        fact(count == 0 && a.number == 0 && a.value == 0, "ok and more have no number");
+    }
+}
+
+static void facts_of_word(struct entry_store_answer a)
+{
+    int stepped = now.call == STEP;
+    int moves = a.word == ENTRY_STORE_MORE || a.word == ENTRY_STORE_WAIT || a.word == ENTRY_STORE_DONE;
+    fact(!moves || stepped, "only a step answers more, wait or done");
+    fact(a.word != ENTRY_STORE_OK || !stepped, "a step never answers ok");
+}
+
+static void facts_of_refusal(struct entry_store_answer a, uint32_t fault)
+{
+    uint32_t expected = expected_refusal(&now, fault);
+    uint32_t number = a.word == ENTRY_STORE_REFUSED ? a.number : 0;
+    if (number == ENTRY_STORE_FULL || number == ENTRY_STORE_LIST) {
+        fact(now.call == STEP, "11 and 12 arise in a step");
+        number = 0;
+    }
+    fact(number == expected, "a call is refused by the first check that fails, and by no other");
+}
+
+// ---- facts about what was changed
+
+static void nothing_changed(void)
+{
+    fact(unchanged(&store_room), "the store is not changed");
+    fact(unchanged(&table_room), "the table is not changed");
+    fact(unchanged(&list_room), "the list is not changed");
+}
+
+// Only the caller's record, and the other records as before.
+static void only_own_record(void)
+{
+    for (size_t p = 0; p < table_len; p++) {
+        fact(p == now.party || memcmp(&table[p], &old_table()[p], sizeof *table) == 0,
+             "only the caller's record of the table changes");
+    }
+}
+
+static size_t words_in_use(void)
+{
+    return 16 + 3 * (size_t)store[0] + 20 * (size_t)store[1];
+}
+
+static void words_beyond_kept(void)
+{
+    size_t used = words_in_use();
+    fact(used <= store_len, "M and R fit the length");
+    fact(memcmp(store + used, old_store() + used, (store_len - used) * sizeof *store) == 0,
+         "the words beyond the records are not changed");
+}
+
+// Whether word k of a node that has so many sons is unused.
+static int unused_in_node(size_t k, uint32_t sons)
+{
+    return k >= 17 || (k >= 2 && k < 9 && k - 2 + 1 >= sons) || (k >= 9 && k - 9 >= sons);
+}
+
+// Whether 11 and 12 may change word k of the store: the short lock of the request's node, the seize counts of
+// its descriptors. These records are written whole, so that unused words of them may become 0.
+static int ends_with_request(size_t k)
+{
+    const struct entry_store_session *r = &old_table()[now.party];
+    size_t records = 16 + 3 * (size_t)store[0];
+    if (k < records) {
+        return 0;
+    }
+    size_t i = (k - records) / 20 + 1, at = (k - records) % 20;
+    if (r->stage == 3 && i == r->at) {
+        return at == 0 || (store[k] == 0 && unused_in_node(at, old_store()[k - at + 1]));
+    }
+    return (i == r->low || i == r->high) && (at == 5 || (store[k] == 0 && at >= 7));
+}
+
+// 11 and 12 end the request, its short lock and its seizures.
+static void only_request_ended(void)
+{
+    for (size_t k = 0; k < store_len; k++) {
+        fact(store[k] == old_store()[k] || ends_with_request(k),
+             "11 and 12 change no word in use but the request's short lock and seize counts");
+    }
+    fact(table[now.party].stage == 0, "11 and 12 end the request");
+    fact(unchanged(&list_room), "11 and 12 leave the list");
+}
+
+// ---- facts of each answer
+
+static void facts_of_wait(struct entry_store_answer a)
+{
+    nothing_changed();
+    fact(a.value <= 16, "wait names a party");
+    fact(a.value != now.party, "wait never names the caller");
+    fact(a.value == 0 ? table[0].stage != 0 : table[a.value].begun != 0, "wait names a party that has begun");
+}
+
+// The pairs of a locate that is done.
+static void facts_of_pairs(uint32_t count, const struct entry_store_session *r)
+{
+    fact(2 * (uint64_t)count <= list_len, "a locate's pairs fit the list");
+    for (uint32_t k = 0; k < count; k++) {
+        uint32_t key = list[2 * k], entry = list[2 * k + 1];
+        fact(key >= r->first && key <= r->second, "a locate's keys lie in its range");
+        fact(entry >= 1 && entry <= store[0], "a locate's entries are 1 to M");
+        fact(k == 0 || key > list[2 * k - 2] || (key == list[2 * k - 2] && entry > list[2 * k - 1]),
+             "a locate's pairs rise by key, then entry");
+    }
+    fact(memcmp(list + 2 * count, old_list() + 2 * count, (list_len - 2 * count) * sizeof *list) == 0,
+         "later words of the list stay");
+}
+
+static void facts_of_done(struct entry_store_answer a, uint32_t count)
+{
+    const struct entry_store_session *r = &old_table()[now.party];
+    const uint32_t *entry = store + 16 + 3 * (size_t)(r->code <= 4 ? r->entry - 1 : 0);
+    fact(r->stage != 0, "done needs a request in hand");
+    fact(table[now.party].stage == 0, "done ends the request");
+    fact((count == 2) == (r->code == 6), "a tidy's done has two numbers, any other one");
+    switch (r->code) {
+    case 1:
+        fact(a.value == entry[0] && (entry[1] >> (now.party - 1) & 1) == 1,
+             "a read answers the value, and shares it");
+        break;
+    case 2:
+        fact(a.value == 0 && entry[0] == r->first && (entry[2] >> (now.party - 1) & 1) == 1,
+             "a write answers 0, writes, and has the entry for itself");
+        break;
+    case 5:
+        facts_of_pairs(a.value, r);
+        break;
+    case 6:
+        fact(a.number <= 1 && (a.value != 0 || a.number == 0), "a tidy removes one descriptor, or none");
+        fact(a.value == 0 || a.value > r->first, "a tidy's key lies above its first");
+        break;
+    default:
+        fact(a.value <= 1, "insert and remove answer 0 or 1");
+    }
+    fact(r->code == 5 || unchanged(&list_room), "only a locate writes the list");
+}
+
+static void facts_of_step(struct entry_store_answer a, uint32_t count)
+{
+    if (a.word == ENTRY_STORE_DONE) {
+        facts_of_done(a, count);
+    } else if (a.word == ENTRY_STORE_MORE) {
+        fact(table[now.party].stage != 0, "more leaves the request in hand");
+        fact(unchanged(&list_room), "more leaves the list");
+    } else {
+        only_request_ended();
+        fact(a.number != ENTRY_STORE_LIST || old_table()[now.party].code == 5, "12 comes of a locate");
+        fact(a.number != ENTRY_STORE_LIST || 2 * (uint64_t)a.value > list_len,
+             "12 comes of a list that is too short");
+    }
+}
+
+static void facts_of_ok(void)
+{
+    const struct entry_store_session *s = &table[now.party];
+    fact(unchanged(&list_room), "only a step writes the list");
+    if (now.call == BEGIN || now.call == PUT) {
+        fact(unchanged(&store_room), "begin and put leave the store");
+        fact(now.call == BEGIN ? s->begun != 0 : s->stage != 0, "begin begins, put leaves a request in hand");
+    } else {
+        fact(s->begun == 0 && s->stage == 0, "commit and abort end the session and its request");
+    }
+}
+
+static void facts_of_format(void)
+{
+    fact(unchanged(&list_room), "format leaves the list");
+    fact(store[0] == now.entry, "format sets M");
+    for (size_t p = 0; p < 17; p++) {
+        fact((p == 0 || table[p].begun == 0) && table[p].stage == 0, "format clears the table");
+    }
+}
+
+// An accepted call, 11 and 12 among them.
+static void facts_of_accepted(struct entry_store_answer a, uint32_t count)
+{
+    if (now.call == FORMAT) {
+        facts_of_format();
+    } else {
+        only_own_record();
+        fact(store[0] == old_store()[0] && store[1] == old_store()[1], "M and R stay");
+        if (now.call == STEP) {
+            facts_of_step(a, count);
+        } else {
+            facts_of_ok();
+        }
+    }
+    words_beyond_kept();
+    fact(entry_store_fault(store, store_len, table, table_len) == 0,
+         "store and table are sound after the call");
+}
+
+static int ends_request(struct entry_store_answer a)
+{
+    return a.number == ENTRY_STORE_FULL || a.number == ENTRY_STORE_LIST;
+}
+
+static uint64_t counts[CALLS][5 + 13];
+static int waits[17]; // the party's last call answered wait
+
+// What the runs have reached.
+static struct {
+    uint64_t done[7]; // by code
+    uint64_t removed; // by tidies
+    uint32_t levels;  // of the highest tree
+    uint64_t damaged, still_sound;
+} reached;
+
+static void count(struct entry_store_answer a)
+{
+    counts[now.call][a.word == ENTRY_STORE_REFUSED ? 4 + a.number : a.word] += 1;
+    if (now.party <= 16) {
+        waits[now.party] = a.word == ENTRY_STORE_WAIT;
+    }
+    if (a.word == ENTRY_STORE_DONE) {
+        reached.done[old_table()[now.party].code] += 1;
+        reached.removed += a.number;
+        reached.levels = store[3] > reached.levels ? store[3] : reached.levels;
+    }
+}
+
+static struct entry_store_answer call(struct asked asked)
+{
+    now = asked;
+    call_number += 1;
+    keep(&store_room);
+    keep(&table_room);
+    keep(&list_room);
+    uint32_t fault = entry_store_fault(store, store_len, table, table_len);
+    nothing_changed();
+    fact(fault <= 11 && (fault == 11) == (table_len != 17),
+         "a part of soundness is 1 to 11, 11 for a wrong table");
+    uint64_t bits = make_call(&now);
+    struct entry_store_answer a = entry_store_unpack(bits);
+    facts_of_bits(bits, a);
+    facts_of_word(a);
+    facts_of_refusal(a, fault);
+    if (a.word == ENTRY_STORE_WAIT) {
+        facts_of_wait(a);
+    } else if (a.word == ENTRY_STORE_REFUSED && !ends_request(a)) {
+        nothing_changed();
+    } else {
+        facts_of_accepted(a, entry_store_count_of(bits));
+    }
+    fact(pattern_kept(&store_room) && pattern_kept(&table_room) && pattern_kept(&list_room),
+         "bytes beside what is lent are not written");
+    count(a);
+    return a;
+}
+
+// ---- random calls
+
+// How the arguments of a run are drawn.
+static uint32_t key_span, party_span, wild;
+
+static uint32_t random_key(void)
+{
+    if (one_in(wild)) {
+        return odd_word();
+    }
+    return 1 + below(key_span);
+}
+
+static uint32_t random_party(void)
+{
+    return one_in(wild) ? odd_word() : one_in(8) ? 0 : 1 + below(party_span);
+}
+
+static uint32_t random_entry(void)
+{
+    uint32_t m = store_len > 0 && store[0] >= 1 && store[0] <= 1024 ? store[0] : 4;
+    return one_in(wild) ? odd_word() : 1 + below(m);
+}
+
+static struct asked random_put(uint32_t party)
+{
+    static const uint32_t likely[] = {1, 2, 3, 3, 3, 3, 4, 5, 5};
+    struct asked a = {PUT, party, 6, random_entry(), random_key(), random_key()};
+    if (party != 0 || one_in(wild)) {
+        a.code = one_in(wild) ? odd_word() : likely[below(sizeof likely / sizeof likely[0])];
+    }
+    if (a.code == 5 && a.first > a.second && !one_in(wild)) {
+        uint32_t first = a.first;
+        a.first = a.second;
+        a.second = first;
+    }
+    if (party == 0 && one_in(2)) {
+        a.first = 0;
+    }
+    return a;
+}
+
+static struct asked plain(enum call c, uint32_t party)
+{
+    struct asked a = {c, party, 0, 0, 0, 0};
+    return a;
+}
+
+// A call that makes sense for the party, if its record can be read.
+static struct asked sensible_call(uint32_t party)
+{
+    const struct entry_store_session *s = &table[party];
+    if (party != 0 && s->begun == 0) {
+        return plain(BEGIN, party);
+    }
+    if (s->stage != 0) {
+        return plain(party != 0 && one_in(waits[party] ? 6 : 60) ? ABORT : STEP, party);
+    }
+    if (party != 0 && one_in(8)) {
+        return plain(one_in(4) ? ABORT : COMMIT, party);
+    }
+    return random_put(party);
+}
+
+static struct asked random_call(void)
+{
+    uint32_t party = random_party();
+    if (party < table_len && party <= 16 && !one_in(wild)) {
+        return sensible_call(party);
+    }
+    struct asked a = random_put(party);
+    a.call = BEGIN + (enum call)below(CALLS - 1);
+    return a;
+}
+
+// Some words of the list are lent to the next calls.
+static void change_list(void)
+{
+    if (one_in(16)) {
+        lend_list(one_in(4) ? below(6) : below(200));
+        for (size_t k = 0; k < list_len; k++) {
+            list[k] = any_word();
+        }
+    }
+}
+
+static void random_calls(uint32_t count)
+{
+    for (uint32_t k = 0; k < count; k++) {
+        change_list();
+        call(random_call());
+    }
+}
+
+// ---- runs
+
+static void fill(struct lent *l, int small)
+{
+    uint32_t *w = (uint32_t *)(void *)l->at;
+    for (size_t k = 0; k < l->bytes / sizeof *w; k++) {
+        w[k] = small ? below(40) : odd_word();
+    }
+}
+
+static void choose_arguments(void)
+{
+    static const uint32_t spans[] = {3, 12, 40, 300, 4294967293u};
+    key_span = spans[below(5)];
+    party_span = 1 + below(one_in(3) ? 16 : 4);
+    wild = one_in(4) ? 6 : one_in(2) ? 60 : 1000;
+}
+
+// A store of m entries and r records, with words beyond them, over whatever words were there.
+static void fresh_store(uint32_t m, uint32_t r, uint32_t beyond)
+{
+    lend_store(entry_store_words(m, r) + beyond);
+    lend_table(17);
+    fill(&store_room, one_in(2));
+    fill(&table_room, one_in(2));
+    struct asked format = {FORMAT, 0, 0, m, 0, 0};
+    fact(call(format).word == ENTRY_STORE_OK, "format accepts these sizes");
+    fact(store[1] == r, "format sets R");
+}
+
+static void fresh_run(void)
+{
+    uint32_t m = one_in(20) ? 1 + below(1024) : 1 + below(10);
+    if (one_in(500)) {
+        uint32_t r = one_in(2) ? 4096 : 4000 + below(96);
+        fresh_store(m, r, below(r == 4096 ? 60 : 20));
+    } else {
+        fresh_store(m, 8 + below(one_in(4) ? 200 : 50), one_in(2) ? below(20) : 0);
+    }
+}
+
+// Session 1 inserts at so many keys, alone, with a commit now and then: a tree of some levels.
+static void grow_tree(uint32_t inserts)
+{
+    call(plain(BEGIN, 1));
+    for (uint32_t k = 0; k < inserts; k++) {
+        struct asked insert = {PUT, 1, ENTRY_STORE_INSERT, 1 + below(store[0]), 1 + below(key_span), 0};
+        call(insert);
+        while (call(plain(STEP, 1)).word == ENTRY_STORE_MORE) {
+        }
+        if (one_in(8)) {
+            call(plain(COMMIT, 1));
+            call(plain(BEGIN, 1));
+        }
+    }
+    call(plain(COMMIT, 1));
+}
+
+// A high tree, and then mostly walks through it: splits, and joins and moves by the housekeeper.
+static void tall_run(void)
+{
+    key_span = one_in(2) ? 2000 : 4294967293u;
+    wild = 1000;
+    fresh_store(1 + below(40), 500 + below(500), below(20));
+    grow_tree(150 + below(150));
+    random_calls(300);
+    for (uint32_t k = 0; k < 200; k++) {
+        call(sensible_call(0));
+    }
+    random_calls(100);
+}
+
+// How many calls a run on this store is worth.
+static uint32_t run_length(void)
+{
+    return store_len > 20000 ? 60 : 40 + below(600);
+}
+
+// A place in the store that is likely to be in use.
+static size_t used_place(void)
+{
+    size_t records = 16 + 3 * (size_t)store[0];
+    switch (below(6)) {
+    case 0:
+        return below(6);
+    case 1:
+        return 16 + below((uint32_t)records - 16);
+    case 2:
+        return below((uint32_t)store_len);
+    default:
+        return records + 20 * (size_t)below(store[1]) + (one_in(4) ? 9 + below(4) : below(7));
+    }
+}
+
+static uint32_t damaged_word(uint32_t w)
+{
+    switch (below(4)) {
+    case 0:
+        return odd_word();
+    case 1:
+        return w ^ UINT32_C(1) << below(32);
+    case 2:
+        return w + (one_in(2) ? 1 : UINT32_MAX);
+    default:
+        return below(60);
+    }
+}
+
+// One word of store or table changed. Mostly all calls are refused then; where the store is still sound they
+// go on.
+static void damaged_calls(void)
+{
+    int in_table = one_in(4);
+    uint32_t *word = in_table ? (uint32_t *)(void *)table + below(17 * 13) : store + used_place();
+    uint32_t kept = *word;
+    *word = damaged_word(kept);
+    if (*word == kept) {
+        return;
+    }
+    reached.damaged += 1;
+    if (entry_store_fault(store, store_len, table, table_len) == 0) {
+        reached.still_sound += 1;
+        random_calls(6);
+        return;
+    }
+    random_calls(3);
+    *word = kept;
+}
+
+static void damaged_run(void)
+{
+    fresh_run();
+    for (uint32_t k = 2 + below(12); k > 0; k--) {
+        random_calls(below(store_len > 20000 ? 5 : 40));
+        for (uint32_t j = store_len > 20000 ? 2 : 12; j > 0; j--) {
+            damaged_calls();
+        }
+    }
+}
+
+// Any words, any lengths, any table. Format is among the calls.
+static void garbage_run(void)
+{
+    lend_store(one_in(8) ? below(20) : below(400));
+    lend_table(one_in(2) ? 17 : below(MAX_TABLE));
+    fill(&store_room, one_in(2));
+    fill(&table_room, one_in(2));
+    for (uint32_t k = 0; k < 12; k++) {
+        random_calls(2);
+        if (one_in(3)) {
+            struct asked format = {FORMAT, 0, 0, one_in(2) ? 1 + below(12) : odd_word(), 0, 0};
+            call(format);
+        }
+    }
+}
+
+// A good store with a table that is too short or too long.
+static void wrong_table_run(void)
+{
+    fresh_run();
+    lend_table((17 + 1 + below(MAX_TABLE - 2)) % (MAX_TABLE - 1));
+    fill(&table_room, 1);
+    random_calls(10);
+    struct asked format = {FORMAT, 0, 0, 1 + below(12), 0, 0};
+    call(format);
+}
+
+static void lock_counts(void)
+{
+    uint32_t holders = odd_word(), ones = 0;
+    for (uint32_t k = 0; k < 32; k++) {
+        ones += holders >> k & 1;
+    }
+    fact(entry_store_lock_count(holders) == ones, "the lock count is the number of ones");
+}
+
+static void run(uint64_t number)
+{
+    run_number = number;
+    call_number = 0;
+    state = seed * UINT64_C(0x2545f4914f6cdd1d) + number * UINT64_C(0x9fb21c651e98df25);
+    memset(waits, 0, sizeof waits);
+    choose_arguments();
+    lend_list(below(200));
+    lock_counts();
+    if (one_in(40)) {
+        tall_run();
+        return;
+    }
+    switch (below(10)) {
+    case 0:
+    case 1:
+    case 2:
+    case 3:
+    case 4:
+        fresh_run();
+        random_calls(run_length());
+        break;
+    case 5:
+    case 6:
+    case 7:
+        damaged_run();
+        break;
+    case 8:
+        garbage_run();
+        break;
+    default:
+        wrong_table_run();
+    }
+}
+
+// ---- the whole
+
+static void print_counts(uint64_t runs)
+{
+    static const char *const words[] = {"ok", "more", "wait", "done"};
+    printf("%-8s", "");
+    for (int k = 0; k < 4; k++) {
+        printf("%9s", words[k]);
+    }
+    for (int k = 1; k <= 12; k++) {
+        printf(k < 10 ? "        %d" : "       %d", k);
+    }
+    printf("\n");
+    for (int c = 0; c < CALLS; c++) {
+        printf("%-8s", call_names[c]);
+        for (int k = 0; k < 5 + 12; k++) {
+            if (k != 4) {
+                printf("%9llu", (unsigned long long)counts[c][k]);
+            }
+        }
+        printf("\n");
+    }
+    printf("done:");
+    for (int k = 1; k <= 6; k++) {
+        static const char *const codes[] = {"", "read", "write", "insert", "remove", "locate", "tidy"};
+        printf(" %s %llu,", codes[k], (unsigned long long)reached.done[k]);
+    }
+    printf(" of these removed a descriptor %llu; the highest tree had %u levels\n",
+           (unsigned long long)reached.removed, reached.levels);
+    printf("%llu runs; words damaged %llu times, and still sound %llu times\n", (unsigned long long)runs,
+           (unsigned long long)reached.damaged, (unsigned long long)reached.still_sound);
+}
+
+static double seconds(void)
+{
+    struct timespec t;
+    clock_gettime(CLOCK_MONOTONIC, &t);
+    return (double)t.tv_sec + (double)t.tv_nsec / 1e9;
+}
+
+static uint64_t run_for(double duration)
+{
+    double end = seconds() + duration;
+    uint64_t number = 0;
+    while (seconds() < end) {
+        run(number);
+        number += 1;
+    }
+    return number;
+}
+
+int main(int argc, char **argv)
+{
+    if (argc < 2) {
+        fprintf(stderr, "usage: fuzz SECONDS [SEED [RUN]]\n");
+        return 2;
+    }
+    signal(SIGSEGV, on_signal);
+    signal(SIGBUS, on_signal);
+    signal(SIGILL, on_signal);
+    make_room(&store_room, MAX_STORE * sizeof *store);
+    make_room(&table_room, MAX_TABLE * sizeof *table);
+    make_room(&list_room, MAX_LIST * sizeof *list);
+    seed = argc > 2 ? strtoull(argv[2], NULL, 10) : 1;
+    uint64_t runs = 1;
+    if (argc > 3) {
+        run(strtoull(argv[3], NULL, 10));
+    } else {
+        runs = run_for(strtod(argv[1], NULL));
+    }
+    print_counts(runs);
+    printf("ok\n");
+    return 0;
+}

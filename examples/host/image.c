@@ -1,0 +1,249 @@
+#define _POSIX_C_SOURCE 200809L
+#include "image.h"
+
+#include <fcntl.h>
+#include <stdio.h>
+#include <stdlib.h>
+#include <string.h>
+#include <unistd.h>
+
+enum { MAGIC_BYTES = 8, HEAD_BYTES = 20, WORD_BYTES = 4, FIELDS = 13 };
+
+// More than any store needs: words beyond 4,096 records are never touched.
+enum { MAX_IMAGE_WORDS = 1 << 24 };
+
+static const unsigned char magic[MAGIC_BYTES] = {'E', 'N', 'T', 'R', 'Y', 'S', 'T', '1'};
+
+// ---- bytes
+
+static void put_word(unsigned char *at, uint32_t w)
+{
+    for (int k = 0; k < WORD_BYTES; k++) {
+        at[k] = (unsigned char)(w >> (8 * k));
+    }
+}
+
+static uint32_t get_word(const unsigned char *at)
+{
+    uint32_t w = 0;
+    for (int k = WORD_BYTES - 1; k >= 0; k--) {
+        w = w << 8 | at[k];
+    }
+    return w;
+}
+
+static uint32_t crc32(const unsigned char *bytes, size_t count)
+{
+    uint32_t crc = 0xffffffffu;
+    for (size_t k = 0; k < count; k++) {
+        crc ^= bytes[k];
+        for (int bit = 0; bit < 8; bit++) {
+            crc = crc >> 1 ^ (crc & 1 ? 0xedb88320u : 0);
+        }
+    }
+    return ~crc;
+}
+
+static size_t image_bytes(size_t words)
+{
+    return HEAD_BYTES + WORD_BYTES * (words + (size_t)ENTRY_STORE_PARTIES * FIELDS);
+}
+
+// ---- a record of the table as 13 words
+
+static void session_to_words(const struct entry_store_session *s, uint32_t *w)
+{
+    const uint32_t fields[FIELDS] = {s->begun, s->code,  s->entry, s->first, s->second, s->stage, s->target,
+                                     s->at,    s->level, s->low,   s->high,  s->last,   s->undo};
+    memcpy(w, fields, sizeof fields);
+}
+
+static void session_from_words(struct entry_store_session *s, const uint32_t *w)
+{
+    uint32_t *const fields[FIELDS] = {&s->begun, &s->code,   &s->entry, &s->first, &s->second,
+                                      &s->stage, &s->target, &s->at,    &s->level, &s->low,
+                                      &s->high,  &s->last,   &s->undo};
+    for (int k = 0; k < FIELDS; k++) {
+        *fields[k] = w[k];
+    }
+}
+
+// ---- writing
+
+static void fill_image(const struct store_host *h, unsigned char *bytes)
+{
+    unsigned char *at = bytes + HEAD_BYTES;
+    for (size_t k = 0; k < h->length; k++, at += WORD_BYTES) {
+        put_word(at, h->words[k]);
+    }
+    for (int p = 0; p < ENTRY_STORE_PARTIES; p++) {
+        uint32_t fields[FIELDS];
+        session_to_words(&h->table[p], fields);
+        for (int k = 0; k < FIELDS; k++, at += WORD_BYTES) {
+            put_word(at, fields[k]);
+        }
+    }
+    memcpy(bytes, magic, MAGIC_BYTES);
+    put_word(bytes + 8, (uint32_t)h->length);
+    put_word(bytes + 12, ENTRY_STORE_PARTIES);
+    put_word(bytes + 16, crc32(bytes + HEAD_BYTES, image_bytes(h->length) - HEAD_BYTES));
+}
+
+static int write_all(int file, const unsigned char *bytes, size_t count)
+{
+    while (count > 0) {
+        ssize_t written = write(file, bytes, count);
+        if (written <= 0) {
+            return 0;
+        }
+        bytes += written;
+        count -= (size_t)written;
+    }
+    return 1;
+}
+
+// The bytes are on the disk when this answers 1.
+static int write_file(const char *path, const unsigned char *bytes, size_t count)
+{
+    int file = open(path, O_WRONLY | O_CREAT | O_TRUNC, 0644);
+    if (file < 0) {
+        return 0;
+    }
+    int good = write_all(file, bytes, count) && fsync(file) == 0;
+    return close(file) == 0 && good;
+}
+
+// The new name is on the disk when this answers 1.
+static int sync_folder_of(const char *path)
+{
+    char *folder = malloc(strlen(path) + 2);
+    if (folder == NULL) {
+        return 0;
+    }
+    const char *slash = strrchr(path, '/');
+    if (slash == NULL) {
+        strcpy(folder, ".");
+    } else {
+        size_t length = (size_t)(slash - path) + 1;
+        memcpy(folder, path, length);
+        folder[length] = 0;
+    }
+    int file = open(folder, O_RDONLY);
+    free(folder);
+    if (file < 0) {
+        return 0;
+    }
+    int good = fsync(file) == 0;
+    return close(file) == 0 && good;
+}
+
+// A new file beside the old one, which then takes its name: after a crash the
+// name has the old image or the new one, each whole.
+static int replace_file(const char *path, const unsigned char *bytes, size_t count)
+{
+    char *beside = malloc(strlen(path) + sizeof ".new");
+    if (beside == NULL) {
+        return 0;
+    }
+    strcpy(beside, path);
+    strcat(beside, ".new");
+    int good = write_file(beside, bytes, count) && rename(beside, path) == 0;
+    if (!good) {
+        remove(beside);
+    }
+    free(beside);
+    return good && sync_folder_of(path);
+}
+
+int image_save(const struct store_host *h, const char *path)
+{
+    if (h->length > MAX_IMAGE_WORDS) {
+        return 0;
+    }
+    size_t count = image_bytes(h->length);
+    unsigned char *bytes = malloc(count);
+    if (bytes == NULL) {
+        return 0;
+    }
+    fill_image(h, bytes);
+    int good = replace_file(path, bytes, count);
+    free(bytes);
+    return good;
+}
+
+// ---- reading
+
+// Takes words and table from bytes that follow a head for so many words.
+static int take_image(struct store_host *h, const unsigned char *bytes, size_t words)
+{
+    h->length = words;
+    h->words = malloc(words > 0 ? words * sizeof *h->words : 1);
+    if (h->words == NULL) {
+        return 0;
+    }
+    for (size_t k = 0; k < words; k++, bytes += WORD_BYTES) {
+        h->words[k] = get_word(bytes);
+    }
+    for (int p = 0; p < ENTRY_STORE_PARTIES; p++) {
+        uint32_t fields[FIELDS];
+        for (int k = 0; k < FIELDS; k++, bytes += WORD_BYTES) {
+            fields[k] = get_word(bytes);
+        }
+        session_from_words(&h->table[p], fields);
+    }
+    return 1;
+}
+
+// Whether a head is that of an image, and of how many words.
+static int head_words(const unsigned char *head, size_t *words)
+{
+    *words = get_word(head + 8);
+    return memcmp(head, magic, MAGIC_BYTES) == 0 && *words <= MAX_IMAGE_WORDS &&
+           get_word(head + 12) == ENTRY_STORE_PARTIES;
+}
+
+static enum image_state read_body(struct store_host *h, FILE *file, size_t words, uint32_t sum)
+{
+    size_t count = image_bytes(words) - HEAD_BYTES;
+    unsigned char *bytes = malloc(count);
+    if (bytes == NULL) {
+        return IMAGE_NOT_READ;
+    }
+    enum image_state state = IMAGE_NOT_WHOLE;
+    if (fread(bytes, 1, count, file) == count && fgetc(file) == EOF) {
+        state = IMAGE_NOT_READ;
+        if (take_image(h, bytes, words)) {
+            state = crc32(bytes, count) == sum ? IMAGE_GOOD : IMAGE_SUM_DIFFERS;
+        }
+    }
+    free(bytes);
+    return state;
+}
+
+enum image_state image_read(struct store_host *h, const char *path)
+{
+    unsigned char head[HEAD_BYTES];
+    size_t words = 0;
+    FILE *file = fopen(path, "rb");
+    if (file == NULL) {
+        return IMAGE_NOT_READ;
+    }
+    enum image_state state = IMAGE_NOT_WHOLE;
+    if (fread(head, 1, HEAD_BYTES, file) == HEAD_BYTES && head_words(head, &words)) {
+        state = read_body(h, file, words, get_word(head + 16));
+    }
+    fclose(file);
+    return state;
+}
+
+int image_load(struct store_host *h, const char *path)
+{
+    enum image_state state = image_read(h, path);
+    if (state == IMAGE_GOOD && host_fault(h) == 0) {
+        return 1;
+    }
+    if (state == IMAGE_GOOD || state == IMAGE_SUM_DIFFERS) {
+        host_close(h);
+    }
+    return 0;
+}

@@ -1,0 +1,83 @@
+// What a host program wants around the calls of the entry store: the lent
+// words and the session table kept together, a request run to its end, lists
+// that grow.
+//
+// The store has no threads and no lock of its own: make one call at a time
+// (docs/HOST.md). Nothing here keeps state but what a caller hands in.
+#ifndef STORE_HOST_H
+#define STORE_HOST_H
+
+#include "entry_store.h"
+
+// Words of a store (docs/STORE.md).
+enum { HEADER_WORDS = 16, ENTRY_WORDS = 3, RECORD_WORDS = 20 };
+
+// The stages of a request in hand (docs/STORE.md).
+enum { NO_REQUEST, AT_START, ENTERING, AT_NODE, CHANGING, TAKING };
+
+struct store_host {
+    uint32_t *words;
+    size_t length;
+    struct entry_store_session table[ENTRY_STORE_PARTIES];
+};
+
+struct request {
+    uint32_t code, entry, first, second;
+};
+
+// A list for locates: pairs of a key and an entry.
+struct pair_list {
+    uint32_t *words;
+    size_t length;
+};
+
+// How many records are enough (docs/HOST.md): so many stretches stored, each with a key of its own; so many
+// of them in sessions that have not ended; so many empty groups between two rounds of the housekeeper.
+uint32_t records_wanted(uint32_t stretches, uint32_t unfinished, uint32_t empty_groups);
+
+// Takes memory for a store and formats it. 0 where there is no memory or the
+// sizes are refused.
+int host_open(struct store_host *h, uint32_t entries, uint32_t records);
+void host_close(struct store_host *h);
+
+// The calls. The list of a step may be NULL where the request is no locate.
+struct entry_store_answer host_begin(struct store_host *h, uint32_t party);
+struct entry_store_answer host_put(struct store_host *h, uint32_t party, struct request r);
+struct entry_store_answer host_step(struct store_host *h, uint32_t party, struct pair_list *list);
+struct entry_store_answer host_commit(struct store_host *h, uint32_t party);
+struct entry_store_answer host_abort(struct store_host *h, uint32_t party);
+
+// The first part of soundness that fails, 0 for none.
+uint32_t host_fault(const struct store_host *h);
+
+int is_refused(struct entry_store_answer a, uint32_t number);
+
+// Whether a party that waits does so on its way down the tree. Such a wait is
+// short: whoever is in the way has only to be stepped. Any other wait lasts
+// until a session commits or aborts.
+int is_short_wait(const struct store_host *h, uint32_t party);
+
+// Makes the list long enough for so many pairs. 0 where there is no memory.
+int list_grow(struct pair_list *list, uint32_t pairs);
+void list_free(struct pair_list *list);
+
+// Called at each wait with the party in the way: lets others move, and answers
+// whether to try again.
+typedef int (*wait_handler)(void *context, uint32_t party, uint32_t holder);
+
+// Runs a request to its end and gives its last answer: done, a refusal, or a
+// wait that the handler gave up. After that wait the request is still in hand.
+// A list that is too short is made longer and the locate put again.
+struct entry_store_answer host_run(struct store_host *h, uint32_t party, struct request r,
+                                   struct pair_list *list, wait_handler on_wait, void *context);
+
+// What a sound store has, for each part of soundness (enum entry_store_part), in the words of the scope
+// paper.
+const char *part_in_full(uint32_t part);
+
+// The planner's keys: driver x 1,048,576 + minute. The store doesn't care.
+enum { KEYS_A_DRIVER = 1048576, DAY_MINUTES = 1440 };
+
+uint32_t key_of(uint32_t driver, uint32_t minute);
+
+#endif
