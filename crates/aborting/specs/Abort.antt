@@ -26,7 +26,7 @@ use Rattle.layout.specs.Keep.{table-here}
 use Rattle.layout.specs.Places.{session-means}
 use Rattle.layout.specs.Walks.{few-entries}
 use Rattle.layout.specs.Asked.{request-in, hand-means, becomes-same}
-use Rattle.members.specs.Undoing.{undoAll, Undoings}
+use Rattle.undo_log.specs.Undoing.{undoAll, Undoings}
 use Rattle.endings.specs.Table.{idled, unbegun}
 use Rattle.undoing.specs.Rows.{with-undo}
 use Rattle.undoing.specs.OneUndone.{undos-means}

@@ -6,7 +6,7 @@ use Prim.Native.Nat.{ℕ}
 use lib.Dec.{eqb}
 use borrow.Author.Tests.{eq-eqb, ne-eqb}
 use Rattle.sessions.specs.declared.Session.{Session}
-use Rattle.members.specs.Undoing.{undoAll, Undoings}
+use Rattle.undo_log.specs.Undoing.{undoAll, Undoings}
 use Rattle.finishing.specs.Finishing.{endRequest, Endable}
 use Rattle.leaving.specs.Words.{leaveAll, LeaveReady}
 

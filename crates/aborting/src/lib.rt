@@ -3,7 +3,7 @@
 // The request in hand ends, if there is one; the session's undo records are undone, newest first; the session leaves every entry and every
 // descriptor. It promises that the words left EQUAL a definition of specs/Words, and (specs/Abort) that from words which hold a layout of a
 // sound state they hold one that means the machine's `aborts`, and that what the code asks is there. It rests on finishing for the request,
-// on members and undoing for the undo records, on leaving for the rest, on layout for what words hold.
+// on undo_log and undoing for the undo records, on leaving for the rest, on layout for what words hold.
 ghost use mathlib.Core.Path.{_≡_};
 ghost use Rattle.aborting.specs.Words.{handEnded, HandReady, abortWords, AbortReady};
 use sessions::Session;
@@ -26,6 +26,6 @@ pub fn abort_words(store: &mut [u32], m: usize, r: usize, p: u32, x: Session)
 {
     end_hand(store, m, x);
     let undo = x.undo as usize;
-    members::undo_all(store, m, r, undo);
+    undo_log::undo_all(store, m, r, undo);
     leaving::leave_all(store, m, r, p);
 }

@@ -8,7 +8,8 @@ use Rattle.words.specs.Header.{headerWord, firstPlace, freePlace}
 use Rattle.groups.specs.Descriptor.{descriptorAt, putDescriptor, madeIn, withNextDescriptor, removable}
 use Rattle.chain.specs.Free.{popFree, pushFree}
 use Rattle.scans.specs.Scans.{lastUpto}
-use Rattle.descents.specs.Descents.{sonToward, latchAt, insertLeaf, removeLeaf}
+use Rattle.nodes.specs.Paths.{sonToward}
+use Rattle.descents.specs.Descents.{latchAt, insertLeaf, removeLeaf}
 use Rattle.members.specs.Members.{pinAt}
 use Rattle.sessions.specs.declared.Session.{Session}
 use Rattle.endings.specs.Table.{idled}

@@ -7,8 +7,10 @@ use native.Mathlib.Omega.{arith}
 use lib.Dec.{leb}
 use lib.ListN.{length}
 use Rattle.nodes.specs.declared.Node.{Node}
-use Rattle.nodes.specs.Live.{Usable, insert-usable}
+use Rattle.nodes.specs.Live.{Usable}
+use Rattle.reshaping.specs.Live.{insert-usable}
 use Rattle.nodes.specs.Entries as N
+use Rattle.reshaping.specs.Entries.{before-entries, behind-entries}
 use Rattle.sessions.specs.declared.Session.{Session}
 use Rattle.sessions.specs.Sessions.{session-at}
 use Rattle.machine.specs.Logic.{leb-is, leb-not}
@@ -76,14 +78,14 @@ module _ (L : Lay) (t : List Session) (p : ℕ) (P : Lowest L t p) (a g : ℕ) (
     entries-before : leb x k ≡ true → (N.entries (beside q (length (nums-of (P .pre))) x k a) u ≡ nums-of before-sons) × Usable (beside q (length (nums-of (P .pre))) x k a)
     unfolding beside before-sons
     entries-before e = rw e (
-      N.before-entries ok u (nums-of (P .pre)) (P .leaf .num) (P .bound) (nums-of (P .post)) is room x a ∙ sym (mapE-append (λ l. l .num) (P .pre) ((new, x) ∷ (P .leaf, P .bound) ∷ P .post)),
+      before-entries ok u (nums-of (P .pre)) (P .leaf .num) (P .bound) (nums-of (P .post)) is room x a ∙ sym (mapE-append (λ l. l .num) (P .pre) ((new, x) ∷ (P .leaf, P .bound) ∷ P .post)),
       insert-usable ok (length (nums-of (P .pre))) x (length (nums-of (P .pre))) a room here (omega (arith, here)),
     )
 
     entries-behind : leb x k ≡ false → (N.entries (beside q (length (nums-of (P .pre))) x k a) u ≡ nums-of behind-sons) × Usable (beside q (length (nums-of (P .pre))) x k a)
     unfolding beside behind-sons
     entries-behind e = rw e (
-      N.behind-entries ok u (nums-of (P .pre)) (P .leaf .num) (P .bound) (nums-of (P .post)) is room k a ∙ sym (mapE-append (λ l. l .num) (P .pre) ((P .leaf, k) ∷ (new, P .bound) ∷ P .post)),
+      behind-entries ok u (nums-of (P .pre)) (P .leaf .num) (P .bound) (nums-of (P .post)) is room k a ∙ sym (mapE-append (λ l. l .num) (P .pre) ((P .leaf, k) ∷ (new, P .bound) ∷ P .post)),
       insert-usable ok (length (nums-of (P .pre))) k (length (nums-of (P .pre)) + 1) a room here (omega (arith, here)),
     )
 

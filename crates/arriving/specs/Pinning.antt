@@ -22,7 +22,8 @@ use Rattle.layout.specs.Row.{Stands, Becomes}
 use Rattle.layout.specs.Ordering.{Rising}
 use Rattle.layout.specs.Room.{Sizes}
 use Rattle.layout.specs.Left.{Left, left-then, left-desc}
-use Rattle.descents.specs.Descents.{sonToward, latchAt}
+use Rattle.nodes.specs.Paths.{sonToward}
+use Rattle.descents.specs.Descents.{latchAt}
 use Rattle.members.specs.Members.{pinAt}
 use Rattle.endings.specs.Table.{idled}
 use Rattle.arriving.specs.Arriving.{pinWords, arrivedAt}

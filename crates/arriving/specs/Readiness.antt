@@ -34,7 +34,8 @@ use Rattle.layout.specs.Room.{sizes-of, owned-has}
 use Rattle.layout.specs.Walks.{leaf-there, next-walk}
 use Rattle.layout.specs.LatchRows.{node-owned, node-leaves}
 use Rattle.scans.specs.Scans.{CanFollow}
-use Rattle.descents.specs.Descents.{sonToward, Toward}
+use Rattle.nodes.specs.Paths.{sonToward}
+use Rattle.descents.specs.Descents.{Toward}
 use Rattle.finishing.specs.Ready.{end-ready}
 use Rattle.arriving.specs.Ready.{PredReady, PinReady, MakeAble, MakeReady, unlinked, TidyAble, TidyReady, SessionReady, LowestReady}
 use Rattle.arriving.specs.Lowest.{Lowest, lowest}

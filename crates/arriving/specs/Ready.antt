@@ -8,7 +8,8 @@ use Rattle.words.specs.Header.{headerWord, firstPlace, freePlace}
 use Rattle.groups.specs.Descriptor.{descriptorAt, putDescriptor, madeIn, withNextDescriptor}
 use Rattle.chain.specs.Free.{Poppable, popFree}
 use Rattle.scans.specs.Scans.{CanFollow}
-use Rattle.descents.specs.Descents.{sonToward, Toward, CanInsert, CanRemove}
+use Rattle.nodes.specs.Paths.{sonToward}
+use Rattle.descents.specs.Descents.{Toward, CanInsert, CanRemove}
 use Rattle.sessions.specs.declared.Session.{Session}
 use Rattle.finishing.specs.Finishing.{Endable}
 use Rattle.arriving.specs.Arriving.{predOf}

@@ -14,7 +14,8 @@ use Rattle.groups.specs.declared.Descriptor.{Descriptor}
 use Rattle.groups.specs.Descriptor.{descriptorAt, putDescriptor, decodeDescriptor, madeIn, withNextDescriptor, removable}
 use Rattle.chain.specs.Free.{popFree, pushFree}
 use Rattle.scans.specs.Scans.{lastUpto, CanFollow}
-use Rattle.descents.specs.Descents.{sonToward, latchAt, insertLeaf, removeLeaf, CanInsert, CanRemove}
+use Rattle.nodes.specs.Paths.{sonToward}
+use Rattle.descents.specs.Descents.{latchAt, insertLeaf, removeLeaf, CanInsert, CanRemove}
 use Rattle.members.specs.Members.{pinAt, Pinnable}
 use Rattle.sessions.specs.declared.Session.{Session}
 use Rattle.endings.specs.Table.{idled}

@@ -21,7 +21,7 @@ use Rattle.meaning.specs.Lens.{leaves-before, leaves-behind}
 use Rattle.layout.specs.Layout.{Lay, leaves-in, NodeFits, TreeFits, Each, DescFits, Has, Holds}
 use Rattle.layout.specs.Keep.{fits-open, CtxFits}
 use Rattle.layout.specs.Puts.{node-count}
-use Rattle.descents.specs.Descents.{sonAt, sonToward}
+use Rattle.nodes.specs.Paths.{sonAt, sonToward}
 use Rattle.arriving.specs.Lowest.{Lowest, lowest, leaves-of, flat-leaves}
 
 -- ---- sons by their records

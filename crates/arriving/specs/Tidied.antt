@@ -36,7 +36,7 @@ use Rattle.layout.specs.Places.{Erased, means-hand}
 use Rattle.layout.specs.Puts.{desc-key, desc-locate, desc-update, desc-gap, desc-pins, desc-first}
 use Rattle.layout.specs.Walks.{descs-fit}
 use Rattle.endings.specs.Table.{idled}
-use Rattle.descents.specs.Descents.{sonToward}
+use Rattle.nodes.specs.Paths.{sonToward}
 use Rattle.arriving.specs.Arriving.{tidyAt, predOf}
 use Rattle.arriving.specs.Lowest.{Lowest, lowest, leaves-of}
 use Rattle.arriving.specs.LeafRow.{low-node}

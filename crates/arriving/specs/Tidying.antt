@@ -11,7 +11,8 @@ use Rattle.words.specs.Header.{headerWord, firstPlace, freePlace}
 use Rattle.nodes.specs.declared.Node.{Node}
 use Rattle.nodes.specs.Node.{nodeAt, putNode, encodeNode, decodeNode}
 use Rattle.nodes.specs.Node as NN
-use Rattle.nodes.specs.Ops.{sonFor, withLatch, removeSon}
+use Rattle.nodes.specs.Ops.{sonFor, withLatch}
+use Rattle.reshaping.specs.Ops.{removeSon}
 use Rattle.nodes.specs.Live.{Usable, latch-usable}
 use Rattle.nodes.specs.Entries as N
 use Rattle.groups.specs.declared.Descriptor.{Descriptor}

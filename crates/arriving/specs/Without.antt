@@ -5,9 +5,11 @@ use Prim.Native.Nat.{ℕ, _+_, _≤_, _<_}
 use native.Mathlib.Omega.{arith}
 use lib.ListN.{length, length-append}
 use Rattle.nodes.specs.declared.Node.{Node}
-use Rattle.nodes.specs.Ops.{removeSon}
-use Rattle.nodes.specs.Live.{Usable, remove-usable}
+use Rattle.reshaping.specs.Ops.{removeSon}
+use Rattle.nodes.specs.Live.{Usable}
+use Rattle.reshaping.specs.Live.{remove-usable}
 use Rattle.nodes.specs.Entries as N
+use Rattle.reshaping.specs.Entries.{out-inner, out-last}
 use Rattle.machine.specs.Tree.{onp, onp-hit, mapE, mapE-append, Below}
 use Rattle.machine.specs.State.{Desc}
 use Rattle.machine.specs.Descent.{Sons, on-last, bound-of, taken-out}
@@ -62,7 +64,7 @@ module _ (x : ℕ) (pre : List (Leaf × ℕ)) (l : Leaf) (b : ℕ) (low : Below 
         is = map-append (λ z. z .0) pre (y ∷ post);
         erased = mapE-append bare pre (y ∷ post)
             ∙ sym (ap (on-last (λ _ _. bound-of 0 es)) (none-left (y ∷ post)) ∙ ap (λ k. on-last (λ _ _. k) rest) u ∙ last-same rest);
-        entries = λ q v ok is. N.out-inner ok v (nums-of pre) (l .num) b (y .0 .num) (y .1) (nums-of post) is ∙ sym (mapE-append (λ z. z .num) pre (y ∷ post));
+        entries = λ q v ok is. out-inner ok v (nums-of pre) (l .num) b (y .0 .num) (y .1) (nums-of post) is ∙ sym (mapE-append (λ z. z .num) pre (y ∷ post));
       }
 
 outer : (x : ℕ) (pre : List (Leaf × ℕ)) (y : Leaf) (v : ℕ) (l : Leaf) (b : ℕ) → Below x (pre ++ (y, v) ∷ []) → x ≤ b → Without x (pre ++ (y, v) ∷ []) l b []
@@ -82,7 +84,7 @@ outer x pre y v l b low up =
           ∙ last-snoc (λ _ _. b) (mapE desc pre) (y .desc) v);
       entries = λ q w ok is.
           ap (λ k. N.entries (removeSon q k) w) n
-          ∙ N.out-last ok w (nums-of pre) (y .num) v (l .num) b []
+          ∙ out-last ok w (nums-of pre) (y .num) v (l .num) b []
           (is ∙ ap (λ k. k ++ (l .num, b) ∷ []) (mapE-append (λ z. z .num) pre ((y, v) ∷ [])) ∙ append-assoc (nums-of pre) ((y .num, v) ∷ []) ((l .num, b) ∷ [])) refl
           ∙ sym (mapE-append (λ z. z .num) pre ((y, b) ∷ []));
     }

@@ -8,7 +8,8 @@
 ghost use mathlib.Core.Path.{_≡_};
 ghost use Rattle.words.specs.Store.{HasRecord};
 ghost use Rattle.words.specs.Header.{headerWord, freePlace};
-ghost use Rattle.descents.specs.Descents.{Toward, sonToward};
+ghost use Rattle.nodes.specs.Paths.{sonToward};
+ghost use Rattle.descents.specs.Descents.{Toward};
 ghost use Rattle.finishing.specs.Finishing.{Endable};
 ghost use Rattle.outcomes.specs.Said.{moved};
 ghost use Rattle.arriving.specs.Arriving.{staged, toChange, toSecond, toTake, arrivedAt, pinStep, predOf, makeAt, madeStep, fullStep, makeStep, tidyAt, goneStep, leftStep, tidyStep, sessionStep, lowestStep};

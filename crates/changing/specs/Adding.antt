@@ -33,7 +33,7 @@ use Rattle.layout.specs.Places.{AtKey}
 use Rattle.layout.specs.Ordering.{Rising}
 use Rattle.layout.specs.Room.{Sizes}
 use Rattle.members.specs.Members.{Puttable, putMember}
-use Rattle.members.specs.Undoing.{Loggable, logAdded}
+use Rattle.undo_log.specs.Undoing.{Loggable, logAdded}
 use Rattle.grouping.specs.GroupWords.{Changed, Within, within-kept, changed-wide, put-changed, put-word, first-in, put-desc, put-member-changed}
 use Rattle.changing.specs.Naming.{undo-entry, named-on, not-there, lists-put, lists-back, has-mid, in-left, in-right}
 use Rattle.changing.specs.Fitting.{put-fits, pop-changed, changed-both}

@@ -14,7 +14,7 @@ use Rattle.sessions.specs.declared.Session.{Session}
 use Rattle.outcomes.specs.declared.Answer.the-variants.{Wait, Done, Refused}
 use Rattle.outcomes.specs.Said.{Stepped}
 use Rattle.members.specs.Members.{Pinned, Holdable, Puttable, Takeable, putMember, takeMember, updateAt, unpinAt}
-use Rattle.members.specs.Undoing.{Loggable, logAdded, logTaken}
+use Rattle.undo_log.specs.Undoing.{Loggable, logAdded, logTaken}
 use Rattle.endings.specs.Table.{idled}
 use Rattle.scans.specs.Scans.{memberOf}
 

@@ -33,7 +33,7 @@ use Rattle.layout.specs.Asked.{request-in}
 use Rattle.layout.specs.Puts.{desc-pins, desc-first}
 use Rattle.layout.specs.Walks.{members-walk}
 use Rattle.members.specs.Members.{Pinned, updateAt, putMember, takeMember, Puttable}
-use Rattle.members.specs.Undoing.{logAdded, logTaken, Loggable}
+use Rattle.undo_log.specs.Undoing.{logAdded, logTaken, Loggable}
 use Rattle.scans.specs.Scans.{memberOf}
 use Rattle.grouping.specs.GroupWords.{Within, first-in}
 use Rattle.changing.specs.Changing.{addedWords, takenWords, loggedBy, Ends, AddsReady, TakesReady, RoomReady, CodeReady, ChangeReady}

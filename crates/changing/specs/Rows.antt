@@ -40,7 +40,7 @@ use Rattle.layout.specs.Ordering.{Rising, rising-of}
 use Rattle.layout.specs.Room.{Sizes, sizes-of}
 use Rattle.layout.specs.Short.{members-short}
 use Rattle.members.specs.Members.{putMember, takeMember, unpinAt}
-use Rattle.members.specs.Undoing.{logAdded, logTaken}
+use Rattle.undo_log.specs.Undoing.{logAdded, logTaken}
 use Rattle.endings.specs.Table.{idled}
 use Rattle.scans.specs.Scans.{memberOf}
 use Rattle.long_locks.specs.LongLocks.{NarrowDesc, lowest-in, lowest-none, lowest-some, key-narrow}

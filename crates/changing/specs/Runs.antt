@@ -17,7 +17,7 @@ use Rattle.outcomes.specs.declared.Answer.the-variants.{Wait, Done, Refused}
 use Rattle.outcomes.specs.declared.Moved.{Moved}
 use Rattle.outcomes.specs.Said.{Stepped, moved}
 use Rattle.members.specs.Members.{Pinned, Puttable, putMember, takeMember, updateAt, unpinAt}
-use Rattle.members.specs.Undoing.{Loggable, logAdded, logTaken}
+use Rattle.undo_log.specs.Undoing.{Loggable, logAdded, logTaken}
 use Rattle.endings.specs.Table.{idled}
 use Rattle.scans.specs.Scans.{memberOf}
 use Rattle.changing.specs.Changing.{loggedBy, holdAndEnd, changeBlocker, keepStep, addedWords, addStep, takenWords, takeStep, refuseStep, waitStep, hasTwo, roomStep, insertStep, removeStep, codeStep, changeAt, changeStep, Ends, CodeReady}

@@ -29,7 +29,7 @@ use Rattle.layout.specs.Places.{AtKey}
 use Rattle.layout.specs.Ordering.{Rising}
 use Rattle.layout.specs.Room.{Sizes}
 use Rattle.members.specs.Members.{Takeable, takeMember}
-use Rattle.members.specs.Undoing.{logTaken}
+use Rattle.undo_log.specs.Undoing.{logTaken}
 use Rattle.grouping.specs.GroupWords.{Changed, Within, within-kept, changed-wide, put-changed, put-word, first-in}
 use Rattle.changing.specs.Links.{member-next, member-before}
 use Rattle.changing.specs.Naming.{undo-entry, named-on, Split, member-other, lists-put, lists-back, has-mid, in-left, in-right}

@@ -4,8 +4,8 @@
 // out, changes the group and logs that in an undo record; an insert that finds fewer than two free records is refused. The request
 // ends in the same step. It promises that the words a step leaves, its party's session record and the answer EQUAL a definition of
 // specs/Changing; specs/Rows says that this is the machine's step where the words hold a layout of a sound state (the effects:
-// specs/Adding and specs/TakingOut), and specs/Ready that such words have what the code asks for. It rests on members for groups and
-// undo records, on scans for the search of a member, on locks for who is in the way, on endings and outcomes for session records and
+// specs/Adding and specs/TakingOut), and specs/Ready that such words have what the code asks for. It rests on members for groups, on
+// undo_log for undo records, on scans for the search of a member, on locks for who is in the way, on endings and outcomes for session records and
 // answers, on layout and machine for what the words mean.
 ghost use mathlib.Core.Path.{_≡_};
 ghost use Rattle.words.specs.Header.{headerWord, freePlace};
@@ -57,7 +57,7 @@ fn add_entry(store: &mut [u32], m: usize, x: Session, d: usize) -> usize
     members::put_member(store, m, d, a, x.entry);
     let own = a as u32;
     let group = d as u32;
-    members::log_added(store, m, x.entry, own, group, x.undo)
+    undo_log::log_added(store, m, x.entry, own, group, x.undo)
 }
 
 // The entry goes out of the group of descriptor d: its membership i is the undo record.
@@ -67,7 +67,7 @@ fn take_entry(store: &mut [u32], m: usize, x: Session, d: usize, i: usize)
 {
     let group = d as u32;
     members::take_member(store, m, d, i);
-    members::log_taken(store, m, i, x.entry, group, x.undo);
+    undo_log::log_taken(store, m, i, x.entry, group, x.undo);
 }
 
 // At least two records are free.

@@ -19,7 +19,7 @@ use Rattle.layout.specs.Written.{Written, written-then}
 use Rattle.layout.specs.Keep.{table-here}
 use Rattle.layout.specs.Places.{session-means}
 use Rattle.layout.specs.Walks.{few-entries}
-use Rattle.members.specs.Freeing.{freeChain}
+use Rattle.undo_log.specs.Freeing.{freeChain}
 use Rattle.endings.specs.Table.{unbegun}
 use Rattle.leaving.specs.Words.{leaveAll, commitWords, LeaveReady, CommitReady}
 use Rattle.leaving.specs.Begun.{idle-fits}

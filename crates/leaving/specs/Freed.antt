@@ -20,7 +20,7 @@ use Rattle.meaning.specs.Numbers.{all-as, all-both, apart-all}
 use Rattle.meaning.specs.Frame.{SameAt, chain-words, all-words, chain-push}
 use Rattle.meaning.specs.Parts.{entry-at}
 use Rattle.layout.specs.Keep.{chained-keep}
-use Rattle.members.specs.Freeing.{freeChain, length-push, push-other}
+use Rattle.undo_log.specs.Freeing.{freeChain, length-push, push-other}
 
 -- The records of l before f, the last one first.
 unfoldable pub onto : List ℕ → List ℕ → List ℕ

@@ -25,7 +25,7 @@ use Rattle.layout.specs.Layout.{Lay, Undone, leaves-in, undo-numbers, members-o
 use Rattle.layout.specs.Written.{Written}
 use Rattle.layout.specs.Keep.{records-times, owned-most, own-rest, tree-keep, chained-keep, undos-keep, groups-row, hand-as, fits-row, holds-row, table-here, table-there}
 use Rattle.layout.specs.Chains.{walk-chain}
-use Rattle.members.specs.Freeing.{freeChain}
+use Rattle.undo_log.specs.Freeing.{freeChain}
 use Rattle.layout.specs.Short.{short, once-of}
 use Rattle.leaving.specs.Freed.{onto, onto-times, onto-length, Freed, freed}
 

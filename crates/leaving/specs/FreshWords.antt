@@ -26,7 +26,7 @@ use Rattle.meaning.specs.Frame.{SameAt, chain-words, all-words, chain-push}
 use Rattle.meaning.specs.Parts.{entry-at}
 use Rattle.meaning.specs.Writes.{entry-others, entry-put, with-field}
 use Rattle.layout.specs.Written.{SameHead}
-use Rattle.members.specs.Freeing.{length-push, push-other}
+use Rattle.undo_log.specs.Freeing.{length-push, push-other}
 use Rattle.endings.specs.Fresh.{Roomy, freshHeader, freshEntry, freshEntries, zeroDescriptor, freshFree, freshStore}
 use Rattle.leaving.specs.Freed.{push-head, push-first, push-ents, push-rest, push-link}
 

@@ -12,7 +12,7 @@ use Rattle.words.specs.Header.{headerWord, firstPlace}
 use Rattle.sessions.specs.declared.Session.{Session}
 use Rattle.chain.specs.Walk.{Walk}
 use Rattle.scans.specs.Scans.{lastUpto, CanFollow}
-use Rattle.members.specs.Freeing.{freeChain}
+use Rattle.undo_log.specs.Freeing.{freeChain}
 use Rattle.endings.specs.Leave.{IsSession, HasEntries, leaveEntries, leaveGroups}
 use Rattle.endings.specs.Table.{requested}
 use Rattle.leaving.specs.declared.Aim.{Aim}

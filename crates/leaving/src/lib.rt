@@ -3,7 +3,7 @@
 // Put works out a request's first stage and the key that its descent goes to; commit frees the session's undo records and takes it out of
 // every word of holders. Format is endings::fresh_store and begin endings::begun_session. Each function promises that its result, or
 // the store it leaves, EQUALS a definition of specs/Words. The theorems over layouts: FreshRow (format), Begun (begin), Asking (put),
-// LeaveRow and FreedRow (the two parts of commit; abort ends with the first), Commit. It rests on the crates words, scans, members and
+// LeaveRow and FreedRow (the two parts of commit; abort ends with the first), Commit. It rests on the crates words, scans, undo_log and
 // endings, and for the theorems on layout and what lies below it.
 ghost use mathlib.Core.Path.{_≡_};
 ghost use Rattle.leaving.specs.Words.{choice, ChoiceReady, tidyAim, aimOf, asked, PutReady, leaveAll, LeaveReady, commitWords, CommitReady};
@@ -98,6 +98,6 @@ pub fn commit_words(store: &mut [u32], m: usize, r: usize, p: u32, undo: usize)
     requires { ⌜ CommitReady (now store) m r p undo ⌝ }
     ensures { λ _. ⌜ now (store .exit) ≡ commitWords (now (store .entry)) m r p undo ⌝ }
 {
-    members::free_chain(store, m, r, undo);
+    undo_log::free_chain(store, m, r, undo);
     leave_all(store, m, r, p);
 }

@@ -1,4 +1,2 @@
 -- The definitions that the contracts of `members` cite, and their laws.
 pub mod Members
-pub mod Undoing
-pub mod Freeing

@@ -3,3 +3,4 @@ pub mod Node
 pub mod Ops
 pub mod Live
 pub mod Entries
+pub mod Paths

@@ -31,7 +31,9 @@ use Rattle.scans.specs.Scans.{memberOf}
 use Rattle.taking.specs.Place.{nextTaken}
 use Rattle.nodes.specs.Node.{nodeAt}
 use Rattle.nodes.specs.Ops.{sonFor}
-use Rattle.descents.specs.Descents.{sonAt, sonToward, pairPlace, downBound, hasFree, inWay, firstInWay}
+use Rattle.nodes.specs.Paths.{sonAt, sonToward}
+use Rattle.descents.specs.Descents.{hasFree, inWay, firstInWay}
+use Rattle.joins.specs.Joins.{pairPlace, downBound}
 use Rattle.layout.specs.Layout.{means, Marked, SomeSon}
 use Rattle.layout.specs.Row.{Stands, Moves}
 use Rattle.layout.specs.Asked.{request-in}

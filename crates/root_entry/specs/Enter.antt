@@ -31,7 +31,9 @@ use Rattle.layout.specs.Keep.{with-tree}
 use Rattle.layout.specs.Puts.{node-latch}
 use Rattle.layout.specs.Room.{Sizes, sizes-of}
 use Rattle.layout.specs.Asked.{request-in, wait-moves}
-use Rattle.descents.specs.Descents.{sonAt, latchAt, splitRoot, splitRootHalf, dropRoot, hasFree, firstInWay}
+use Rattle.nodes.specs.Paths.{sonAt}
+use Rattle.descents.specs.Descents.{latchAt, hasFree, firstInWay}
+use Rattle.splits.specs.Splits.{splitRoot, splitRootHalf, dropRoot}
 use Rattle.finishing.specs.Ended.{refused-moves}
 use Rattle.walking.specs.Holes.{fits-usable}
 use Rattle.walking.specs.Hands.{nd}

@@ -12,9 +12,10 @@ use Rattle.words.specs.Header.{headerWord, rootPlace, heightPlace, freePlace}
 use Rattle.nodes.specs.declared.Node.{Node}
 use Rattle.nodes.specs.Node.{nodeAt, decodeNode, sized-decode}
 use Rattle.nodes.specs.Live.{Usable}
-use Rattle.nodes.specs.Ops.{splitNode}
+use Rattle.reshaping.specs.Ops.{splitNode}
 use Rattle.nodes.specs.Entries as N
-use Rattle.nodes.specs.Entries.{entries-length, split-up}
+use Rattle.nodes.specs.Entries.{entries-length}
+use Rattle.reshaping.specs.Entries.{split-up}
 use Rattle.chain.specs.Free.{Poppable, popFree}
 use Rattle.sessions.specs.declared.Session.{Session}
 use Rattle.machine.specs.Logic.{eqb-is, eqb-not, eqb-yes, eqb-no, leb-yes}
@@ -30,7 +31,8 @@ use Rattle.layout.specs.Layout.{Lay, NodeFits, TreeFits, Holds}
 use Rattle.layout.specs.Puts.{node-latch}
 use Rattle.layout.specs.Room.{Sizes}
 use Rattle.layout.specs.LatchRows.{node-has}
-use Rattle.descents.specs.Descents.{CanSplitRoot, splitRoot, splitRootHalf, putHalves, hasFree, inWay, firstInWay}
+use Rattle.descents.specs.Descents.{hasFree, inWay, firstInWay}
+use Rattle.splits.specs.Splits.{CanSplitRoot, splitRoot, splitRootHalf, putHalves}
 use Rattle.walking.specs.Traces.{Trace, trace-none, trace-pop}
 use Rattle.walking.specs.Holes.{fits-usable, ours-has}
 use Rattle.walking.specs.Hands.{one-self}

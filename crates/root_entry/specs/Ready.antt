@@ -7,7 +7,7 @@ use native.Mathlib.Omega.{arith}
 use lib.ListN.{length}
 use Rattle.words.specs.Store.{HasRecord}
 use Rattle.words.specs.Header.{headerWord, rootPlace}
-use Rattle.descents.specs.Descents.{CanSplitRoot}
+use Rattle.splits.specs.Splits.{CanSplitRoot}
 use Rattle.sessions.specs.declared.Session.{Session}
 use Rattle.sessions.specs.Sessions.{session-at}
 use Rattle.machine.specs.Logic.{eqb-no}

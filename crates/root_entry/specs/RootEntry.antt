@@ -11,7 +11,9 @@ use Rattle.chain.specs.Free.{Poppable}
 use Rattle.sessions.specs.declared.Session.{Session}
 use Rattle.outcomes.specs.declared.Answer.the-variants.{More, Wait, Refused}
 use Rattle.outcomes.specs.Said.{Stepped}
-use Rattle.descents.specs.Descents.{sonAt, latchAt, splitRoot, splitRootHalf, CanSplitRoot, dropRoot, hasFree, firstInWay}
+use Rattle.nodes.specs.Paths.{sonAt}
+use Rattle.descents.specs.Descents.{latchAt, hasFree, firstInWay}
+use Rattle.splits.specs.Splits.{splitRoot, splitRootHalf, CanSplitRoot, dropRoot}
 use Rattle.endings.specs.Table.{idled}
 use Rattle.finishing.specs.Finishing.{endRequest, Endable}
 use Rattle.walking.specs.Hands.{standing-at}

@@ -9,14 +9,16 @@ use borrow.Author.Tests.{eq-eqb, ne-eqb}
 use Rattle.words.specs.Store.{HasRecord}
 use Rattle.words.specs.Header.{headerWord, rootPlace, heightPlace, freePlace}
 use Rattle.nodes.specs.Node.{nodeAt}
-use Rattle.nodes.specs.Ops.{splitNode}
+use Rattle.reshaping.specs.Ops.{splitNode}
 use Rattle.sessions.specs.declared.Session.{Session}
 use Rattle.serial.specs.Serial.{true≢false}
 use Rattle.outcomes.specs.declared.Answer.the-variants.{More, Wait, Refused}
 use Rattle.outcomes.specs.declared.Moved.{Moved}
 use Rattle.outcomes.specs.Said.{Stepped, moved}
 use Rattle.machine.specs.Logic.{leb-yes, leb-no}
-use Rattle.descents.specs.Descents.{sonAt, CanSplitRoot, CanDropRoot, dropRoot, splitRoot, splitRootHalf, latchAt, hasFree, firstInWay}
+use Rattle.nodes.specs.Paths.{sonAt}
+use Rattle.descents.specs.Descents.{latchAt, hasFree, firstInWay}
+use Rattle.splits.specs.Splits.{CanSplitRoot, CanDropRoot, dropRoot, splitRoot, splitRootHalf}
 use Rattle.endings.specs.Table.{idled}
 use Rattle.finishing.specs.Finishing.{endRequest}
 use Rattle.walking.specs.Hands.{standing-at}

@@ -13,7 +13,7 @@ ghost use Rattle.words.specs.Store.{HasRecord};
 ghost use Rattle.words.specs.Header.{headerWord, rootPlace};
 ghost use Rattle.chain.specs.Free.{Poppable};
 ghost use Rattle.outcomes.specs.Said.{moved};
-ghost use Rattle.descents.specs.Descents.{CanSplitRoot};
+ghost use Rattle.splits.specs.Splits.{CanSplitRoot};
 ghost use Rattle.walking.specs.Hands.{standing-at};
 ghost use Rattle.finishing.specs.Finishing.{Endable};
 ghost use Rattle.root_entry.specs.RootEntry.{dropsRoot, enteredNode, droppedWords, rootInWay, splitsRoot, hasTwo, enterWhole, enterHalves, rootRefused, enterFull, enterFree, enterStep, RootReady, FreeReady, EnterReady};
@@ -58,7 +58,7 @@ fn drop_lone(store: &mut [u32], m: usize)
     if !drops {
         return;
     }
-    descents::drop_root(store, m);
+    splits::drop_root(store, m);
 }
 
 // ---- the tests
@@ -131,7 +131,7 @@ fn enter_halves(store: &mut [u32], m: usize, p: u32, x: Session) -> Moved
     ensures { λ r. ⌜ (now (store .exit) ≡ enterHalves (now (store .entry)) m p x .words) × (r ≡ moved (enterHalves (now (store .entry)) m p x)) ⌝ }
 {
     let height = words::height(store);
-    let half = descents::split_root(store, m, x.target, p + 1);
+    let half = splits::split_root(store, m, x.target, p + 1);
     Moved {
         answer: Answer::More,
         session: at_node(x, half as u32, height),

@@ -14,7 +14,7 @@ use Rattle.sessions.specs.declared.Session.{Session}
 use Rattle.outcomes.specs.declared.Answer.the-variants.{More, Wait, Done, Tidied, Refused}
 use Rattle.outcomes.specs.declared.Moved.{Moved}
 use Rattle.outcomes.specs.Said.{Stepped}
-use Rattle.members.specs.Undoing.{Loggable, logValue}
+use Rattle.undo_log.specs.Undoing.{Loggable, logValue}
 use Rattle.endings.specs.Table.{idled}
 
 -- ---- what every first step shares

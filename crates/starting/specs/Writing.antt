@@ -40,7 +40,7 @@ use Rattle.layout.specs.Puts.{free-popped}
 use Rattle.layout.specs.Room.{Sizes, sizes-of, owned-in, owned-has}
 use Rattle.layout.specs.Left.{idle-fits}
 use Rattle.layout.specs.Asked.{request-in}
-use Rattle.members.specs.Undoing.{logValue}
+use Rattle.undo_log.specs.Undoing.{logValue}
 use Rattle.starting.specs.Starting.{entryBlocker, refuses, excludedWords, logged, writtenWords, writeDone, writeFree, writeStep}
 use Rattle.starting.specs.Start.{Steps, start-finished, start-stage, entry-words, OnEntry, entry-means, is-session, entry-least, entry-most, entry-there, blocker-none, blocker-some, guard-moves, refused-start}
 use Rattle.starting.specs.Logged.{log-means}

@@ -5,7 +5,7 @@
 // picks which. It promises that the words a step leaves, its party's session record and the answer EQUAL a definition of
 // specs/Starting. specs/First says that this is the machine's step, where the words hold a layout of a sound state (rows: specs/Rows
 // and specs/Writing). It rests on words for where words lie, on locks for who is in the way and on long_locks for what that means, on
-// members for undo records, on endings and outcomes for session records and answers, on layout for what the words mean.
+// undo_log for undo records, on endings and outcomes for session records and answers, on layout for what the words mean.
 ghost use mathlib.Core.Path.{_≡_};
 ghost use Prim.Native.Nat.{_<_};
 ghost use Rattle.outcomes.specs.Said.{moved};
@@ -90,7 +90,7 @@ fn write_done(store: &mut [u32], m: usize, p: u32, x: Session) -> Moved
 {
     let e = x.entry as usize;
     let old = words::entry_word(store, e, 0);
-    let i = members::log_value(store, m, x.entry, old, x.undo);
+    let i = undo_log::log_value(store, m, x.entry, old, x.undo);
     words::set_entry_word(store, e, 0, x.first);
     exclude_entry(store, e, p);
     Moved {

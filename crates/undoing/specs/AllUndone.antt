@@ -27,7 +27,7 @@ use Rattle.layout.specs.Ordering.{Rising, rising-of}
 use Rattle.layout.specs.Room.{Sizes, sizes-of}
 use Rattle.layout.specs.Short.{undos-short}
 use Rattle.layout.specs.Written.{Written, written-none, written-then}
-use Rattle.members.specs.Undoing.{Undoing, undoOne, undoAll, Undoings}
+use Rattle.undo_log.specs.Undoing.{Undoing, undoOne, undoAll, Undoings}
 use Rattle.undoing.specs.Rows.{with-undo, Onward, undone-state, newest, mine-fit}
 use Rattle.undoing.specs.OneUndone.{undo-one-row, undos-means, sound-off, sound-apt}
 

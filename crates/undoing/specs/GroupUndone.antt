@@ -34,7 +34,7 @@ use Rattle.layout.specs.Places.{AtKey, means-desc}
 use Rattle.layout.specs.Room.{Sizes, owned-in, owned-has}
 use Rattle.layout.specs.Written.{Written}
 use Rattle.members.specs.Members.{Puttable, Takeable, putMember, takeMember}
-use Rattle.members.specs.Undoing.{Undoing, addedBack, takenBack, undoOne, one-added, one-taken}
+use Rattle.undo_log.specs.Undoing.{Undoing, addedBack, takenBack, undoOne, one-added, one-taken}
 use Rattle.grouping.specs.GroupWords.{Changed, Within, within-kept, changed-then, changed-wide, changed-written, push-changed, push-chained, put-added, put-desc, put-member-changed, put-able, take-out, take-desc, take-member-changed, take-able, desc-words-fit, once-from, put-group, take-group, Found, found, not-found, member-put, member-out, lists-put}
 use Rattle.undoing.specs.Rows.{with-undo, hand-undo, OthersOff, Onward, undone-state, table-undone, named-put, mine-fit, mine-named, rest-fit, mine-times}
 

@@ -28,7 +28,7 @@ use Rattle.layout.specs.Groups.{hole-leaves, left-leaves, right-leaves}
 use Rattle.layout.specs.Ordering.{Rising, key-in, rising-of}
 use Rattle.layout.specs.Places.{AtKey, session-means}
 use Rattle.layout.specs.Room.{Sizes}
-use Rattle.members.specs.Undoing.{undoOne}
+use Rattle.undo_log.specs.Undoing.{undoOne}
 use Rattle.grouping.specs.GroupWords.{elem-some, elem-none}
 use Rattle.undoing.specs.Rows.{with-undo, entry-in, AptAs, Apt, Off, OthersOff, Onward, mine-named}
 use Rattle.undoing.specs.ValueUndone.{value-row}

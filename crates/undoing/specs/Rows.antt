@@ -27,7 +27,7 @@ use Rattle.layout.specs.Places.{session-means}
 use Rattle.layout.specs.Ordering.{Rising}
 use Rattle.layout.specs.Room.{Sizes, owned-in, owned-has}
 use Rattle.layout.specs.Written.{Written}
-use Rattle.members.specs.Undoing.{Undoing}
+use Rattle.undo_log.specs.Undoing.{Undoing}
 use Rattle.grouping.specs.GroupWords.{Within}
 
 -- ---- the session record

@@ -28,7 +28,7 @@ use Rattle.layout.specs.Groups.{put-here, put-there, with-log, log-row}
 use Rattle.layout.specs.Ordering.{Rising}
 use Rattle.layout.specs.Room.{Sizes, entries-are, has-entry}
 use Rattle.layout.specs.Written.{Written, entry-written, entry-head}
-use Rattle.members.specs.Undoing.{Undoing, valueBack, undoOne, one-value}
+use Rattle.undo_log.specs.Undoing.{Undoing, valueBack, undoOne, one-value}
 use Rattle.grouping.specs.GroupWords.{Changed, Within, within-kept, push-changed, push-chained}
 use Rattle.undoing.specs.Rows.{with-undo, hand-undo, Onward, undone-state, table-undone, mine-fit, mine-named, rest-fit, mine-times, log-bound, log-own, log-in}
 

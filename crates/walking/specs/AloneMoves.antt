@@ -29,7 +29,9 @@ use Rattle.layout.specs.Asked.{request-in, wait-moves}
 use Rattle.layout.specs.Room.{Sizes, sizes-of}
 use Rattle.outcomes.specs.Said.{Stepped, said}
 use Rattle.finishing.specs.Ended.{refused-moves}
-use Rattle.descents.specs.Descents.{sonToward, plainSon, splitSon, splitSonHalf, hasFree, inWay}
+use Rattle.nodes.specs.Paths.{sonToward}
+use Rattle.descents.specs.Descents.{plainSon, hasFree, inWay}
+use Rattle.splits.specs.Splits.{splitSon, splitSonHalf}
 use Rattle.walking.specs.Levels.{length-mapE, mapE-mid, son-is, plain-words, plain-becomes, plain-words-is, toward-is, split-words, mid, split-becomes, split-words-is, split-half-is, son-count, son-latch}
 use Rattle.walking.specs.Sites.{Site}
 use Rattle.walking.specs.Ways.{Way, clear, shut, way-one}

@@ -10,14 +10,19 @@ use lib.ListN.{length, set, getD, take, drop, length-append}
 use Rattle.words.specs.Store.{HasRecord, recordAt, wordOf}
 use Rattle.words.specs.Header.{headerWord, freePlace}
 use Rattle.nodes.specs.declared.Node.{Node}
-use Rattle.nodes.specs.declared.Neighbours.{Neighbours}
+use Rattle.reshaping.specs.declared.Neighbours.{Neighbours}
 use Rattle.nodes.specs.Node.{nodeAt, putNode, Sized, sized-decode, node-other}
-use Rattle.nodes.specs.Ops.{sonFor, withLatch, splitNode, insertBehind}
-use Rattle.nodes.specs.Live.{Usable, left-usable, right-usable, insert-usable}
+use Rattle.nodes.specs.Ops.{sonFor, withLatch}
+use Rattle.reshaping.specs.Ops.{splitNode, insertBehind}
+use Rattle.nodes.specs.Live.{Usable}
+use Rattle.reshaping.specs.Live.{left-usable, right-usable, insert-usable}
 use Rattle.nodes.specs.Entries as N
-use Rattle.nodes.specs.Entries.{latch-entries, entries-length, place-in, find-here, son-here, behind-entries, split-left, split-up, split-right}
+use Rattle.nodes.specs.Entries.{latch-entries, entries-length, place-in, find-here, son-here}
+use Rattle.reshaping.specs.Entries.{behind-entries, split-left, split-up, split-right}
 use Rattle.chain.specs.Free.{popFree}
-use Rattle.descents.specs.Descents.{sonToward, Toward, latchAt, plainSon, putHalves, splitSon, splitSonHalf}
+use Rattle.nodes.specs.Paths.{sonToward}
+use Rattle.descents.specs.Descents.{Toward, latchAt, plainSon}
+use Rattle.splits.specs.Splits.{putHalves, splitSon, splitSonHalf}
 use Rattle.sessions.specs.declared.Session.{Session}
 use Rattle.sessions.specs.Sessions.{session-at}
 use Rattle.machine.specs.Tree.{mapE, mapE-append, flat, flat-append, leaves, Below, onp-hit, pick-hit}

@@ -30,7 +30,9 @@ use Rattle.layout.specs.Places.{Erased}
 use Rattle.layout.specs.Asked.{request-in, wait-moves}
 use Rattle.layout.specs.Room.{Sizes, sizes-of}
 use Rattle.outcomes.specs.Said.{Stepped}
-use Rattle.descents.specs.Descents.{sonAt, sonToward, pairPlace, downBound, joinSons, moveRight, moveLeft, firstInWay}
+use Rattle.nodes.specs.Paths.{sonAt, sonToward}
+use Rattle.descents.specs.Descents.{firstInWay}
+use Rattle.joins.specs.Joins.{pairPlace, downBound, joinSons, moveRight, moveLeft}
 use Rattle.walking.specs.Hands.{nd}
 use Rattle.walking.specs.Levels.{length-mapE}
 use Rattle.walking.specs.Pairs.{down, down-num, AtPair, pair-pick, A-count, B-count, A-latch, B-latch, left-son, right-son, pair-place-is, first-is, down-is, join-is, join-becomes, right-words-is, right-becomes, left-words-is, left-becomes}

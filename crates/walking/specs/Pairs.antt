@@ -12,14 +12,18 @@ use Rattle.words.specs.Store.{HasRecord, recordAt, putRecord, wordOf, length-re
 use Rattle.words.specs.Header.{headerWord, freePlace}
 use Rattle.words.specs.Frames.{header-record}
 use Rattle.nodes.specs.declared.Node.{Node}
-use Rattle.nodes.specs.declared.Neighbours.{Neighbours}
+use Rattle.reshaping.specs.declared.Neighbours.{Neighbours}
 use Rattle.nodes.specs.Node.{nodeAt, putNode, decodeNode, Sized}
-use Rattle.nodes.specs.Ops.{sonFor, withLatch, removeBehind, dropSon, setBound, joinNodes, moveFromLeft, moveFromRight}
-use Rattle.nodes.specs.Live.{Usable, drop-usable, set-usable, join-usable, from-left-usable, from-right-usable}
+use Rattle.nodes.specs.Ops.{sonFor, withLatch}
+use Rattle.reshaping.specs.Ops.{removeBehind, dropSon, setBound, joinNodes, moveFromLeft, moveFromRight}
+use Rattle.nodes.specs.Live.{Usable}
+use Rattle.reshaping.specs.Live.{drop-usable, set-usable, join-usable, from-left-usable, from-right-usable}
 use Rattle.nodes.specs.Entries as N
-use Rattle.nodes.specs.Entries.{latch-entries, entries-length, find-here, son-here, entries-upto, last-bound, right-out, bound-set, bound-between, join-entries, from-left-left, from-left-up, from-left-right, from-right-left, from-right-up, from-right-right}
+use Rattle.nodes.specs.Entries.{latch-entries, entries-length, find-here, son-here, entries-upto, last-bound}
+use Rattle.reshaping.specs.Entries.{right-out, bound-set, bound-between, join-entries, from-left-left, from-left-up, from-left-right, from-right-left, from-right-up, from-right-right}
 use Rattle.chain.specs.Free.{pushFree}
-use Rattle.descents.specs.Descents.{sonAt, pairPlace, lastOfLeft, downBound, joinSons, moveRight, moveLeft}
+use Rattle.nodes.specs.Paths.{sonAt}
+use Rattle.joins.specs.Joins.{pairPlace, lastOfLeft, downBound, joinSons, moveRight, moveLeft}
 use Rattle.sessions.specs.declared.Session.{Session}
 use Rattle.sessions.specs.Sessions.{session-at}
 use Rattle.machine.specs.Logic.{leb-yes, leb-no}

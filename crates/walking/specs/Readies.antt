@@ -26,7 +26,9 @@ use Rattle.layout.specs.Keep.{records-times}
 use Rattle.layout.specs.Row.{Stands}
 use Rattle.layout.specs.Room.{Sizes, sizes-of, owned-has}
 use Rattle.finishing.specs.Ready.{end-ready}
-use Rattle.descents.specs.Descents.{sonAt, sonToward, Toward, pairPlace, lastOfLeft}
+use Rattle.nodes.specs.Paths.{sonAt, sonToward}
+use Rattle.descents.specs.Descents.{Toward}
+use Rattle.joins.specs.Joins.{pairPlace, lastOfLeft}
 use Rattle.walking.specs.Levels.{toward-ready, parent-count}
 use Rattle.walking.specs.Pairs.{pair-room, A-few, pair-has, last-left, last-has}
 use Rattle.walking.specs.Sites.{Site, site-of}

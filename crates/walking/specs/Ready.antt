@@ -11,7 +11,10 @@ use Rattle.nodes.specs.Ops.{sonFor}
 use Rattle.chain.specs.Free.{Poppable}
 use Rattle.sessions.specs.declared.Session.{Session}
 use Rattle.finishing.specs.Finishing.{Endable}
-use Rattle.descents.specs.Descents.{sonAt, sonToward, Toward, CanSplitSon, CanJoin, CanMoveLeft, CanMoveRight, HasDown, pairPlace}
+use Rattle.nodes.specs.Paths.{sonAt, sonToward}
+use Rattle.descents.specs.Descents.{Toward}
+use Rattle.splits.specs.Splits.{CanSplitSon}
+use Rattle.joins.specs.Joins.{CanJoin, CanMoveLeft, CanMoveRight, HasDown, pairPlace}
 use Rattle.walking.specs.Walking.{otherCount}
 
 -- One of 17 parties, at a node above the lowest.

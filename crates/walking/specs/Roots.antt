@@ -11,12 +11,15 @@ use Rattle.words.specs.Store.{HasRecord, wordOf}
 use Rattle.words.specs.Header.{headerWord, putHeaderWord, rootPlace, heightPlace, firstPlace, freePlace}
 use Rattle.words.specs.Frames.{header-same, header-other, header-record}
 use Rattle.nodes.specs.declared.Node.{Node}
-use Rattle.nodes.specs.declared.Neighbours.{Neighbours}
+use Rattle.reshaping.specs.declared.Neighbours.{Neighbours}
 use Rattle.nodes.specs.Node.{nodeAt, putNode, decodeNode}
-use Rattle.nodes.specs.Ops.{withLatch, splitNode, insertBehind, insertSon, loneNode}
-use Rattle.nodes.specs.Live.{Usable, left-usable, right-usable, insert-usable}
+use Rattle.nodes.specs.Ops.{withLatch, loneNode}
+use Rattle.reshaping.specs.Ops.{splitNode, insertBehind, insertSon}
+use Rattle.nodes.specs.Live.{Usable}
+use Rattle.reshaping.specs.Live.{left-usable, right-usable, insert-usable}
 use Rattle.nodes.specs.Entries as N
-use Rattle.nodes.specs.Entries.{entries-length, behind-entries, lone-entries, split-left, split-up, split-right}
+use Rattle.nodes.specs.Entries.{entries-length, lone-entries}
+use Rattle.reshaping.specs.Entries.{behind-entries, split-left, split-up, split-right}
 use Rattle.chain.specs.Free.{popFree}
 use Rattle.sessions.specs.declared.Session.{Session}
 use Rattle.sessions.specs.Sessions.{session-at}

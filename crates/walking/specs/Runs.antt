@@ -8,7 +8,8 @@ use borrow.Author.Tests.{eq-eqb}
 use Rattle.words.specs.Header.{headerWord, freePlace}
 use Rattle.nodes.specs.declared.Node.{Node}
 use Rattle.nodes.specs.Node.{nodeAt}
-use Rattle.nodes.specs.Ops.{sonFor, splitNode}
+use Rattle.nodes.specs.Ops.{sonFor}
+use Rattle.reshaping.specs.Ops.{splitNode}
 use Rattle.sessions.specs.declared.Session.{Session}
 use Rattle.outcomes.specs.Said.{Stepped, moved}
 use Rattle.outcomes.specs.declared.Answer.the-variants.{More, Refused}
@@ -16,7 +17,10 @@ use Rattle.outcomes.specs.declared.Moved.{Moved}
 use Rattle.serial.specs.Serial.{true≢false}
 use Rattle.machine.specs.Logic.{eqb-is}
 use Rattle.endings.specs.Table.{idled}
-use Rattle.descents.specs.Descents.{sonAt, sonToward, CanSplitSon, splitSonHalf, HasDown, pairPlace, downBound, hasFree, inWay, firstInWay}
+use Rattle.nodes.specs.Paths.{sonAt, sonToward}
+use Rattle.descents.specs.Descents.{hasFree, inWay, firstInWay}
+use Rattle.splits.specs.Splits.{CanSplitSon, splitSonHalf}
+use Rattle.joins.specs.Joins.{HasDown, pairPlace, downBound}
 use Rattle.walking.specs.Hands.{standing-at}
 use Rattle.walking.specs.Walking.{mendBy, mendStep, otherCount}
 use Rattle.walking.specs.Ready.{Mendable, PairReady}

@@ -10,7 +10,10 @@ use Rattle.outcomes.specs.Said.{Stepped}
 use Rattle.outcomes.specs.declared.Answer.the-variants.{More, Wait, Refused}
 use Rattle.endings.specs.Table.{idled}
 use Rattle.finishing.specs.Finishing.{endRequest}
-use Rattle.descents.specs.Descents.{sonAt, sonToward, plainSon, splitSon, splitSonHalf, pairPlace, joinSons, moveRight, moveLeft, downBound, hasFree, inWay, firstInWay}
+use Rattle.nodes.specs.Paths.{sonAt, sonToward}
+use Rattle.descents.specs.Descents.{plainSon, hasFree, inWay, firstInWay}
+use Rattle.splits.specs.Splits.{splitSon, splitSonHalf}
+use Rattle.joins.specs.Joins.{pairPlace, joinSons, moveRight, moveLeft, downBound}
 use Rattle.walking.specs.Hands.{standing-at}
 
 -- The party whose latch word is b is in the way.

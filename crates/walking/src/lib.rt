@@ -5,13 +5,16 @@
 // leaves, its party's session record and the answer EQUAL a definition of specs/Walking; specs/PairMoves (level-moves) says that this is the
 // machine's step, where the words hold a layout of a sound state, and specs/Ready that such words meet what the functions ask for. The rest of
 // specs is the proof of that: Traces (runs of writes), Holes (a part of the tree replaced), Levels and Pairs (what each way down leaves),
-// Roots and Enters (the same for the root), Sites (where a party stands). It rests on descents for nodes, on finishing for requests that end.
+// Roots and Enters (the same for the root), Sites (where a party stands). It rests on descents, splits and joins for nodes, on finishing for requests that end.
 ghost use mathlib.Core.Path.{_≡_};
 ghost use mathlib.Core.Bool.{cond, not, _&&_};
 ghost use Prim.Native.Nat.{_-_, _≤_};
 ghost use lib.Dec.{eqb};
 ghost use Rattle.nodes.specs.Ops.{sonFor};
-ghost use Rattle.descents.specs.Descents.{Toward, sonToward, CanSplitSon, CanJoin, CanMoveLeft, CanMoveRight};
+ghost use Rattle.nodes.specs.Paths.{sonToward};
+ghost use Rattle.descents.specs.Descents.{Toward};
+ghost use Rattle.splits.specs.Splits.{CanSplitSon};
+ghost use Rattle.joins.specs.Joins.{CanJoin, CanMoveLeft, CanMoveRight};
 ghost use Rattle.finishing.specs.Finishing.{Endable};
 ghost use Rattle.outcomes.specs.Said.{moved};
 ghost use Rattle.outcomes.specs.declared.Answer.the-variants.{More, Wait};
@@ -115,7 +118,7 @@ fn halved_step(store: &mut [u32], m: usize, p: u32, x: Session) -> Moved
     ensures { λ z. ⌜ (now (store .exit) ≡ halvedStep (now (store .entry)) m p x .words) × (z ≡ moved (halvedStep (now (store .entry)) m p x)) ⌝ }
 {
     let at = x.at as usize;
-    let half = descents::split_son(store, m, at, x.target, p + 1);
+    let half = splits::split_son(store, m, at, x.target, p + 1);
     stands(x, half)
 }
 
@@ -162,7 +165,7 @@ fn join_step(store: &mut [u32], m: usize, p: u32, x: Session, i: usize, down: u3
     ensures { λ z. ⌜ (now (store .exit) ≡ joinStep (now (store .entry)) m p x i down .words) × (z ≡ moved (joinStep (now (store .entry)) m p x i down)) ⌝ }
 {
     let at = x.at as usize;
-    let one = descents::join_sons(store, m, at, i, down, p + 1);
+    let one = joins::join_sons(store, m, at, i, down, p + 1);
     stands(x, one)
 }
 
@@ -171,7 +174,7 @@ fn left_step(store: &mut [u32], m: usize, p: u32, x: Session, i: usize, down: u3
     ensures { λ z. ⌜ (now (store .exit) ≡ leftStep (now (store .entry)) m p x i down .words) × (z ≡ moved (leftStep (now (store .entry)) m p x i down)) ⌝ }
 {
     let at = x.at as usize;
-    let left = descents::move_left(store, m, at, i, down, p + 1);
+    let left = joins::move_left(store, m, at, i, down, p + 1);
     stands(x, left)
 }
 
@@ -180,7 +183,7 @@ fn right_step(store: &mut [u32], m: usize, p: u32, x: Session, i: usize, down: u
     ensures { λ z. ⌜ (now (store .exit) ≡ rightStep (now (store .entry)) m p x i down .words) × (z ≡ moved (rightStep (now (store .entry)) m p x i down)) ⌝ }
 {
     let at = x.at as usize;
-    let right = descents::move_right(store, m, at, i, down, p + 1);
+    let right = joins::move_right(store, m, at, i, down, p + 1);
     stands(x, right)
 }
 
@@ -231,14 +234,14 @@ fn mend_step(store: &mut [u32], m: usize, p: u32, x: Session) -> Moved
 {
     let at = x.at as usize;
     let n = nodes::load_node(store, m, at);
-    let i = descents::pair_place(n, x.target);
+    let i = joins::pair_place(n, x.target);
     let first = is_first(n, x.target);
     let l = nodes::node_son(store, m, at, i) as usize;
     let q = nodes::node_son(store, m, at, i + 1) as usize;
     let a = nodes::node_count(store, m, l);
     let b = nodes::node_count(store, m, q);
     let other = either(first, b, a);
-    let down = descents::down_bound(store, m, x.level - 1, at, i);
+    let down = joins::down_bound(store, m, x.level - 1, at, i);
     mend_by(store, m, p, x, i, first, other, down)
 }
 
@@ -248,7 +251,7 @@ fn pair_step(store: &mut [u32], m: usize, p: u32, x: Session) -> Moved
 {
     let at = x.at as usize;
     let n = nodes::load_node(store, m, at);
-    let i = descents::pair_place(n, x.target);
+    let i = joins::pair_place(n, x.target);
     let l = nodes::node_son(store, m, at, i) as usize;
     let q = nodes::node_son(store, m, at, i + 1) as usize;
     let v = nodes::node_latch(store, m, l);

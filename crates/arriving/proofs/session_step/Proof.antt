@@ -1,7 +1,7 @@
 -- The proof of `session_step`.
 use native.Mathlib.Omega.{arith}
 use lib.Dec.{lit<}
-use Rattle.descents.specs.Runs.{has-at}
+use Rattle.nodes.specs.Paths.{has-at}
 use Rattle.arriving.specs.Runs.{pin-ready, make-ready, session-pins, session-makes}
 use borrow.Author.Needs.{needs}
 use Rattle.arriving.proofs.session_step.Statement.{statement}

@@ -1,5 +1,5 @@
 -- The proof of `son_toward`.
-use Rattle.descents.specs.Runs.{path-place, son-same}
+use Rattle.nodes.specs.Paths.{path-place, son-same}
 use borrow.Author.Needs.{needs}
 use Rattle.arriving.proofs.son_toward.Statement.{statement}
 use Rattle.arriving.proofs.son_toward.Tie as tie

@@ -1,6 +1,6 @@
 -- The proof of `tidy_step`.
 use native.Mathlib.Omega.{arith}
-use Rattle.descents.specs.Runs.{has-at}
+use Rattle.nodes.specs.Paths.{has-at}
 use Rattle.arriving.specs.Runs.{tidy-able, tidy-goes, tidy-stays}
 use borrow.Author.Needs.{needs}
 use Rattle.arriving.proofs.tidy_step.Statement.{statement}

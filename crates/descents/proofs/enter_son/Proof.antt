@@ -1,7 +1,8 @@
 -- The proof of `enter_son`.
 use native.Mathlib.Omega.{arith}
 use borrow.Author.Needs.{needs}
-use Rattle.descents.specs.Runs.{has-at, path-place, son-same, enter-run}
+use Rattle.nodes.specs.Paths.{has-at, path-place, son-same}
+use Rattle.descents.specs.Runs.{enter-run}
 use Rattle.descents.proofs.enter_son.Statement.{statement}
 use Rattle.descents.proofs.enter_son.Tie as tie
 

@@ -2,7 +2,8 @@
 use native.Mathlib.Omega.{arith}
 use lib.Dec.{lit<}
 use borrow.Author.Needs.{needs}
-use Rattle.descents.specs.Runs.{has-at, path-place, son-same, insert-leaf-run}
+use Rattle.nodes.specs.Paths.{has-at, path-place, son-same}
+use Rattle.descents.specs.Runs.{insert-leaf-run}
 use Rattle.descents.proofs.insert_leaf.Statement.{statement}
 use Rattle.descents.proofs.insert_leaf.Tie as tie
 

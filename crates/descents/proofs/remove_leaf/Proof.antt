@@ -1,7 +1,8 @@
 -- The proof of `remove_leaf`.
 use native.Mathlib.Omega.{arith}
 use borrow.Author.Needs.{needs}
-use Rattle.descents.specs.Runs.{son-place, remove-leaf-run}
+use Rattle.nodes.specs.Paths.{son-place}
+use Rattle.descents.specs.Runs.{remove-leaf-run}
 use Rattle.descents.proofs.remove_leaf.Statement.{statement}
 use Rattle.descents.proofs.remove_leaf.Tie as tie
 

@@ -1,7 +1,7 @@
 -- The proof of `mend_step`.
 use native.Mathlib.Omega.{arith}
 use borrow.Author.Needs.{needs}
-use Rattle.descents.specs.Runs.{has-at}
+use Rattle.nodes.specs.Paths.{has-at}
 use Rattle.walking.specs.Runs.{place-low, left-run, right-run, down-run, mend-ready, mend-run}
 use Rattle.walking.proofs.mend_step.Statement.{statement}
 use Rattle.walking.proofs.mend_step.Tie as tie

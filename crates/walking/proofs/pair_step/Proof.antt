@@ -3,7 +3,7 @@ use mathlib.Core.Path.{refl}
 use native.Mathlib.Omega.{arith}
 use borrow.Author.Needs.{needs}
 use borrow.Author.Tests.{eq-eqb, ne-eqb}
-use Rattle.descents.specs.Runs.{has-at}
+use Rattle.nodes.specs.Paths.{has-at}
 use Rattle.walking.specs.Runs.{place-low, left-run, right-run, ways-run}
 use Rattle.walking.specs.Walking.{pairStep}
 use Rattle.walking.proofs.pair_step.Statement.{statement}

@@ -1,6 +1,6 @@
 -- The proof of `son_toward`.
 use borrow.Author.Needs.{needs}
-use Rattle.descents.specs.Runs.{path-place, son-same}
+use Rattle.nodes.specs.Paths.{path-place, son-same}
 use Rattle.walking.proofs.son_toward.Statement.{statement}
 use Rattle.walking.proofs.son_toward.Tie as tie
 

@@ -1,0 +1,3 @@
+-- The definitions that the contracts of `undo_log` cite, and their laws.
+pub mod Undoing
+pub mod Freeing
