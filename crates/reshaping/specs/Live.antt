@@ -10,7 +10,6 @@ use lib.Dec.{ltb}
 use borrow.Author.Tests.{ltb-true}
 use Rattle.words.specs.Window.{wordsAt, words-part}
 use Rattle.nodes.specs.declared.Node.{Node}
-use Rattle.nodes.specs.Node.{Sized}
 use Rattle.nodes.specs.Live.{sonsOf, boundsOf, Usable, first-same}
 use Rattle.reshaping.specs.Ops.{insertIn, removeIn, insertSon, dropSon, removeBefore, removeBehind, removeSon, setBound, splitNode, joinNodes, moveFromLeft, moveFromRight}
 
