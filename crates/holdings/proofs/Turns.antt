@@ -1,96 +1,20 @@
--- The turns of the loops over sessions, entries and groups.
+-- The turns of the loop over the groups.
 use mathlib.Core.Path.{_≡_, refl, sym, ap, _∙_}
 use mathlib.Core.List.{List}
-use mathlib.Core.Bool.{Bool, true, false, cond, not, _&&_}
-use Prim.Native.Nat.{ℕ, suc, _+_, _-_, _≤_, _<_, min}
+use mathlib.Core.Bool.{Bool, true, false, not, _&&_}
+use Prim.Native.Nat.{ℕ, _+_, _-_, _≤_, _<_}
 use native.Mathlib.Omega.{arith}
 use lib.Dec.{eqb, leb}
 use lib.ListN.{getD}
 use borrow.Author.Tests.{eqb-false, leb-true, not-true}
-use Rattle.words.specs.Entries.{entryWord}
-use Rattle.locks.specs.Holders.{held-by}
 use Rattle.sessions.specs.declared.Session.{Session}
-use Rattle.sessions.specs.Sessions.{session-at}
 use Rattle.marks.specs.declared.Chain.{Chain}
 use Rattle.marks.specs.Steps.{both}
 use Rattle.marks.specs.Trail.{Trail, ends, thenTrail, Ends, trail-as, ended-as}
-use Rattle.holdings.specs.declared.Asked.{Asked}
-use Rattle.holdings.specs.Holdings.{withFrom, holdersOk, entriesFrom, askedAt, keyOf, keyAt, descriptorOk, groupOne, groupsFrom, allGroups}
-use Rattle.holdings.specs.Passed.{lowestFrom}
-
-one-less : (k : ℕ) → 0 < k → k ≡ suc (k - 1)
-one-less k h = omega arith
-
--- ---- sessions
-
--- what is left of the sessions, done, gives the whole holders word
-pub record Masking (whole : ℕ) (f : Session → Bool) (t : List Session) (mask p rest : ℕ) : Type 0 where
-  pub is : withFrom f t mask p rest ≡ whole
-
-pub mask-more : {whole : ℕ} {f : Session → Bool} {t : List Session} {mask p rest rest′ mask′ : ℕ} {b : Bool} → Masking whole f t mask p rest → 0 < rest
-    → b ≡ f (session-at t p) → mask′ ≡ cond b (held-by p mask) mask → rest′ ≡ rest - 1 → Masking whole f t mask′ (p + 1) rest′
-unfolding withFrom
-mask-more {whole} {f} {t} {mask} {p} {rest} {rest′} {mask′} {b} g h eb e z =
-    record {
-      is = ap (withFrom f t mask′ (p + 1)) z
-          ∙ ap (λ (x : ℕ). withFrom f t x (p + 1) (rest - 1)) (e ∙ ap (λ (x : Bool). cond x (held-by p mask) mask) eb)
-          ∙ ap (withFrom f t mask p) (sym (one-less rest h))
-          ∙ g .is;
-    }
-
-pub mask-end : {whole : ℕ} {f : Session → Bool} {t : List Session} {mask p rest : ℕ} → Masking whole f t mask p rest → rest ≡ 0 → mask ≡ whole
-unfolding withFrom
-mask-end {whole} {f} {t} {mask} {p} {rest} g e = ap (withFrom f t mask p) (sym e) ∙ g .is
-
--- the same, of the lowest number
-pub record Lowering (whole : ℕ) (f : Session → ℕ) (t : List Session) (low p rest : ℕ) : Type 0 where
-  pub is : lowestFrom f t low p rest ≡ whole
-
-pub low-more : {whole : ℕ} {f : Session → ℕ} {t : List Session} {low p rest rest′ low′ x : ℕ} → Lowering whole f t low p rest → 0 < rest
-    → x ≡ f (session-at t p) → low′ ≡ min low x → rest′ ≡ rest - 1 → Lowering whole f t low′ (p + 1) rest′
-unfolding lowestFrom
-low-more {whole} {f} {t} {low} {p} {rest} {rest′} {low′} {x} g h ex e z =
-    record {
-      is = ap (lowestFrom f t low′ (p + 1)) z
-          ∙ ap (λ (y : ℕ). lowestFrom f t y (p + 1) (rest - 1)) (e ∙ ap (min low) ex)
-          ∙ ap (lowestFrom f t low p) (sym (one-less rest h))
-          ∙ g .is;
-    }
-
-pub low-end : {whole : ℕ} {f : Session → ℕ} {t : List Session} {low p rest : ℕ} → Lowering whole f t low p rest → rest ≡ 0 → low ≡ whole
-unfolding lowestFrom
-low-end {whole} {f} {t} {low} {p} {rest} g e = ap (lowestFrom f t low p) (sym e) ∙ g .is
-
--- ---- entries
-
--- what is left of the entries, done, gives the whole
-pub record Entering (whole : Bool) (s : List ℕ) (begun e rest : ℕ) : Type 0 where
-  pub is : entriesFrom s begun e rest ≡ whole
-
-pub entry-start : {s : List ℕ} {begun m rest : ℕ} → rest ≡ m → Entering (entriesFrom s begun 1 m) s begun 1 rest
-entry-start {s} {begun} e = record { is = ap (entriesFrom s begun 1) e }
-
-module _ {whole : Bool} {s : List ℕ} {begun e rest : ℕ} (g : Entering whole s begun e rest) where
-  pub entry-end : rest ≡ 0 → true ≡ whole
-  unfolding entriesFrom
-  entry-end z = ap (entriesFrom s begun e) (sym z) ∙ g .is
-
-  module _ {x y : ℕ} {b : Bool} (h : 0 < rest) (ex : x ≡ entryWord s e 1) (ey : y ≡ entryWord s e 2) (eb : b ≡ holdersOk 0 x y begun) where
-    entry-as : (b && entriesFrom s begun (e + 1) (rest - 1)) ≡ whole
-    unfolding entriesFrom
-    entry-as =
-        let q : b ≡ holdersOk 0 (entryWord s e 1) (entryWord s e 2) begun = rw (← ex, ← ey) eb in
-        ap (λ (o : Bool). o && entriesFrom s begun (e + 1) (rest - 1)) q
-        ∙ ap (entriesFrom s begun e) (sym (one-less rest h))
-        ∙ g .is
-
-    pub entry-bad : b ≡ false → false ≡ whole
-    entry-bad o = (simp o at entry-as)
-
-    pub entry-more : {rest′ : ℕ} → b ≡ true → rest′ ≡ rest - 1 → Entering whole s begun (e + 1) rest′
-    entry-more o z = record { is = ap (entriesFrom s begun (e + 1)) z ∙ (simp o at entry-as) }
-
--- ---- groups
+use Rattle.holders.proofs.Turns.{one-less}
+use Rattle.passing.specs.declared.Asked.{Asked}
+use Rattle.passing.specs.Asked.{askedAt}
+use Rattle.holdings.specs.Holdings.{keyOf, keyAt, descriptorOk, groupOne, groupsFrom, allGroups}
 
 -- a descriptor that is right is one of the store's
 pub descriptor-in : (s tally : List ℕ) (m r begun : ℕ) (asked : Asked) (d : ℕ) → descriptorOk s tally m r begun asked d ≡ true → (1 ≤ d) × (d ≤ r)

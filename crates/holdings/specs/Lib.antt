@@ -1,3 +1,2 @@
 -- The specifications of the crate holdings.
 pub mod Holdings
-pub mod Passed

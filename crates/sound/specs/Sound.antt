@@ -13,7 +13,8 @@ use Rattle.marks.specs.Trail.{Trail, Turn, turn, chainOf}
 use Rattle.parties.specs.Parties.{partiesOk, standingAtNodes, allUndos}
 use Rattle.tree_walk.specs.declared.Walk.{Walk}
 use Rattle.tree_walk.specs.TreeWalk.{Tour, rootTour}
-use Rattle.holdings.specs.Holdings.{begunMask, entriesFrom, allGroups}
+use Rattle.holders.specs.Holders.{begunMask, entriesFrom}
+use Rattle.holdings.specs.Holdings.{allGroups}
 use Rattle.sound.specs.declared.Checked.{Checked}
 use Rattle.sound.specs.Faults.{sizes-fault, entries-fault, zero-fault, tree-fault, requests-fault, latches-fault, undos-fault, groups-fault, free-fault, unreached-fault}
 use Rattle.sound.specs.Sizes.{sizesOk}

@@ -3,7 +3,8 @@
 // `first_fault` runs the passes one after the other and answers the first part that is broken, or that none is and how many records are
 // free; `is_sound` answers whether none is. Neither asks anything of the words that it is given. Each result EQUALS a definition
 // of specs/Sound (`firstFault`, `isSound`); specs/Sizes has the sizes that format gives, specs/Faults the numbers of the parts. The time is
-// linear in the words of the store. It rests on the crates words, groups, sessions, marks, undo_chains, parties, tree_walk and holdings.
+// linear in the words of the store. It rests on the crates words, groups, sessions, marks, undo_chains, parties, tree_walk, holders and
+// holdings.
 ghost use mathlib.Core.Path.{_≡_};
 ghost use Prim.Native.Nat.{_+_, _*_, _≤_, _<_};
 ghost use lib.ListN.{length};
@@ -267,8 +268,8 @@ fn fault_in(store: &[u32], m: usize, r: usize, t: [Session; PARTIES]) -> Checked
     requires { ⌜ HasRecords (now store) m r ⌝ }
     ensures { λ c. ⌜ c ≡ faultIn (now (store .entry)) m r t ⌝ }
 {
-    let begun = holdings::begun_mask(t);
-    if !holdings::entries_ok(store, m, r, begun) {
+    let begun = holders::begun_mask(t);
+    if !holders::entries_ok(store, m, r, begun) {
         return broken(ENTRIES);
     }
     if !lowest_ok(store, m, r) {

@@ -11,7 +11,7 @@ use Rattle.words.specs.Store.{wordOf}
 use Rattle.sessions.specs.declared.Session.{Session}
 use Rattle.sessions.specs.Sessions.{session-at}
 use Rattle.serial.specs.Locks as L
-use Rattle.holdings.specs.Holdings.{begunMask}
+use Rattle.holders.specs.Holders.{begunMask}
 use Rattle.parties.specs.Parties.{standingAtNodes}
 use Rattle.machine.specs.Holders.{width}
 use Rattle.machine.specs.State.{Desc, take, State, sessionOf}

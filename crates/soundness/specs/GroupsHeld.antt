@@ -32,7 +32,8 @@ use Rattle.machine.specs.Sound.{gap-word, stored-in, pins-in}
 use Rattle.machine.specs.Looks.{stored-range, stored-parts, stored-here}
 use Rattle.meaning.specs.Reading.{member-chain, desc-at, M-of, R-of, meaning}
 use Rattle.meaning.specs.Sound.{All, member-record}
-use Rattle.holdings.specs.Holdings.{begunMask, askedAt}
+use Rattle.holders.specs.Holders.{begunMask}
+use Rattle.passing.specs.Asked.{askedAt}
 use Rattle.soundness.specs.Marking.{all-as}
 use Rattle.soundness.specs.HoldersTests.{Within, in-mode, AgreeAt, HoldersFit}
 use Rattle.soundness.specs.HeldTests.{begun-held, Passed, locate-asked, NeedsGap, gap-asked, GroupHeld}

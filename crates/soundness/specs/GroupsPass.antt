@@ -21,8 +21,9 @@ use Rattle.marks.specs.Marks.{entryOk, membership-mark}
 use Rattle.marks.specs.Steps.{no as never}
 use Rattle.marks.specs.Trail.{Turn, turn, thenTurn, Trail, ends, thenTrail}
 use Rattle.lists.specs.Lists.{listEntry, unlistEntry, memberOne, Held, holding, memberTurn, membersFrom, undoOne, undoFrom, afterMembers, groupLists}
-use Rattle.holdings.specs.declared.Asked.{Asked}
-use Rattle.holdings.specs.Holdings.{askedAt, groupOk, keyOf, keyAt, descriptorOk, groupOne, groupsFrom, allGroups}
+use Rattle.passing.specs.declared.Asked.{Asked}
+use Rattle.passing.specs.Asked.{askedAt}
+use Rattle.holdings.specs.Holdings.{groupOk, keyOf, keyAt, descriptorOk, groupOne, groupsFrom, allGroups}
 use Rattle.soundness.specs.Marking.{mark-all, mark-length, mark-append, Fresh, fresh-none, fresh-left, fresh-right, fresh-append, Among, all-as, once-most}
 use Rattle.soundness.specs.Chains.{along-same, Turns, chained-found, chained-walks}
 use Rattle.soundness.specs.HoldersTests.{and-both}

@@ -22,8 +22,10 @@ use Rattle.machine.specs.State.{Entry, State, no-entry, idle, entryOf, sessionO
 use Rattle.machine.specs.Steps.{rule}
 use Rattle.machine.specs.View.{holders}
 use Rattle.meaning.specs.Reading.{entries-of, sessions-of, M-of, R-of, meaning}
-use Rattle.holdings.specs.declared.Asked.{Asked}
-use Rattle.holdings.specs.Holdings.{within, holdersOk, withFrom, sessionsWith, isBegun, begunMask, entriesFrom, hasPassed, needsGap, askedAt, groupOk}
+use Rattle.passing.specs.declared.Asked.{Asked}
+use Rattle.holders.specs.Holders.{within, holdersOk, withFrom, sessionsWith, isBegun, begunMask, entriesFrom}
+use Rattle.passing.specs.Asked.{hasPassed, needsGap, askedAt}
+use Rattle.holdings.specs.Holdings.{groupOk}
 use Rattle.soundness.specs.HoldersTests.{same-test, and-both, Within, within-is, few-less, in-mode, HoldersFit, holders-is}
 
 -- ---- the sessions of a table that have a property

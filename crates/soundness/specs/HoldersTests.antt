@@ -18,7 +18,7 @@ use Rattle.locks.specs.Holders.{word-bits, bitOf, holds, holders}
 use Rattle.locks.specs.Bits.{holds-none, holds-or}
 use Rattle.locks.specs.Blockers.{count-holders}
 use Rattle.machine.specs.Steps.{rule}
-use Rattle.holdings.specs.Holdings.{within, lone, alone, agree, holdersOk}
+use Rattle.holders.specs.Holders.{within, lone, alone, agree, holdersOk}
 
 -- ---- tests
 

@@ -15,7 +15,7 @@ use Rattle.sessions.specs.Sessions.{session-at, idle-session}
 use Rattle.marks.specs.Steps.{no as never}
 use Rattle.serial.specs.Locks.{Kind, Mode, strong}
 use Rattle.serial.specs.Locks as L
-use Rattle.holdings.specs.Holdings.{begunMask}
+use Rattle.holders.specs.Holders.{begunMask}
 use Rattle.machine.specs.Holders.{width, holds}
 use Rattle.machine.specs.State.{Desc, Stage, start, enter, at, change, take, Request, State, top, sessionOf}
 use Rattle.machine.specs.Steps.{pinned, rule}

@@ -12,7 +12,8 @@ use Rattle.sessions.specs.declared.Session.{Session}
 use Rattle.marks.specs.Trail.{Trail, Turn}
 use Rattle.parties.specs.Parties.{partiesOk, standingAtNodes, allUndos}
 use Rattle.tree_walk.specs.TreeWalk.{Tour, rootTour}
-use Rattle.holdings.specs.Holdings.{begunMask, entriesFrom, allGroups}
+use Rattle.holders.specs.Holders.{begunMask, entriesFrom}
+use Rattle.holdings.specs.Holdings.{allGroups}
 use Rattle.sound.specs.declared.Checked.{Checked}
 use Rattle.sound.specs.Sizes.{sizesOk}
 use Rattle.sound.specs.Sound.{isSound, firstFault, faultIn, afterTree, partiesThen, afterParties, undosThen, afterUndos, groupsThen, afterGroups, finishOf, ending, failed, freeFrom, lowestOk}

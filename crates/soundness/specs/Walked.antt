@@ -20,7 +20,8 @@ use Rattle.marks.specs.Trail.{Trail, ends}
 use Rattle.undo_chains.specs.UndoChains.{undoOk, kindOk, groupHeld}
 use Rattle.parties.specs.Parties.{standingAtNodes, allUndos}
 use Rattle.tree_walk.specs.TreeWalk.{Tour}
-use Rattle.holdings.specs.Holdings.{begunMask, entriesFrom, allGroups}
+use Rattle.holders.specs.Holders.{begunMask, entriesFrom}
+use Rattle.holdings.specs.Holdings.{allGroups}
 use Rattle.sound.specs.Sound.{lowestOk, freeFrom, freeTurn}
 use Rattle.machine.specs.Tree.{flat, leaves}
 use Rattle.machine.specs.Sound.{times}

@@ -5,9 +5,9 @@ use native.Mathlib.Omega.{arith}
 use lib.ListN.{length}
 use borrow.Author.Tests.{not-true, not-false}
 use borrow.Author.Needs.{needs}
-use Rattle.holdings.specs.Passed.{Knows}
+use Rattle.passing.specs.Passed.{Knows}
 use Rattle.holdings.specs.Holdings.{allGroups}
-use Rattle.holdings.proofs.Passing.{covers-at}
+use Rattle.passing.proofs.Passing.{covers-at}
 use Rattle.holdings.proofs.Turns.{Grouping, group-start, group-bad, group-more, group-end}
 use Rattle.holdings.proofs.walk_groups.Statement.{statement}
 use Rattle.holdings.proofs.walk_groups.Tie as tie

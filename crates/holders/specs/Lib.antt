@@ -1,0 +1,2 @@
+-- The specifications of the crate holders.
+pub mod Holders

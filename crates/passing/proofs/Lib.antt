@@ -1,0 +1,3 @@
+-- Lemmas of the proofs.
+pub mod Turns
+pub mod Passing

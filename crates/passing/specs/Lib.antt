@@ -1,0 +1,3 @@
+-- The specifications of the crate passing.
+pub mod Asked
+pub mod Passed
