@@ -6,14 +6,29 @@
 // entries above 32 read as 0.
 //
 // It promises that every function is safe and ends, on any words. That it does what document 01 says is tested and not proved. It rests on naive_tree
-// for its arrays, descriptors and tree.
-mod descent;
-mod party;
+// for its arrays, descriptors and tree, on naive_steps for the descent, the parties and the undo log.
 mod request;
-mod undo;
 
-use descent::enter;
-use descent::go_down;
+use naive_steps::descent::enter;
+use naive_steps::descent::go_down;
+use naive_steps::party::AT;
+use naive_steps::party::CHANGE;
+use naive_steps::party::ENTER;
+use naive_steps::party::LOCATE;
+use naive_steps::party::READ;
+use naive_steps::party::REMOVE;
+use naive_steps::party::START;
+use naive_steps::party::Said;
+use naive_steps::party::TAKE;
+use naive_steps::party::TIDY;
+use naive_steps::party::WRITE;
+use naive_steps::party::is_begun;
+use naive_steps::party::is_in_hand;
+use naive_steps::party::ok;
+use naive_steps::party::refusal;
+use naive_steps::undo::drop_records;
+use naive_steps::undo::leave;
+use naive_steps::undo::undo_all;
 use naive_tree::arrays::BEGUN;
 use naive_tree::arrays::CLEARED;
 use naive_tree::arrays::CODE;
@@ -56,34 +71,9 @@ use naive_tree::keys::rank;
 use naive_tree::tree::add_key;
 use naive_tree::tree::level;
 use naive_tree::tree::take_node;
-use party::AT;
-use party::CHANGE;
-use party::ENTER;
-use party::LOCATE;
-use party::READ;
-use party::REMOVE;
-use party::START;
-use party::TAKE;
-use party::TIDY;
-use party::WRITE;
-use party::is_begun;
-use party::is_in_hand;
-use party::ok;
-use party::refusal;
-use undo::drop_records;
-use undo::leave;
-use undo::undo_all;
 
 // The words that the model needs.
 pub const SIZE: usize = 68376;
-
-// What is told of a call. The word is 0 ok, 1 more, 2 wait, 3 done, 4 refused. Beside wait stands the set of all parties whose lock is in the way,
-// party p as bit p; beside done the answer and, of a tidy, 1 if it removed; beside refused its number and the one beside it.
-pub struct Said {
-    pub word: u32,
-    pub first: u32,
-    pub second: u32,
-}
 
 // How many records a store of so many words has, 0 where it has too few words.
 fn records_of(m: u32, length: u32) -> u32 {

@@ -1,5 +1,4 @@
 // Party: sessions and housekeeper, the stages of their requests, and what is told of a call.
-use super::Said;
 use naive_tree::arrays::BEGUN;
 use naive_tree::arrays::CODE;
 use naive_tree::arrays::FIRST;
@@ -39,6 +38,14 @@ pub const AT: u32 = 2;
 pub const CHANGE: u32 = 3;
 
 pub const TAKE: u32 = 4;
+
+// What is told of a call. The word is 0 ok, 1 more, 2 wait, 3 done, 4 refused. Beside wait stands the set of all parties whose lock is in the way,
+// party p as bit p; beside done the answer and, of a tidy, 1 if it removed; beside refused its number and the one beside it.
+pub struct Said {
+    pub word: u32,
+    pub first: u32,
+    pub second: u32,
+}
 
 pub fn say(word: u32, first: u32, second: u32) -> Said {
     Said {

@@ -1,8 +1,8 @@
--- `naive::party::latched_by_others` is safe and ends.
+-- `naive_steps::party::latched_by_others` is safe and ends.
 use borrow.Author.Needs.{needs}
 use Prim.Native.Nat.{_-_}
-use Rattle.naive.proofs.party.latched_by_others.Statement.{statement}
-use Rattle.naive.proofs.party.latched_by_others.Tie as tie
+use Rattle.naive_steps.proofs.party.latched_by_others.Statement.{statement}
+use Rattle.naive_steps.proofs.party.latched_by_others.Tie as tie
 
 abbrev Inv-loop : tie.InvT-loop
 Inv-loop a p n parties₀ q₀ parties q = Unit {0}

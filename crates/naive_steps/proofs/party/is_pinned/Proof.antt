@@ -1,8 +1,8 @@
--- `naive::party::is_pinned` is safe and ends.
+-- `naive_steps::party::is_pinned` is safe and ends.
 use borrow.Author.Needs.{needs}
 use Prim.Native.Nat.{_-_}
-use Rattle.naive.proofs.party.is_pinned.Statement.{statement}
-use Rattle.naive.proofs.party.is_pinned.Tie as tie
+use Rattle.naive_steps.proofs.party.is_pinned.Statement.{statement}
+use Rattle.naive_steps.proofs.party.is_pinned.Tie as tie
 
 abbrev Inv-loop : tie.InvT-loop
 Inv-loop a key q₀ q = Unit {0}

@@ -1,10 +1,10 @@
--- `naive::undo::undo_all` is safe and ends.
+-- `naive_steps::undo::undo_all` is safe and ends.
 use borrow.Author.Needs.{needs}
 use Prim.Native.Nat.{_-_}
 use lib.ListN.{length}
 use mathlib.Core.Path.{_≡_}
-use Rattle.naive.proofs.undo.undo_all.Statement.{statement}
-use Rattle.naive.proofs.undo.undo_all.Tie as tie
+use Rattle.naive_steps.proofs.undo.undo_all.Statement.{statement}
+use Rattle.naive_steps.proofs.undo.undo_all.Tie as tie
 
 abbrev Inv-loop : tie.InvT-loop
 Inv-loop a₀ p count i₀ a i = (length a ≡ length a₀)

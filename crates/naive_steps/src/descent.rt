@@ -1,9 +1,9 @@
 // Descent: the walk of a party from the root to the lowest node of its key, a step a level.
-use super::Said;
 use super::party::AT;
 use super::party::CHANGE;
 use super::party::ENTER;
 use super::party::LOCATE;
+use super::party::Said;
 use super::party::TAKE;
 use super::party::done;
 use super::party::fail;

@@ -1,10 +1,10 @@
--- `naive::undo::drop_records` is safe and ends.
+-- `naive_steps::undo::drop_records` is safe and ends.
 use borrow.Author.Needs.{needs}
 use Prim.Native.Nat.{_-_}
 use lib.ListN.{length}
 use mathlib.Core.Path.{_≡_}
-use Rattle.naive.proofs.undo.drop_records.Statement.{statement}
-use Rattle.naive.proofs.undo.drop_records.Tie as tie
+use Rattle.naive_steps.proofs.undo.drop_records.Statement.{statement}
+use Rattle.naive_steps.proofs.undo.drop_records.Tie as tie
 
 abbrev Inv-loop : tie.InvT-loop
 Inv-loop a₀ p count n₀ i₀ a n i = (length a ≡ length a₀)
