@@ -35,7 +35,8 @@ use Rattle.sessions.specs.declared.Session.{Session}
 use Rattle.outcomes.specs.declared.Answer.{Answer}
 use Rattle.outcomes.specs.Said.{said}
 use Rattle.store.specs.Lent.{Effect, On17}
-use Rattle.store.proofs.Row.{R, AnswerR, answerVal, answer-tell, answer-make}
+use Rattle.tables.proofs.Row.{R}
+use Rattle.store.proofs.Answers.{AnswerR, answerVal, answer-tell, answer-make}
 use Rattle.store.proofs.Thin.{P, PlainLaws, thinS, thinE, thinC}
 use Rattle.entry_store.specs.Packed.{Packs}
 use Rattle.entry_store.proofs.pack as packs

@@ -38,7 +38,8 @@ use Rattle.sessions.specs.declared.Session.{Session}
 use Rattle.sessions.proofs.Session.Laws as S′
 use Rattle.outcomes.proofs.Answer.Laws as An′
 use Rattle.store.specs.Lent.{Effect}
-use Rattle.store.proofs.Row.{R, answer-typed}
+use Rattle.tables.proofs.Row.{R}
+use Rattle.store.proofs.Answers.{answer-typed}
 use Rattle.store.proofs.Plains.{Word, wordTy, wordLaws}
 use Rattle.entry_store.specs.Exported.{Told}
 use Rattle.entry_store.proofs.Callees.{Lent, calls-lent, Pack, calls-pack}

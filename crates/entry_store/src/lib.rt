@@ -3,7 +3,8 @@
 // A store and a list cross as a pointer and how many words, a session table as a pointer and how many records, each of 13 words in the order of the
 // fields. An answer crosses in one number, which loses nothing (specs/Packed). Each call promises what the store's call of its name promises, of the answer
 // whose packing it returns (specs/Exported); so any list of calls from C, with the answers read off the numbers, keeps demand 3 (specs/Turns). Nothing is
-// asked of the caller but what C's types leave to it. It rests on store for the calls, on locks for the count, on sound for the test.
+// asked of the caller but what C's types leave to it. It rests on store for the calls, on locks for the count, on tables and sound for
+// the test.
 ghost use mathlib.Core.Path.{_≡_};
 ghost use Prim.Native.Nat.{_<_};
 ghost use lib.ListN.{length};
@@ -153,6 +154,6 @@ pub extern "C" fn entry_store_fault(store: &[u32], table: &[Session]) -> u32
     if table.len() != PARTIES {
         return TABLE;
     }
-    let t = store::load_all(table);
+    let t = tables::load_all(table);
     fault_by_value(store, t)
 }

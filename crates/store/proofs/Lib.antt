@@ -1,6 +1,4 @@
-pub mod Again
+pub mod Answers
 pub mod Callees
-pub mod Mixed
 pub mod Plains
-pub mod Row
 pub mod Thin

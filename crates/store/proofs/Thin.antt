@@ -51,12 +51,14 @@ use Rattle.outcomes.specs.declared.Answer.the-variants.{Refused}
 use Rattle.sessions.proofs.Session.Laws as S′
 use Rattle.store.proofs.Seat.Laws as Sa′
 use Rattle.outcomes.proofs.Answer.Laws as An′
-use Rattle.store.proofs.Again.{given-up}
-use Rattle.store.proofs.Callees.{Wrong, Load, Store, calls-wrong, calls-load, calls-store}
-use Rattle.store.proofs.Row.{R, R17, valsOf17, make17, typed, typed17, AnswerR, answerVal, answer-make, answer-typed, SeatR, seat-tell, seat-typed, seat-party, seat-session, seat-answer, homes}
+use Rattle.tables.proofs.Again.{given-up}
+use Rattle.tables.proofs.Callees.{Load, Store, calls-load, calls-store}
+use Rattle.store.proofs.Callees.{Wrong, calls-wrong}
+use Rattle.tables.proofs.Row.{R, R17, valsOf17, make17, typed, typed17, homes}
+use Rattle.store.proofs.Answers.{AnswerR, answerVal, answer-make, answer-typed, SeatR, seat-tell, seat-typed, seat-party, seat-session, seat-answer}
 use Rattle.store.proofs.wrong_table.Symbol.{name as #store·wrong-table}
-use Rattle.store.proofs.load_all.Symbol.{name as #store·load-all}
-use Rattle.store.proofs.store_session.Symbol.{name as #store·store-session}
+use Rattle.tables.proofs.load_all.Symbol.{name as #tables·load-all}
+use Rattle.tables.proofs.store_session.Symbol.{name as #tables·store-session}
 
 -- the test `t.len() != 17`
 pub is-17 : (n : ℕ) → T (not (not (eqb n 17))) → n ≡ 17
@@ -91,14 +93,14 @@ module _ (D : Type 0) (τ : Ty) (wr : Written) (rs : List (Written × List Ty)) 
     rest =
         seq (assign (place 9 []) (addrOf (place 2 (field 0 ∷ deref S′.mir ∷ []))))
         (seq (assign (place 10 []) (aggregate (copy (place 9 []) ∷ copy (place 2 (field 1 ∷ [])) ∷ [])))
-        (seq (call #store·load-all (copy (place 10 []) ∷ []) (place 4 []))
+        (seq (call #tables·load-all (copy (place 10 []) ∷ []) (place 4 []))
         (seq (assign (place 11 []) (addrOf (place 1 (field 0 ∷ deref (tyInt w32) ∷ []))))
         (seq (assign (place 12 []) (aggregate (copy (place 11 []) ∷ copy (place 1 (field 1 ∷ [])) ∷ [])))
         (seq (call key (copy (place 12 []) ∷ copy (place 4 []) ∷ copy (place 3 []) ∷ []) (place 5 []))
         (seq (assign (place 6 []) (rvOpd (copy (place 5 (field 1 ∷ [])))))
         (seq (assign (place 14 []) (addrOf (place 2 (field 0 ∷ deref S′.mir ∷ []))))
         (seq (assign (place 15 []) (aggregate (copy (place 14 []) ∷ copy (place 2 (field 1 ∷ [])) ∷ [])))
-        (seq (call #store·store-session (copy (place 15 []) ∷ copy (place 5 (field 0 ∷ [])) ∷ copy (place 6 []) ∷ []) (place 13 []))
+        (seq (call #tables·store-session (copy (place 15 []) ∷ copy (place 5 (field 0 ∷ [])) ∷ copy (place 6 []) ∷ []) (place 13 []))
         (seq (assign (place 0 []) (rvOpd (copy (place 5 (field 2 ∷ []))))) return))))))))))
 
     abbrev pub function : Fn
@@ -177,8 +179,8 @@ module _ (D : Type 0) (τ : Ty) (wr : Written) (rs : List (Written × List Ty)) 
           qed W (‵ (MutSlice (named 0) κ₀ u32 .own (store st) (at .0)) ∷ ‵ (flft κ₀ q₀) ∷ []) ∵ nothing ! $ owned ! P (Is P) (L .make 𝓤 H A W) k _ gk $ fjoin ! $ owned ! R17 (Is R17) (make17 𝓤 H A W) ys _ g $ fjoin ! $ move ! (1 ∷ 0 ∷ []) $ fjoin ! $
           nothing ! $ move ! (2 ∷ 0 ∷ []) $ join ! $ join ! $ frame ! $ done !
 
-      module _ (C : Calls 𝓤 H) (Λ : Loops 𝓤 H) (fm : FmC 𝓤 H (W .laws) C) (known-wrong : Triple 𝓤 (C #store·wrong-table) (Wrong 𝓤 H A mem run)) (known-load : Triple 𝓤 (C #store·load-all) (Load 𝓤 H A mem run))
-          (known : Triple 𝓤 (C key) (Core 𝓤 H A)) (known-store : Triple 𝓤 (C #store·store-session) (Store 𝓤 H A mem run)) where
+      module _ (C : Calls 𝓤 H) (Λ : Loops 𝓤 H) (fm : FmC 𝓤 H (W .laws) C) (known-wrong : Triple 𝓤 (C #store·wrong-table) (Wrong 𝓤 H A mem run)) (known-load : Triple 𝓤 (C #tables·load-all) (Load 𝓤 H A mem run))
+          (known : Triple 𝓤 (C key) (Core 𝓤 H A)) (known-store : Triple 𝓤 (C #tables·store-session) (Store 𝓤 H A mem run)) where
         walk : ent 𝓤 (onEntry 𝓤 H A thinS (κ₀, (κ₁, tt)) (q₀, (q₁, tt)) x at) (WpFn 𝓤 H C Λ function (sliceVal (b₀, o₀) (length st) ∷ sliceVal (b, o) (length ys) ∷ L .val k ∷ []) Post)
         walk =
             qed W ((‵ (flft κ₀ q₀) ⊛ ‵ (flft κ₁ q₁) ⊛ ‵ ftrue) ∷ ‵ (owns (MutSlice (named 0) κ₀ u32 ∷ MutSlice (named 1) κ₁ R ∷ P ∷ []) x at) ∷ []) ∵
@@ -231,7 +233,7 @@ module _ (D : Type 0) (τ : Ty) (wr : Written) (rs : List (Written × List Ty)) 
             move ! (3 ∷ 2 ∷ 0 ∷ 1 ∷ []) $ by ! (exits (r .answer) (zs .0) (seated ys r) e₀ (length-set ys (r .party) (r .session)) (seat-answer r w is) (λ _. e, λ n. absurd (n l17)))))))))))))))))))))))))))
 
     module _ {M : Type 1} (𝓤 : URA M) (H : Heap 𝓤) (A : Atoms 𝓤) (W : Given 𝓤 H A) (mem : Memory → SProp 𝓤) (run : Routine → Fun 𝓤) (𝓣 : Tables 𝓤 H)
-        (known-wrong : Triple 𝓤 (𝓣 .C #store·wrong-table) (Wrong 𝓤 H A mem run)) (known-load : Triple 𝓤 (𝓣 .C #store·load-all) (Load 𝓤 H A mem run)) (known : Triple 𝓤 (𝓣 .C key) (Core 𝓤 H A)) (known-store : Triple 𝓤 (𝓣 .C #store·store-session) (Store 𝓤 H A mem run)) where
+        (known-wrong : Triple 𝓤 (𝓣 .C #store·wrong-table) (Wrong 𝓤 H A mem run)) (known-load : Triple 𝓤 (𝓣 .C #tables·load-all) (Load 𝓤 H A mem run)) (known : Triple 𝓤 (𝓣 .C key) (Core 𝓤 H A)) (known-store : Triple 𝓤 (𝓣 .C #tables·store-session) (Store 𝓤 H A mem run)) where
       thin-walks : Walks 𝓤 H A thinE stayed (WpFn 𝓤 H (𝓣 .C) (𝓣 .Λ) function) (thinC 𝓤)
       thin-walks = walked 𝓤 H A thinE stayed (thinC 𝓤) (WpFn 𝓤 H (𝓣 .C) (𝓣 .Λ) function) (λ κs. (slice-vals, (slice-vals, (λ a. L .val a ∷ [], tt)))) (λ κs. (mut-slice-tells (named 0) (κs .0) u32, (mut-slice-tells (named 1) (κs .1 .0) R, (L .tell, tt))))
           (λ κs qs bounds a g are. via 𝓤 _ (fst∗ 𝓤 _ (emp 𝓤))

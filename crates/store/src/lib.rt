@@ -3,12 +3,10 @@
 // Each refuses a table that is not of 17 records (refusal 1), and then changes nothing. Else it loads the records, as the test of soundness reads them all,
 // and makes the call on them by value. Of the table that the call gives back begin, put, step, commit and abort store ONE record, their party's: the call
 // leaves the others as they were (specs/OneRecord). Format clears the table and stores all 17. Each promises what the call by value promises, over words,
-// table and list at entry and at exit (specs/Lent). Nothing is asked of the caller. It rests on calls for the calls by value, on refusals for a party's
-// record, on endings for an idle one.
+// table and list at entry and at exit (specs/Lent). Nothing is asked of the caller. It rests on tables for the lent table, on calls for the calls by
+// value, on refusals for a party's record.
 ghost use mathlib.Core.Path.{_≡_};
-ghost use Prim.Native.Nat.{_<_};
-ghost use lib.ListN.{length, set, replicate};
-ghost use Rattle.sessions.specs.Sessions.{idle-session, session-at, parties};
+ghost use Rattle.sessions.specs.Sessions.{session-at};
 ghost use Rattle.store.specs.Lent.{Formatted, Begun, Put, Stepped, Committed, Aborted, On17, Stepped17};
 ghost use Rattle.store.specs.OneRecord.{seated};
 use calls::Served;
@@ -32,75 +30,12 @@ struct Seat {
     answer: Answer,
 }
 
-// ---- the table by value
-
-fn no_table() -> [Session; PARTIES]
-    ensures { λ r. ⌜ r ≡ replicate parties idle-session ⌝ }
-{
-    let x = endings::fresh_session();
-    [x; PARTIES]
-}
-
-fn pick(t: [Session; PARTIES], i: usize) -> Session
-    requires { ⌜ i < parties ⌝ }
-    ensures { λ r. ⌜ r ≡ session-at t i ⌝ }
-{
-    t[i]
-}
-
-fn put_at(t: [Session; PARTIES], i: usize, x: Session) -> [Session; PARTIES]
-    requires { ⌜ i < parties ⌝ }
-    ensures { λ r. ⌜ r ≡ set t i x ⌝ }
-{
-    let mut after = t;
-    after[i] = x;
-    after
-}
-
 // ---- the lent table
 
 fn wrong_table() -> Answer
     ensures { λ r. ⌜ r ≡ Answer.Refused 1 0 ⌝ }
 {
     Answer::Refused(1, 0)
-}
-
-// The 17 records of a lent table, by value.
-pub fn load_all(table: &[Session]) -> [Session; PARTIES]
-    requires { ⌜ length (now table) ≡ parties ⌝ }
-    ensures { λ r. ⌜ r ≡ now (table .entry) ⌝ }
-{
-    let mut t = no_table();
-    let mut i: usize = 0;
-    while i < PARTIES {
-        t = put_at(t, i, table[i]);
-        i += 1;
-    }
-    t
-}
-
-// The 17 records go into a lent table.
-fn save_all(table: &mut [Session], t: [Session; PARTIES])
-    requires { ⌜ length (now table) ≡ parties ⌝ }
-    ensures { λ _. ⌜ now (table .exit) ≡ t ⌝ }
-{
-    let mut i: usize = 0;
-    while i < PARTIES {
-        table[i] = pick(t, i);
-        i += 1;
-    }
-}
-
-// One record goes into a lent table: party p's. A number that is no party's stores nothing.
-fn store_session(table: &mut [Session], p: u32, x: Session)
-    requires { ⌜ length (now table) ≡ parties ⌝ }
-    ensures { λ _. ⌜ now (table .exit) ≡ set (now (table .entry)) p x ⌝ }
-{
-    let at = p as usize;
-    if PARTIES <= at {
-        return;
-    }
-    table[at] = x;
 }
 
 // ---- the calls by value, of whose table only the record of the call's party is kept
@@ -163,10 +98,10 @@ pub fn format(store: &mut [u32], table: &mut [Session], m: u32) -> Answer
     if table.len() != PARTIES {
         return wrong_table();
     }
-    let t = load_all(table);
+    let t = tables::load_all(table);
     let served = calls::format(store, t, m);
     let after = served.table;
-    save_all(table, after);
+    tables::save_all(table, after);
     served.answer
 }
 
@@ -177,10 +112,10 @@ pub fn begin(store: &mut [u32], table: &mut [Session], p: u32) -> Answer
     if table.len() != PARTIES {
         return wrong_table();
     }
-    let t = load_all(table);
+    let t = tables::load_all(table);
     let seat = begin_by_value(store, t, p);
     let x = seat.session;
-    store_session(table, seat.party, x);
+    tables::store_session(table, seat.party, x);
     seat.answer
 }
 
@@ -191,10 +126,10 @@ pub fn put(store: &mut [u32], table: &mut [Session], k: Ask) -> Answer
     if table.len() != PARTIES {
         return wrong_table();
     }
-    let t = load_all(table);
+    let t = tables::load_all(table);
     let seat = put_by_value(store, t, k);
     let x = seat.session;
-    store_session(table, seat.party, x);
+    tables::store_session(table, seat.party, x);
     seat.answer
 }
 
@@ -205,10 +140,10 @@ pub fn step(store: &mut [u32], table: &mut [Session], list: &mut [u32], p: u32) 
     if table.len() != PARTIES {
         return wrong_table();
     }
-    let t = load_all(table);
+    let t = tables::load_all(table);
     let seat = step_by_value(store, list, t, p);
     let x = seat.session;
-    store_session(table, seat.party, x);
+    tables::store_session(table, seat.party, x);
     seat.answer
 }
 
@@ -219,10 +154,10 @@ pub fn commit(store: &mut [u32], table: &mut [Session], p: u32) -> Answer
     if table.len() != PARTIES {
         return wrong_table();
     }
-    let t = load_all(table);
+    let t = tables::load_all(table);
     let seat = commit_by_value(store, t, p);
     let x = seat.session;
-    store_session(table, seat.party, x);
+    tables::store_session(table, seat.party, x);
     seat.answer
 }
 
@@ -233,9 +168,9 @@ pub fn abort(store: &mut [u32], table: &mut [Session], p: u32) -> Answer
     if table.len() != PARTIES {
         return wrong_table();
     }
-    let t = load_all(table);
+    let t = tables::load_all(table);
     let seat = abort_by_value(store, t, p);
     let x = seat.session;
-    store_session(table, seat.party, x);
+    tables::store_session(table, seat.party, x);
     seat.answer
 }

@@ -3,12 +3,12 @@
 // The store has 16 entries and 700 records, the lent list 1,024 words. Crate tracing says what a script is.
 use libc::STDIN_FILENO;
 use libc::STDOUT_FILENO;
+use scripts::text::TEXT;
+use scripts::text::Text;
+use scripts::text::within;
 use tracing::LIST;
 use tracing::STORE;
 use tracing::Script;
-use tracing::text::TEXT;
-use tracing::text::Text;
-use tracing::text::within;
 
 // A script after some input, and whether there was any.
 struct Part {

@@ -3,18 +3,18 @@
 // A line is a letter and numbers in base ten: b begin, r w i d l t the six requests in the order of their codes, s one step, g steps until the answer is
 // not more, c commit, a abort; then the party and the arguments that its code uses, in the order entry, first, second. A blank line is counted and tells
 // nothing; any other line that is not of this form is told as malformed and makes no call. What is promised here is that every function is safe and
-// ends; what a call does is promised by `calls`. It rests on `calls`, on `endings` for the table at the start and on `io` for digits.
-pub mod lines;
+// ends; what a call does is promised by `calls`. It rests on `calls`, on `endings` for the table at the start, on `scripts` for the text of a line and of an answer.
 pub mod play;
-pub mod text;
 
 use endings::fresh_session;
-use lines::Line;
 use play::served;
+use scripts::lines::Line;
+use scripts::lines::is_command;
+use scripts::text::Text;
+use scripts::text::malformed;
+use scripts::text::told;
 use sessions::PARTIES;
 use sessions::Session;
-use text::Text;
-use text::told;
 
 // Words of the store: 16, 3 for each of 16 entries, 20 for each of 700 records.
 pub const STORE: usize = 14064;
@@ -98,10 +98,10 @@ fn line_end(store: &mut [u32], list: &mut [u32], x: Script, out: &mut Text) -> R
     if line.words == 0 {
         return after(table, number, 0);
     }
-    if lines::is_command(line) {
+    if is_command(line) {
         return command(store, list, table, line, number, out);
     }
-    let length = text::malformed(out, number);
+    let length = malformed(out, number);
     after(table, number, length)
 }
 

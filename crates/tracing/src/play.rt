@@ -1,9 +1,9 @@
 // Play: the calls that a command makes.
-use crate::lines::Line;
-use crate::lines::NUMBERS;
-use crate::lines::code_of;
 use calls::Served;
 use outcomes::Answer;
+use scripts::lines::Line;
+use scripts::lines::NUMBERS;
+use scripts::lines::code_of;
 use sessions::PARTIES;
 use sessions::Session;
 

@@ -1,18 +1,16 @@
 // Vectors: plays scripts whose text is known, and compares.
 //
 // The arguments name files two by two: a script, and the text that it must give. Each script has a store of its own, as in crate trace.
-mod texts;
-
 ghost use Rattle.io.specs.Counts.{Counts};
 use libc::STDOUT_FILENO;
-use texts::Place;
-use texts::is_whole;
-use texts::met;
+use scripts::text::TEXT;
+use scripts::text::Text;
+use scripts::texts::Place;
+use scripts::texts::is_whole;
+use scripts::texts::met;
 use tracing::LIST;
 use tracing::STORE;
 use tracing::Script;
-use tracing::text::TEXT;
-use tracing::text::Text;
 
 // A script so far, and how much of the wanted text it has told.
 struct Stand {

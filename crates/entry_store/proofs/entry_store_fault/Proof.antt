@@ -39,12 +39,12 @@ use denote.Exit.{yes}
 use Rattle.sessions.specs.declared.Session.{Session}
 use Rattle.sessions.proofs.Session.Laws as S′
 use Rattle.sound.specs.Sound.{firstFault}
-use Rattle.store.proofs.Row.{R, R17, valOf17, valsOf17, tell17, make17, typed17-at, spelled17, homes}
+use Rattle.tables.proofs.Row.{R, R17, valOf17, valsOf17, tell17, make17, typed17-at, spelled17, homes}
 use Rattle.store.proofs.Thin.{is-17}
-use Rattle.store.proofs.load_all as loads
-use Rattle.store.proofs.load_all.Symbol as load-def
-use Rattle.store.proofs.load_all.Symbol.{name as #store·load-all}
-use Rattle.store.proofs.load_all.Met as load-thm
+use Rattle.tables.proofs.load_all as loads
+use Rattle.tables.proofs.load_all.Symbol as load-def
+use Rattle.tables.proofs.load_all.Symbol.{name as #tables·load-all}
+use Rattle.tables.proofs.load_all.Met as load-thm
 use Rattle.entry_store.specs.Exported.{fault-of}
 use Rattle.entry_store.proofs.fault_by_value as tests
 use Rattle.entry_store.proofs.fault_by_value.Symbol as test-def
@@ -114,7 +114,7 @@ module _ {M : Type 1} (𝓤 : URA M) (H : Heap 𝓤) (A : Atoms 𝓤) (W : Given
       qed W (‵ (flft κ₀ q₀) ∷ ‵ (ShrSlice (named 0) κ₀ u32 .own (x .0) (at .0)) ∷ []) ∵ nothing ! $ owned ! R17 (Is R17) (make17 𝓤 H A W) ys _ g $ fjoin ! $ move ! (2 ∷ 0 ∷ []) $ fjoin ! $
       nothing ! $ move ! (2 ∷ 0 ∷ []) $ join ! $ join ! $ frame ! $ done !
 
-  module _ (C : Calls 𝓤 H) (Λ : Loops 𝓤 H) (fm : FmC 𝓤 H (W .laws) C) (known-load : Triple 𝓤 (C #store·load-all) (Load 𝓤 H A mem run)) (known-test : Triple 𝓤 (C #entry_store·fault-by-value) (Test 𝓤 H A mem run)) where
+  module _ (C : Calls 𝓤 H) (Λ : Loops 𝓤 H) (fm : FmC 𝓤 H (W .laws) C) (known-load : Triple 𝓤 (C #tables·load-all) (Load 𝓤 H A mem run)) (known-test : Triple 𝓤 (C #entry_store·fault-by-value) (Test 𝓤 H A mem run)) where
     walk : ent 𝓤 (onEntry 𝓤 H A fn.signature (κ₀, (κ₁, tt)) (q₀, (q₁, tt)) x at) (WpFn 𝓤 H C Λ code.function passed Post)
     walk =
         qed W ((‵ (flft κ₀ q₀) ⊛ ‵ (flft κ₁ q₁) ⊛ ‵ ftrue) ∷ ‵ (owns (ShrSlice (named 0) κ₀ u32 ∷ ShrSlice (named 1) κ₁ R ∷ []) x at) ∷ []) ∵
@@ -155,7 +155,7 @@ module _ {M : Type 1} (𝓤 : URA M) (H : Heap 𝓤) (A : Atoms 𝓤) (W : Given
         by ! (exits n (subst (Is u32 n) (uint-tells w32 n _ iv) iv) (en ∙ a-table (eqb (length ys) 17) (firstFault st ys .fault) h)))))))))))))))))
 
 module _ {M : Type 1} (𝓤 : URA M) (H : Heap 𝓤) (A : Atoms 𝓤) (W : Given 𝓤 H A) (mem : Memory → SProp 𝓤) (run : Routine → Fun 𝓤) (𝓣 : Tables 𝓤 H)
-    (known-load : Triple 𝓤 (𝓣 .C #store·load-all) (Load 𝓤 H A mem run)) (known-test : Triple 𝓤 (𝓣 .C #entry_store·fault-by-value) (Test 𝓤 H A mem run)) where
+    (known-load : Triple 𝓤 (𝓣 .C #tables·load-all) (Load 𝓤 H A mem run)) (known-test : Triple 𝓤 (𝓣 .C #entry_store·fault-by-value) (Test 𝓤 H A mem run)) where
   walks : Walks 𝓤 H A fn.ended stayed (WpFn 𝓤 H (𝓣 .C) (𝓣 .Λ) code.function) (fn.clauses 𝓤 H A mem run)
   walks = walked 𝓤 H A fn.ended stayed (fn.clauses 𝓤 H A mem run) (WpFn 𝓤 H (𝓣 .C) (𝓣 .Λ) code.function) (λ κs. (slice-vals, (slice-vals, tt))) (λ κs. (shr-slice-tells (named 0) (κs .0) u32, (shr-slice-tells (named 1) (κs .1 .0) R, tt)))
       (λ κs qs bounds a g are. via 𝓤 _ (fst∗ 𝓤 _ (emp 𝓤))
@@ -172,5 +172,5 @@ entry-store-fault-spec 𝓤 H 𝓜 𝓖 𝓡 =
     entered 𝓤 H (tripleOf 𝓤 H (𝓖 .A) fn.signature (fn.spec 𝓤 H (𝓖 .A) (𝓜 .mem) (𝓡 .run)))
     (tables 𝓤 H 𝓜 𝓡 code.env .C) (tables 𝓤 H 𝓜 𝓡 code.env .Λ) key code.function (code.unfolded 𝓤 H 𝓜 𝓡)
     (meets 𝓤 H (𝓖 .A) (givenOf 𝓤 H 𝓜 𝓖) (𝓜 .mem) (𝓡 .run) (tablesOf 𝓤 H 𝓜 (tables 𝓤 H 𝓜 𝓡 code.env))
-    (cited 𝓤 H (Load 𝓤 H (𝓖 .A) (𝓜 .mem) (𝓡 .run)) 𝓜 𝓡 code.env #store·load-all load-def.routine code.calls-store·load-all (load-thm.met 𝓤 H 𝓜 𝓖 𝓡))
+    (cited 𝓤 H (Load 𝓤 H (𝓖 .A) (𝓜 .mem) (𝓡 .run)) 𝓜 𝓡 code.env #tables·load-all load-def.routine code.calls-tables·load-all (load-thm.met 𝓤 H 𝓜 𝓖 𝓡))
     (cited 𝓤 H (Test 𝓤 H (𝓖 .A) (𝓜 .mem) (𝓡 .run)) 𝓜 𝓡 code.env #entry_store·fault-by-value test-def.routine code.calls-entry-store·fault-by-value (test-thm.met 𝓤 H 𝓜 𝓖 𝓡)))

@@ -37,7 +37,8 @@ use Rattle.store.specs.declared.Ask.{Ask}
 use Rattle.store.specs.Lent.{Put}
 use Rattle.store.proofs.Ask as Ak
 use Rattle.store.proofs.Ask.Laws as Ak′
-use Rattle.store.proofs.Row.{R, answer-typed}
+use Rattle.tables.proofs.Row.{R}
+use Rattle.store.proofs.Answers.{answer-typed}
 use Rattle.store.proofs.Plains.{AskR, askTy, askLaws}
 use Rattle.store.proofs.put.Symbol as call-def
 use Rattle.store.proofs.put.Symbol.{name as #store·put}

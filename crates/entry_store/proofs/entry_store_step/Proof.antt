@@ -38,7 +38,8 @@ use Rattle.sessions.specs.declared.Session.{Session}
 use Rattle.outcomes.specs.declared.Answer.{Answer}
 use Rattle.outcomes.proofs.Answer.Laws as An′
 use Rattle.store.specs.Lent.{Stepped17}
-use Rattle.store.proofs.Row.{R, AnswerR, answer-tell, answer-typed}
+use Rattle.tables.proofs.Row.{R}
+use Rattle.store.proofs.Answers.{AnswerR, answer-tell, answer-typed}
 use Rattle.store.proofs.step as callee
 use Rattle.store.proofs.step.Symbol as call-def
 use Rattle.store.proofs.step.Symbol.{name as #store·step}

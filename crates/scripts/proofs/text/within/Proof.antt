@@ -1,4 +1,4 @@
--- `tracing::text::within` counts bytes at the start of the text.
+-- `scripts::text::within` counts bytes at the start of the text.
 use Prim.Native.Nat.{ℕ, _≤_}
 use mathlib.Core.Path.{sym}
 use mathlib.Core.List.{List}
@@ -6,8 +6,8 @@ use native.Mathlib.Omega.{arith}
 use lib.ListN.{length}
 use lib.Seq.{length-take-le}
 use Rattle.io.specs.Counts.{Counts}
-use Rattle.tracing.proofs.text.within.Statement.{statement}
-use Rattle.tracing.proofs.text.within.Tie as tie
+use Rattle.scripts.proofs.text.within.Statement.{statement}
+use Rattle.scripts.proofs.text.within.Tie as tie
 
 counts : (n : ℕ) (xs : List ℕ) → n ≤ length xs → Counts n xs
 counts n xs h = (h, sym (length-take-le n xs h))

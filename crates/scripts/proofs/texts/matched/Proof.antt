@@ -1,9 +1,9 @@
--- `vectors::texts::matched` is safe and ends.
+-- `scripts::texts::matched` is safe and ends.
 use borrow.Author.Needs.{needs}
 use lib.ListN.{length}
 use Prim.Native.Nat.{_-_}
-use Rattle.vectors.proofs.texts.matched.Statement.{statement}
-use Rattle.vectors.proofs.texts.matched.Tie as tie
+use Rattle.scripts.proofs.texts.matched.Statement.{statement}
+use Rattle.scripts.proofs.texts.matched.Tie as tie
 
 abbrev Inv-loop : tie.InvT-loop
 Inv-loop told wanted at₀ is-same₀ i₀ at is-same i = Unit {0}

@@ -1,9 +1,9 @@
--- `tracing::text::push_all` is safe and ends.
+-- `scripts::text::push_all` is safe and ends.
 use borrow.Author.Needs.{needs}
 use lib.ListN.{length}
 use Prim.Native.Nat.{_-_}
-use Rattle.tracing.proofs.text.push_all.Statement.{statement}
-use Rattle.tracing.proofs.text.push_all.Tie as tie
+use Rattle.scripts.proofs.text.push_all.Statement.{statement}
+use Rattle.scripts.proofs.text.push_all.Tie as tie
 
 abbrev Inv-loop : tie.InvT-loop
 Inv-loop out₀ from bytes at₀ i₀ out at i = Unit {0}

@@ -1,7 +1,7 @@
--- `tracing::text::push_pairs` is safe and ends.
+-- `scripts::text::push_pairs` is safe and ends.
 use borrow.Author.Needs.{needs}
-use Rattle.tracing.proofs.text.push_pairs.Statement.{statement}
-use Rattle.tracing.proofs.text.push_pairs.Tie as tie
+use Rattle.scripts.proofs.text.push_pairs.Statement.{statement}
+use Rattle.scripts.proofs.text.push_pairs.Tie as tie
 
 abbrev Inv-loop : tie.InvT-loop
 Inv-loop out₀ from list count at₀ i₀ left₀ out at i left = Unit {0}

@@ -1,4 +1,4 @@
--- `store::load_all` meets its contract: a walk of its MIR, by hand. The shared borrow is looked into once, before the loop, and shut once, after it.
+-- `tables::load_all` meets its contract: a walk of its MIR, by hand. The shared borrow is looked into once, before the loop, and shut once, after it.
 use mathlib.Core.Path.{_≡_, refl, sym, _∙_, ap, subst}
 use Prim.Native.Nat.{ℕ, zero, suc, _+_, _<_}
 use native.Mathlib.Nat.{lt-suc-self}
@@ -47,20 +47,20 @@ use denote.Exit.{yes}
 use Rattle.sessions.specs.Sessions.{idle-session, session-at}
 use Rattle.sessions.specs.declared.Session.{Session}
 use Rattle.sessions.proofs.Session.Laws as S′
-use Rattle.store.proofs.Mixed.{mixed, mixed-set, mixed-all}
-use Rattle.store.proofs.Row.{R, valsOf, tell, show, make, twice, typed, R17, valOf17, valsOf17, tell17, make17, typed17, typed17-at, spelled17, long17, index-fits, lies-at, homes, holds, fails}
-use Rattle.store.proofs.no_table as begun
-use Rattle.store.proofs.no_table.Symbol as begun-def
-use Rattle.store.proofs.no_table.Symbol.{name as #store·no-table}
-use Rattle.store.proofs.no_table.Met as begun-thm
-use Rattle.store.proofs.put_at as callee
-use Rattle.store.proofs.put_at.Symbol as callee-def
-use Rattle.store.proofs.put_at.Symbol.{name as #store·put-at}
-use Rattle.store.proofs.put_at.Met as callee-thm
-use Rattle.store.proofs.load_all.Key.{name as #store·load-all}
-use Rattle.store.proofs.load_all as fn
-use Rattle.store.proofs.load_all.Statement as stated
-use Rattle.store.proofs.load_all.Code as code
+use Rattle.tables.proofs.Mixed.{mixed, mixed-set, mixed-all}
+use Rattle.tables.proofs.Row.{R, valsOf, tell, show, make, twice, typed, R17, valOf17, valsOf17, tell17, make17, typed17, typed17-at, spelled17, long17, index-fits, lies-at, homes, holds, fails}
+use Rattle.tables.proofs.no_table as begun
+use Rattle.tables.proofs.no_table.Symbol as begun-def
+use Rattle.tables.proofs.no_table.Symbol.{name as #tables·no-table}
+use Rattle.tables.proofs.no_table.Met as begun-thm
+use Rattle.tables.proofs.put_at as callee
+use Rattle.tables.proofs.put_at.Symbol as callee-def
+use Rattle.tables.proofs.put_at.Symbol.{name as #tables·put-at}
+use Rattle.tables.proofs.put_at.Met as callee-thm
+use Rattle.tables.proofs.load_all.Key.{name as #tables·load-all}
+use Rattle.tables.proofs.load_all as fn
+use Rattle.tables.proofs.load_all.Statement as stated
+use Rattle.tables.proofs.load_all.Code as code
 
 abbrev stayed : Stays (fn.ended .signature .params) (fn.ended .kept)
 stayed = (stay-none-slice (0 ∷ []) tt (plain (λ _. R)) yes, tt)
@@ -103,7 +103,7 @@ module _ {M : Type 1} (𝓤 : URA M) (H : Heap 𝓤) (A : Atoms 𝓤) (W : Given
   goes-put : (xs : List Session) (i : ℕ) (s : Session) → Is R17 xs (valsOf17 xs) → i < 17 → Is R s (valsOf s) → ent 𝓤 (emp 𝓤) (PutAt 𝓤 H A mem run .pre (to-put xs i s))
   goes-put xs i s gx l gs = qed W [] ∵ says ! l $ nothing ! $ owned ! R (Is R) (make 𝓤 H A) s _ gs $ fjoin ! $ owned ! usize (Is usize) (uint-makes 𝓤 H A W w64) i _ (refl, omega (arith, l)) $ fjoin ! $ owned ! R17 (Is R17) (make17 𝓤 H A W) xs _ gx $ fjoin ! $ nothing ! $ join ! $ done !
 
-  module _ (𝓣 : Tables 𝓤 H) (known-put : Triple 𝓤 (𝓣 .C #store·put-at) (PutAt 𝓤 H A mem run)) (q′ : Share) (zs : List Session) (gz : Is R17 zs (valsOf17 zs)) (l₀ l₁ l₂ l₃ l₄ l₅ l₆ l₇ : ℕ) where
+  module _ (𝓣 : Tables 𝓤 H) (known-put : Triple 𝓤 (𝓣 .C #tables·put-at) (PutAt 𝓤 H A mem run)) (q′ : Share) (zs : List Session) (gz : Is R17 zs (valsOf17 zs)) (l₀ l₁ l₂ l₃ l₄ l₅ l₆ l₇ : ℕ) where
     abbrev En : Env 𝓤 H
     En = homes code.Mir.locals (l₀ ∷ l₁ ∷ l₂ ∷ l₃ ∷ l₄ ∷ l₅ ∷ l₆ ∷ l₇ ∷ [])
 
@@ -196,7 +196,7 @@ module _ {M : Type 1} (𝓤 : URA M) (H : Heap 𝓤) (A : Atoms 𝓤) (W : Given
         within : (i : ℕ) → i < 17 → i < length ys
         within i l = subst (λ n. i < n) (sym l17) l
 
-  walk : (𝓣 : Tables 𝓤 H) → Triple 𝓤 (𝓣 .C #store·no-table) (NoTable 𝓤 H A mem run) → Triple 𝓤 (𝓣 .C #store·put-at) (PutAt 𝓤 H A mem run)
+  walk : (𝓣 : Tables 𝓤 H) → Triple 𝓤 (𝓣 .C #tables·no-table) (NoTable 𝓤 H A mem run) → Triple 𝓤 (𝓣 .C #tables·put-at) (PutAt 𝓤 H A mem run)
       → ent 𝓤 (onEntry 𝓤 H A fn.signature (κ, tt) (q, tt) x at) (WpFn 𝓤 H (𝓣 .C) (𝓣 .Λ) code.function (sliceVal (b, o) (length ys) ∷ []) Post)
   walk 𝓣 known-begun known =
       qed W ((‵ (flft κ q) ⊛ ‵ ftrue) ∷ ‵ (owns (ShrSlice (named 0) κ R ∷ []) x at) ∷ []) ∵ enter ! (𝓣 .C) (𝓣 .Λ) code.function (sliceVal (b, o) (length ys) ∷ []) _ $
@@ -217,7 +217,7 @@ module _ {M : Type 1} (𝓤 : URA M) (H : Heap 𝓤) (A : Atoms 𝓤) (W : Given
       loops ! 𝓣 _<_ (Nat·lt-wfRel .wf) (Inv 𝓣 known q′ r (spelled17 r v is) l₀ l₁ l₂ l₃ l₄ l₅ l₆ l₇) (turn 𝓣 known q′ r (spelled17 r v is) l₀ l₁ l₂ l₃ l₄ l₅ l₆ l₇) 17))))))))))))
 
 module _ {M : Type 1} (𝓤 : URA M) (H : Heap 𝓤) (A : Atoms 𝓤) (W : Given 𝓤 H A) (mem : Memory → SProp 𝓤) (run : Routine → Fun 𝓤) (𝓣 : Tables 𝓤 H)
-    (known-begun : Triple 𝓤 (𝓣 .C #store·no-table) (NoTable 𝓤 H A mem run)) (known-put : Triple 𝓤 (𝓣 .C #store·put-at) (PutAt 𝓤 H A mem run)) where
+    (known-begun : Triple 𝓤 (𝓣 .C #tables·no-table) (NoTable 𝓤 H A mem run)) (known-put : Triple 𝓤 (𝓣 .C #tables·put-at) (PutAt 𝓤 H A mem run)) where
   walks : Walks 𝓤 H A fn.ended stayed (WpFn 𝓤 H (𝓣 .C) (𝓣 .Λ) code.function) (fn.clauses 𝓤 H A mem run)
   walks = walked 𝓤 H A fn.ended stayed (fn.clauses 𝓤 H A mem run) (WpFn 𝓤 H (𝓣 .C) (𝓣 .Λ) code.function) (λ κs. (slice-vals, tt)) (λ κs. (shr-slice-tells (named 0) (κs .0) R, tt))
       (λ κs qs bounds a g are. needs 𝓤 (length (a .0 .now) ≡ 17) _ (λ l17.
@@ -231,7 +231,7 @@ pub load-all-spec : {M : Type 1} → stated.statement M
 unfolding code.routine tablesOf
 load-all-spec 𝓤 H 𝓜 𝓖 𝓡 =
     entered 𝓤 H (tripleOf 𝓤 H (𝓖 .A) fn.signature (fn.spec 𝓤 H (𝓖 .A) (𝓜 .mem) (𝓡 .run)))
-    (tables 𝓤 H 𝓜 𝓡 code.env .C) (tables 𝓤 H 𝓜 𝓡 code.env .Λ) #store·load-all code.function (code.unfolded 𝓤 H 𝓜 𝓡)
+    (tables 𝓤 H 𝓜 𝓡 code.env .C) (tables 𝓤 H 𝓜 𝓡 code.env .Λ) #tables·load-all code.function (code.unfolded 𝓤 H 𝓜 𝓡)
     (meets 𝓤 H (𝓖 .A) (givenOf 𝓤 H 𝓜 𝓖) (𝓜 .mem) (𝓡 .run) (tablesOf 𝓤 H 𝓜 (tables 𝓤 H 𝓜 𝓡 code.env))
-    (cited 𝓤 H (NoTable 𝓤 H (𝓖 .A) (𝓜 .mem) (𝓡 .run)) 𝓜 𝓡 code.env #store·no-table begun-def.routine code.calls-store·no-table (begun-thm.met 𝓤 H 𝓜 𝓖 𝓡))
-    (cited 𝓤 H (PutAt 𝓤 H (𝓖 .A) (𝓜 .mem) (𝓡 .run)) 𝓜 𝓡 code.env #store·put-at callee-def.routine code.calls-store·put-at (callee-thm.met 𝓤 H 𝓜 𝓖 𝓡)))
+    (cited 𝓤 H (NoTable 𝓤 H (𝓖 .A) (𝓜 .mem) (𝓡 .run)) 𝓜 𝓡 code.env #tables·no-table begun-def.routine code.calls-tables·no-table (begun-thm.met 𝓤 H 𝓜 𝓖 𝓡))
+    (cited 𝓤 H (PutAt 𝓤 H (𝓖 .A) (𝓜 .mem) (𝓡 .run)) 𝓜 𝓡 code.env #tables·put-at callee-def.routine code.calls-tables·put-at (callee-thm.met 𝓤 H 𝓜 𝓖 𝓡)))

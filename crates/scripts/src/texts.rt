@@ -1,5 +1,5 @@
 // Texts: what was told held against what must be told, piece by piece.
-use tracing::text::within;
+use crate::text::within;
 
 // How much of the wanted text was met, and whether all that was told was it.
 pub struct Place {

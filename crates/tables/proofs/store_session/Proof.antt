@@ -1,4 +1,4 @@
--- `store::store_session` meets its contract: a walk of its MIR, by hand. The borrow is opened only where the number is a party's.
+-- `tables::store_session` meets its contract: a walk of its MIR, by hand. The borrow is opened only where the number is a party's.
 use mathlib.Core.Path.{_≡_, refl, sym, subst}
 use Prim.Native.Nat.{ℕ, _<_, _≤_, _^_}
 use native.Mathlib.Omega.{arith}
@@ -38,11 +38,11 @@ use denote.Triple.Walked.{says, needs, Stays, stay-slice, stay-none, walkOf, goe
 use denote.Exit.{yes}
 use Rattle.sessions.specs.Sessions.{idle-session}
 use Rattle.sessions.specs.declared.Session.{Session}
-use Rattle.store.proofs.Row.{R, valOf, valsOf, tell, show, make, typed, index-fits, lies-at, slice-in, homes}
-use Rattle.store.proofs.store_session.Key.{name as #store·store-session}
-use Rattle.store.proofs.store_session as fn
-use Rattle.store.proofs.store_session.Statement as stated
-use Rattle.store.proofs.store_session.Code as code
+use Rattle.tables.proofs.Row.{R, valOf, valsOf, tell, show, make, typed, index-fits, lies-at, slice-in, homes}
+use Rattle.tables.proofs.store_session.Key.{name as #tables·store-session}
+use Rattle.tables.proofs.store_session as fn
+use Rattle.tables.proofs.store_session.Statement as stated
+use Rattle.tables.proofs.store_session.Code as code
 
 abbrev stayed : Stays (fn.ended .signature .params) (fn.ended .kept)
 stayed = (stay-slice (0 ∷ []) tt (plain (λ _. R)), (stay-none (λ _. u32) yes, (stay-none (λ _. R) yes, tt)))
@@ -126,5 +126,5 @@ pub store-session-spec : {M : Type 1} → stated.statement M
 unfolding code.routine tablesOf
 store-session-spec 𝓤 H 𝓜 𝓖 𝓡 =
     entered 𝓤 H (tripleOf 𝓤 H (𝓖 .A) fn.signature (fn.spec 𝓤 H (𝓖 .A) (𝓜 .mem) (𝓡 .run)))
-    (tables 𝓤 H 𝓜 𝓡 code.env .C) (tables 𝓤 H 𝓜 𝓡 code.env .Λ) #store·store-session code.function (code.unfolded 𝓤 H 𝓜 𝓡)
+    (tables 𝓤 H 𝓜 𝓡 code.env .C) (tables 𝓤 H 𝓜 𝓡 code.env .Λ) #tables·store-session code.function (code.unfolded 𝓤 H 𝓜 𝓡)
     (meets 𝓤 H (𝓖 .A) (givenOf 𝓤 H 𝓜 𝓖) (𝓜 .mem) (𝓡 .run) (tablesOf 𝓤 H 𝓜 (tables 𝓤 H 𝓜 𝓡 code.env)))

@@ -1,4 +1,4 @@
--- `store::save_all` meets its contract: a walk of its MIR, by hand. The borrow is opened once, before the loop, and closed once, after it.
+-- `tables::save_all` meets its contract: a walk of its MIR, by hand. The borrow is opened once, before the loop, and closed once, after it.
 use mathlib.Core.Path.{_≡_, refl, sym, _∙_, ap, subst}
 use Prim.Native.Nat.{ℕ, zero, suc, _+_, _*_, _<_}
 use native.Mathlib.Nat.{lt-suc-self}
@@ -46,16 +46,16 @@ use denote.Exit.{yes}
 use Rattle.sessions.specs.Sessions.{idle-session, session-at}
 use Rattle.sessions.specs.declared.Session.{Session}
 use Rattle.sessions.proofs.Session.Laws as S′
-use Rattle.store.proofs.Mixed.{mixed, mixed-long, mixed-set, mixed-all}
-use Rattle.store.proofs.Row.{R, valsOf, tell, show, make, typed, typed-at, spelled, R17, valOf17, valsOf17, tell17, make17, typed17, long17, index-fits, lies-at, slice-in, homes, holds, fails, recordSize}
-use Rattle.store.proofs.pick as callee
-use Rattle.store.proofs.pick.Symbol as callee-def
-use Rattle.store.proofs.pick.Symbol.{name as #store·pick}
-use Rattle.store.proofs.pick.Met as callee-thm
-use Rattle.store.proofs.save_all.Key.{name as #store·save-all}
-use Rattle.store.proofs.save_all as fn
-use Rattle.store.proofs.save_all.Statement as stated
-use Rattle.store.proofs.save_all.Code as code
+use Rattle.tables.proofs.Mixed.{mixed, mixed-long, mixed-set, mixed-all}
+use Rattle.tables.proofs.Row.{R, valsOf, tell, show, make, typed, typed-at, spelled, R17, valOf17, valsOf17, tell17, make17, typed17, long17, index-fits, lies-at, slice-in, homes, holds, fails, recordSize}
+use Rattle.tables.proofs.pick as callee
+use Rattle.tables.proofs.pick.Symbol as callee-def
+use Rattle.tables.proofs.pick.Symbol.{name as #tables·pick}
+use Rattle.tables.proofs.pick.Met as callee-thm
+use Rattle.tables.proofs.save_all.Key.{name as #tables·save-all}
+use Rattle.tables.proofs.save_all as fn
+use Rattle.tables.proofs.save_all.Statement as stated
+use Rattle.tables.proofs.save_all.Code as code
 
 abbrev stayed : Stays (fn.ended .signature .params) (fn.ended .kept)
 stayed = (stay-slice (0 ∷ []) tt (plain (λ _. R)), (stay-none (λ _. R17) yes, tt))
@@ -91,7 +91,7 @@ module _ {M : Type 1} (𝓤 : URA M) (H : Heap 𝓤) (A : Atoms 𝓤) (W : Given
   goes : (i : ℕ) → i < 17 → ent 𝓤 (emp 𝓤) (Pick 𝓤 H A mem run .pre (to-pick i))
   goes i l = qed W [] ∵ says ! l $ nothing ! $ owned ! usize (Is usize) (uint-makes 𝓤 H A W w64) i _ (refl, omega (arith, l)) $ fjoin ! $ owned ! R17 (Is R17) (make17 𝓤 H A W) xs _ gx $ fjoin ! $ nothing ! $ join ! $ done !
 
-  module _ (𝓣 : Tables 𝓤 H) (known : Triple 𝓤 (𝓣 .C #store·pick) (Pick 𝓤 H A mem run)) (l₀ l₁ l₂ l₃ l₄ l₅ l₆ l₇ : ℕ) where
+  module _ (𝓣 : Tables 𝓤 H) (known : Triple 𝓤 (𝓣 .C #tables·pick) (Pick 𝓤 H A mem run)) (l₀ l₁ l₂ l₃ l₄ l₅ l₆ l₇ : ℕ) where
     abbrev En : Env 𝓤 H
     En = homes code.Mir.locals (l₀ ∷ l₁ ∷ l₂ ∷ l₃ ∷ l₄ ∷ l₅ ∷ l₆ ∷ l₇ ∷ [])
 
@@ -176,7 +176,7 @@ module _ {M : Type 1} (𝓤 : URA M) (H : Heap 𝓤) (A : Atoms 𝓤) (W : Given
         fits : (i : ℕ) → i < 17 → Fits w64 (i * recordSize)
         fits i l = index-fits i (length ys) (subst (λ n. i < n) (sym l17) l) gn
 
-  walk : (𝓣 : Tables 𝓤 H) → Triple 𝓤 (𝓣 .C #store·pick) (Pick 𝓤 H A mem run) → ent 𝓤 (onEntry 𝓤 H A fn.signature (κ, tt) (q, tt) x at)
+  walk : (𝓣 : Tables 𝓤 H) → Triple 𝓤 (𝓣 .C #tables·pick) (Pick 𝓤 H A mem run) → ent 𝓤 (onEntry 𝓤 H A fn.signature (κ, tt) (q, tt) x at)
       (WpFn 𝓤 H (𝓣 .C) (𝓣 .Λ) code.function (sliceVal (b, o) (length ys) ∷ valOf17 xs ∷ []) Post)
   walk 𝓣 known =
       qed W ((‵ (flft κ q) ⊛ ‵ ftrue) ∷ ‵ (owns (MutSlice (named 0) κ R ∷ R17 ∷ []) x at) ∷ []) ∵ enter ! (𝓣 .C) (𝓣 .Λ) code.function (sliceVal (b, o) (length ys) ∷ valOf17 xs ∷ []) _ $
@@ -189,7 +189,7 @@ module _ {M : Type 1} (𝓤 : URA M) (H : Heap 𝓤) (A : Atoms 𝓤) (W : Given
       use2 W (some (Turned 𝓣 known l₀ l₁ l₂ l₃ l₄ l₅ l₆ l₇ 17)) (packs 𝓣 known l₀ l₁ l₂ l₃ l₄ l₅ l₆ l₇ 17 0 refl) $ first ! $ blocks ! $
       loops ! 𝓣 _<_ (Nat·lt-wfRel .wf) (Inv 𝓣 known l₀ l₁ l₂ l₃ l₄ l₅ l₆ l₇) (turn 𝓣 known l₀ l₁ l₂ l₃ l₄ l₅ l₆ l₇) 17))))))))
 
-module _ {M : Type 1} (𝓤 : URA M) (H : Heap 𝓤) (A : Atoms 𝓤) (W : Given 𝓤 H A) (mem : Memory → SProp 𝓤) (run : Routine → Fun 𝓤) (𝓣 : Tables 𝓤 H) (known : Triple 𝓤 (𝓣 .C #store·pick) (Pick 𝓤 H A mem run)) where
+module _ {M : Type 1} (𝓤 : URA M) (H : Heap 𝓤) (A : Atoms 𝓤) (W : Given 𝓤 H A) (mem : Memory → SProp 𝓤) (run : Routine → Fun 𝓤) (𝓣 : Tables 𝓤 H) (known : Triple 𝓤 (𝓣 .C #tables·pick) (Pick 𝓤 H A mem run)) where
   walks : Walks 𝓤 H A fn.ended stayed (WpFn 𝓤 H (𝓣 .C) (𝓣 .Λ) code.function) (fn.clauses 𝓤 H A mem run)
   walks = walked 𝓤 H A fn.ended stayed (fn.clauses 𝓤 H A mem run) (WpFn 𝓤 H (𝓣 .C) (𝓣 .Λ) code.function) (λ κs. (slice-vals, (valsOf17, tt))) (λ κs. (mut-slice-tells (named 0) (κs .0) R, (tell17, tt)))
       (λ κs qs bounds a g are. needs 𝓤 (length (a .0 .now) ≡ 17) _ (λ l17.
@@ -203,6 +203,6 @@ pub save-all-spec : {M : Type 1} → stated.statement M
 unfolding code.routine tablesOf
 save-all-spec 𝓤 H 𝓜 𝓖 𝓡 =
     entered 𝓤 H (tripleOf 𝓤 H (𝓖 .A) fn.signature (fn.spec 𝓤 H (𝓖 .A) (𝓜 .mem) (𝓡 .run)))
-    (tables 𝓤 H 𝓜 𝓡 code.env .C) (tables 𝓤 H 𝓜 𝓡 code.env .Λ) #store·save-all code.function (code.unfolded 𝓤 H 𝓜 𝓡)
+    (tables 𝓤 H 𝓜 𝓡 code.env .C) (tables 𝓤 H 𝓜 𝓡 code.env .Λ) #tables·save-all code.function (code.unfolded 𝓤 H 𝓜 𝓡)
     (meets 𝓤 H (𝓖 .A) (givenOf 𝓤 H 𝓜 𝓖) (𝓜 .mem) (𝓡 .run) (tablesOf 𝓤 H 𝓜 (tables 𝓤 H 𝓜 𝓡 code.env))
-    (cited 𝓤 H (Pick 𝓤 H (𝓖 .A) (𝓜 .mem) (𝓡 .run)) 𝓜 𝓡 code.env #store·pick callee-def.routine code.calls-store·pick (callee-thm.met 𝓤 H 𝓜 𝓖 𝓡)))
+    (cited 𝓤 H (Pick 𝓤 H (𝓖 .A) (𝓜 .mem) (𝓡 .run)) 𝓜 𝓡 code.env #tables·pick callee-def.routine code.calls-tables·pick (callee-thm.met 𝓤 H 𝓜 𝓖 𝓡)))

@@ -1,0 +1,4 @@
+pub mod Again
+pub mod Callees
+pub mod Mixed
+pub mod Row

@@ -1,0 +1,89 @@
+// Tables: a lent session table. Its 17 records are loaded by value, one is stored back, or all are.
+//
+// A lent table is a slice of session records, here of 17, which the caller has tested. What is loaded are the records as they stand; what is stored is what was passed, and no
+// other record changes. Each of the three is walked by hand, as a slice of structs is, and proofs/Callees has their calls as steps of a caller's walk. It rests on sessions alone.
+ghost use mathlib.Core.Path.{_≡_};
+ghost use Prim.Native.Nat.{_<_};
+ghost use lib.ListN.{length, set, replicate};
+ghost use Rattle.sessions.specs.Sessions.{idle-session, session-at, parties};
+use sessions::PARTIES;
+use sessions::Session;
+
+// ---- the table by value
+
+fn no_table() -> [Session; PARTIES]
+    ensures { λ r. ⌜ r ≡ replicate parties idle-session ⌝ }
+{
+    let x = Session {
+        begun: 0,
+        code: 0,
+        entry: 0,
+        first: 0,
+        second: 0,
+        stage: 0,
+        target: 0,
+        at: 0,
+        level: 0,
+        low: 0,
+        high: 0,
+        last: 0,
+        undo: 0,
+    };
+    [x; PARTIES]
+}
+
+fn pick(t: [Session; PARTIES], i: usize) -> Session
+    requires { ⌜ i < parties ⌝ }
+    ensures { λ r. ⌜ r ≡ session-at t i ⌝ }
+{
+    t[i]
+}
+
+fn put_at(t: [Session; PARTIES], i: usize, x: Session) -> [Session; PARTIES]
+    requires { ⌜ i < parties ⌝ }
+    ensures { λ r. ⌜ r ≡ set t i x ⌝ }
+{
+    let mut after = t;
+    after[i] = x;
+    after
+}
+
+// ---- the lent table
+
+// The 17 records of a lent table, by value.
+pub fn load_all(table: &[Session]) -> [Session; PARTIES]
+    requires { ⌜ length (now table) ≡ parties ⌝ }
+    ensures { λ r. ⌜ r ≡ now (table .entry) ⌝ }
+{
+    let mut t = no_table();
+    let mut i: usize = 0;
+    while i < PARTIES {
+        t = put_at(t, i, table[i]);
+        i += 1;
+    }
+    t
+}
+
+// The 17 records go into a lent table.
+pub fn save_all(table: &mut [Session], t: [Session; PARTIES])
+    requires { ⌜ length (now table) ≡ parties ⌝ }
+    ensures { λ _. ⌜ now (table .exit) ≡ t ⌝ }
+{
+    let mut i: usize = 0;
+    while i < PARTIES {
+        table[i] = pick(t, i);
+        i += 1;
+    }
+}
+
+// One record goes into a lent table: party p's. A number that is no party's stores nothing.
+pub fn store_session(table: &mut [Session], p: u32, x: Session)
+    requires { ⌜ length (now table) ≡ parties ⌝ }
+    ensures { λ _. ⌜ now (table .exit) ≡ set (now (table .entry)) p x ⌝ }
+{
+    let at = p as usize;
+    if PARTIES <= at {
+        return;
+    }
+    table[at] = x;
+}
