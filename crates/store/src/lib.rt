@@ -11,8 +11,8 @@ ghost use lib.ListN.{length, set, replicate};
 ghost use Rattle.sessions.specs.Sessions.{idle-session, session-at, parties};
 ghost use Rattle.store.specs.Lent.{Formatted, Begun, Put, Stepped, Committed, Aborted, On17, Stepped17};
 ghost use Rattle.store.specs.OneRecord.{seated};
-use calls::Served;
 use outcomes::Answer;
+use outcomes::Served;
 use sessions::PARTIES;
 use sessions::Session;
 

@@ -2,8 +2,8 @@
 use crate::lines::Line;
 use crate::lines::NUMBERS;
 use crate::lines::code_of;
-use calls::Served;
 use outcomes::Answer;
+use outcomes::Served;
 use sessions::PARTIES;
 use sessions::Session;
 

@@ -37,10 +37,10 @@ use denote.Triple.Walked.{says, Stays, gave-slice, stay-none, walkOf, goes-gave-
 use denote.Exit.{yes}
 use Rattle.store.specs.Lent.{Formatted, On17}
 use Rattle.sessions.specs.declared.Session.{Session}
-use Rattle.calls.specs.declared.Served.{Served}
+use Rattle.outcomes.specs.declared.Served.{Served}
 use Rattle.outcomes.specs.declared.Answer.{Answer}
 use Rattle.outcomes.specs.declared.Answer.the-variants.{Refused}
-use Rattle.calls.proofs.Served.Laws as Se′
+use Rattle.outcomes.proofs.Served.Laws as Se′
 use Rattle.store.proofs.Again.{given-up}
 use Rattle.store.proofs.Callees.{Wrong, Load, Save, calls-wrong, calls-load, calls-save}
 use Rattle.store.proofs.Thin.{is-17, not-17}
