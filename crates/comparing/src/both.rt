@@ -1,7 +1,7 @@
 // Both: a call made on the store, and on the model.
-use calls::Served;
 use naive::Said;
 use outcomes::Answer;
+use outcomes::Served;
 use schedules::words::STORE;
 use schedules::words::Side;
 use schedules::words::TABLE;

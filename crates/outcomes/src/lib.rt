@@ -1,7 +1,8 @@
-// Outcomes: what a call answers, and what a step leaves of its party's session record.
+// Outcomes: what a call answers, what a step leaves of its party's session record, and what a call leaves of the session table.
 //
 // specs/Said.antt sets out document 01's word and numbers for each case of an answer; every promise uses it. There is no code here. It rests on `serial`
-// for answers as they are told, on `sessions` for the record.
+// for answers as they are told, on `sessions` for the record and the table.
+use sessions::PARTIES;
 use sessions::Session;
 
 pub enum Answer {
@@ -20,4 +21,10 @@ pub enum Answer {
 pub struct Moved {
     pub answer: Answer,
     pub session: Session,
+}
+
+// What a call leaves of the table, and its answer.
+pub struct Served {
+    pub table: [Session; PARTIES],
+    pub answer: Answer,
 }

@@ -28,6 +28,7 @@ use Rattle.refusals.specs.Refusing.{first-of, begin-list, put-list, step-list, 
 use Rattle.refusals.specs.Coded.{format-refused}
 use Rattle.promises.specs.Relations.{outcome, stays, list-of, Answered, Calls, Formats}
 use Rattle.promises.specs.Assembling.{list-same}
+use Rattle.promises.specs.Ways.{is-refused}
 use Rattle.promises.specs.Steps.{hand-is, outcome-is, party}
 
 -- The checks of a call after 1 and 2, in document 01's order; each is read from the store's length, M and the table.
@@ -82,13 +83,6 @@ pub record Demand-1 (c : C.Call) (s : List ℕ) (t : List Session) (a : C.Answer
   pub ends : Sound s t → (n k : ℕ) → a ≡ C.refused n k → C.ends-request n ≡ true → Ends c (meaning s′ t′)
 
 -- ---- what is told
-
-abbrev is-refused : C.Answer → Bool
-is-refused C.ok = false
-is-refused C.more = false
-is-refused (C.wait p) = false
-is-refused (C.done ns) = false
-is-refused (C.refused n k) = true
 
 pub told-refused : (z : Answer) (n k : ℕ) → Tells z (C.refused n k) → z ≡ refused n k
 told-refused ok n k e = absurd (true≢false {b = true} refl (ap is-refused e))

@@ -166,15 +166,15 @@ format-sizes m r e =
     go false true c e = absurd (true≢false {b = true} refl e)
     go true b c e = absurd (true≢false {b = true} refl e)
 
+abbrev pub is-refused : C.Answer → Bool
+is-refused C.ok = false
+is-refused C.more = false
+is-refused (C.wait p) = false
+is-refused (C.done ns) = false
+is-refused (C.refused n k) = true
+
 not-ok : (n : ℕ) → C.refused n 0 ≡ C.ok → ⊥
-not-ok n e = true≢false {b = true} refl (ap (λ a. is-refused a) e)
-  where
-    is-refused : C.Answer → Bool
-    is-refused C.ok = false
-    is-refused C.more = false
-    is-refused (C.wait p) = false
-    is-refused (C.done ns) = false
-    is-refused (C.refused n k) = true
+not-ok n e = true≢false {b = true} refl (ap is-refused e)
 
 pub format-refuses : (s : List ℕ) (t : List Session) (m n : ℕ) → n ≡ first-of (format-checks m (length s)) → ¬ (n ≡ 0) → Formats m s t (C.refused n 0) s t
 unfolding call

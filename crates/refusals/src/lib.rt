@@ -1,12 +1,15 @@
 // Refusals: the number that each call is refused with, 0 if it is accepted, as the session table and the arguments tell it.
 //
 // Refusals 1 and 2, of the words of store and table, are asked before; 11 and 12 are a step's. Each function promises that its result EQUALS a
-// definition of specs/: seat, is_begun and has_request what the table says; a refusal the first number of a list whose test is true
-// (Refusing.first-of), the lists being document 01's order. Refusing proves that these lists are the machine's, on sound words; Coded that the checks of
-// a request are those of its code. It rests on the crates sessions, endings for an idle record, meaning for how many records a store has, and machine.
+// definition of specs/: seat, is_begun and has_request what the table says, settle the table with one record changed; a refusal the first number of a
+// list whose test is true (Refusing.first-of), the lists being document 01's order. Refusing proves that these lists are the machine's, on sound words;
+// Coded that the checks of a request are those of its code. It rests on the crates sessions, endings for an idle record, meaning for how many records a
+// store has, and machine.
 ghost use mathlib.Core.Path.{_≡_};
 ghost use mathlib.Core.Bool.{_||_};
+ghost use Prim.Native.Nat.{_≤_};
 ghost use lib.Dec.{eqb, ltb};
+ghost use lib.ListN.{set};
 ghost use Rattle.sessions.specs.Sessions.{session-at};
 ghost use Rattle.machine.specs.Calls.{infinite, no-party, no-session, format-checks};
 ghost use Rattle.refusals.specs.Refusing.{first-of, begun-in, hand-in, begin-list, step-list, commit-list, abort-list, request-list, put-list};
@@ -25,6 +28,16 @@ pub fn seat(t: [Session; PARTIES], p: u32) -> Session
         return t[at];
     }
     endings::fresh_session()
+}
+
+// The table with record x for party p.
+pub fn settle(mut t: [Session; PARTIES], p: u32, x: Session) -> [Session; PARTIES]
+    requires { ⌜ p ≤ 16 ⌝ }
+    ensures { λ r. ⌜ r ≡ set t p x ⌝ }
+{
+    let at = p as usize;
+    t[at] = x;
+    t
 }
 
 // The housekeeper always counts as begun.

@@ -20,9 +20,9 @@ use Rattle.sessions.proofs.Session as S
 use Rattle.outcomes.specs.declared.Answer.{Answer}
 use Rattle.outcomes.proofs.Answer as An
 use Rattle.outcomes.proofs.Answer.Laws as An′
-use Rattle.calls.specs.declared.Served.{Served}
-use Rattle.calls.proofs.Served as Se
-use Rattle.calls.proofs.Served.Laws as Se′
+use Rattle.outcomes.specs.declared.Served.{Served}
+use Rattle.outcomes.proofs.Served as Se
+use Rattle.outcomes.proofs.Served.Laws as Se′
 use Rattle.store.specs.declared.Seat.{Seat}
 use Rattle.store.proofs.Seat as Sa
 use Rattle.store.proofs.Seat.Laws as Sa′

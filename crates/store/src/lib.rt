@@ -9,8 +9,8 @@ ghost use mathlib.Core.Path.{_≡_};
 ghost use Rattle.sessions.specs.Sessions.{session-at};
 ghost use Rattle.store.specs.Lent.{Formatted, Begun, Put, Stepped, Committed, Aborted, On17, Stepped17};
 ghost use Rattle.store.specs.OneRecord.{seated};
-use calls::Served;
 use outcomes::Answer;
+use outcomes::Served;
 use sessions::PARTIES;
 use sessions::Session;
 

@@ -1,5 +1,5 @@
 // Play: the calls that a command makes.
-use calls::Served;
+use outcomes::Served;
 use outcomes::Answer;
 use scripts::lines::Line;
 use scripts::lines::NUMBERS;

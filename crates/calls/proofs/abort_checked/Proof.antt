@@ -10,16 +10,16 @@ abort-refusal-requires c κs = search needs
 returns : tie.Need-returns
 returns c = abort-refuses _ _ _ _ (c .before .before .before .pre) (c .before .abort-refusal .ensures) (c .if1 .taken)
 
-abort-accepted-requires : tie.Need-abort-accepted-requires
-abort-accepted-requires c κs = (c .before .before .before .before .pre, sym (c .before .before .abort-refusal .ensures) ∙ c .before .if1 .left)
+abort-requires : tie.Need-abort-requires
+abort-requires c κs = (c .before .before .before .before .pre, sym (c .before .before .abort-refusal .ensures) ∙ c .before .if1 .left)
 
 same-length : tie.Need-same-length
 same-length c = search needs
 
 returns-2 : tie.Need-returns-2
-returns-2 c = c .before .before .abort-accepted .ensures
+returns-2 c = c .before .before .abort .ensures
 
 pub abort-checked-spec : {M : Type 1} → statement M
 abort-checked-spec =
     tie.close
-    (tie.spec abort-refusal-requires returns abort-accepted-requires same-length returns-2)
+    (tie.spec abort-refusal-requires returns abort-requires same-length returns-2)

@@ -10,12 +10,12 @@ begin-refusal-requires c κs = search needs
 returns : tie.Need-returns
 returns c = begin-refuses _ _ _ _ (c .before .before .before .pre) (c .before .begin-refusal .ensures) (c .if1 .taken)
 
-begin-accepted-requires : tie.Need-begin-accepted-requires
-begin-accepted-requires c κs = (c .before .before .before .pre, sym (c .before .begin-refusal .ensures) ∙ c .if1 .left)
+begin-requires : tie.Need-begin-requires
+begin-requires c κs = (c .before .before .before .pre, sym (c .before .begin-refusal .ensures) ∙ c .if1 .left)
 
 returns-2 : tie.Need-returns-2
-returns-2 c = c .begin-accepted .ensures
+returns-2 c = c .begin .ensures
 
 pub begin-checked-spec : {M : Type 1} → statement M
 begin-checked-spec =
-    tie.close (tie.spec begin-refusal-requires returns begin-accepted-requires returns-2)
+    tie.close (tie.spec begin-refusal-requires returns begin-requires returns-2)

@@ -10,16 +10,16 @@ commit-refusal-requires c κs = search needs
 returns : tie.Need-returns
 returns c = commit-refuses _ _ _ _ (c .before .before .before .pre) (c .before .commit-refusal .ensures) (c .if1 .taken)
 
-commit-accepted-requires : tie.Need-commit-accepted-requires
-commit-accepted-requires c κs = (c .before .before .before .before .pre, sym (c .before .before .commit-refusal .ensures) ∙ c .before .if1 .left)
+commit-requires : tie.Need-commit-requires
+commit-requires c κs = (c .before .before .before .before .pre, sym (c .before .before .commit-refusal .ensures) ∙ c .before .if1 .left)
 
 same-length : tie.Need-same-length
 same-length c = search needs
 
 returns-2 : tie.Need-returns-2
-returns-2 c = c .before .before .commit-accepted .ensures
+returns-2 c = c .before .before .commit .ensures
 
 pub commit-checked-spec : {M : Type 1} → statement M
 commit-checked-spec =
     tie.close
-    (tie.spec commit-refusal-requires returns commit-accepted-requires same-length returns-2)
+    (tie.spec commit-refusal-requires returns commit-requires same-length returns-2)

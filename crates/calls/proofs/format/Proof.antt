@@ -10,8 +10,8 @@ format-refusal-requires c κs = search needs
 returns : tie.Need-returns
 returns c = format-refuses _ _ _ _ (c .before .format-refusal .ensures) (c .if1 .taken)
 
-format-accepted-requires : tie.Need-format-accepted-requires
-format-accepted-requires c κs = sym (c .before .before .format-refusal .ensures) ∙ c .before .if1 .left
+format-requires : tie.Need-format-requires
+format-requires c κs = sym (c .before .before .format-refusal .ensures) ∙ c .before .if1 .left
 
 same-length : tie.Need-same-length
 same-length c = search needs
@@ -22,4 +22,4 @@ returns-2 c = search needs
 pub format-spec : {M : Type 1} → statement M
 format-spec =
     tie.close
-    (tie.spec format-refusal-requires returns format-accepted-requires same-length returns-2)
+    (tie.spec format-refusal-requires returns format-requires same-length returns-2)

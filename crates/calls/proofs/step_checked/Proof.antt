@@ -10,8 +10,8 @@ step-refusal-requires c κs = search needs
 returns : tie.Need-returns
 returns c = step-refuses _ _ _ _ _ (c .before .before .before .before .pre) (c .before .step-refusal .ensures) (c .if1 .taken)
 
-step-accepted-requires : tie.Need-step-accepted-requires
-step-accepted-requires c κs = (c .before .before .before .before .before .before .pre, sym (c .before .before .before .step-refusal .ensures) ∙ c .before .before .if1 .left)
+step-requires : tie.Need-step-requires
+step-requires c κs = (c .before .before .before .before .before .before .pre, sym (c .before .before .before .step-refusal .ensures) ∙ c .before .before .if1 .left)
 
 same-length : tie.Need-same-length
 same-length c = search needs
@@ -20,7 +20,7 @@ same-length-2 : tie.Need-same-length-2
 same-length-2 c = search needs
 
 returns-2 : tie.Need-returns-2
-returns-2 c = c .before .before .before .before .step-accepted .ensures
+returns-2 c = c .before .before .before .before .step .ensures
 
 pub step-checked-spec : {M : Type 1} → statement M
 step-checked-spec =
@@ -28,7 +28,7 @@ step-checked-spec =
     (tie.spec
     step-refusal-requires
     returns
-    step-accepted-requires
+    step-requires
     same-length
     same-length-2
     returns-2)

@@ -1,7 +1,7 @@
 use Rattle.promises.specs.Ways.{any-party, put-can, put-run}
 use borrow.Author.Needs.{needs}
-use Rattle.calls.proofs.put_accepted.Statement.{statement}
-use Rattle.calls.proofs.put_accepted.Tie as tie
+use Rattle.accepted.proofs.put.Statement.{statement}
+use Rattle.accepted.proofs.put.Tie as tie
 
 entries-requires : tie.Need-entries-requires
 entries-requires c κs = search needs
@@ -27,8 +27,8 @@ settle-requires c κs = any-party _ _ (c .before .before .before .before .before
 returns : tie.Need-returns
 returns c = put-run _ _ _ _ _ _ _ (c .before .before .before .before .before .before .pre .0) (c .before .before .before .before .before .before .pre .1) (c .before .before .before .before .entries .ensures) (c .before .before .before .records .ensures) (c .before .before .seat .ensures) (c .before .put-request .ensures) (c .settle .ensures)
 
-pub put-accepted-spec : {M : Type 1} → statement M
-put-accepted-spec =
+pub put-spec : {M : Type 1} → statement M
+put-spec =
     tie.close
     (tie.spec
     entries-requires

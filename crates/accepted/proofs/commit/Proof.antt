@@ -1,7 +1,7 @@
 use Rattle.promises.specs.Ways.{session-party, commit-can, commit-run}
 use borrow.Author.Needs.{needs}
-use Rattle.calls.proofs.commit_accepted.Statement.{statement}
-use Rattle.calls.proofs.commit_accepted.Tie as tie
+use Rattle.accepted.proofs.commit.Statement.{statement}
+use Rattle.accepted.proofs.commit.Tie as tie
 
 entries-requires : tie.Need-entries-requires
 entries-requires c κs = search needs
@@ -36,8 +36,8 @@ same-length c = search needs
 returns : tie.Need-returns
 returns c = commit-run _ _ _ (c .before .before .before .before .before .before .before .before .before .before .before .before .before .pre .0) (c .before .before .before .before .before .before .before .before .before .before .before .before .before .pre .1) (c .before .before .before .before .before .before .before .before .before .before .entries .ensures) (c .before .before .before .before .before .before .before .before .records .ensures) (c .before .before .before .before .before .before .before .seat .ensures) (c .before .before .before .before .commit-words .ensures) (c .before .ended-session .ensures) (c .settle .ensures)
 
-pub commit-accepted-spec : {M : Type 1} → statement M
-commit-accepted-spec =
+pub commit-spec : {M : Type 1} → statement M
+commit-spec =
     tie.close
     (tie.spec
     entries-requires

@@ -1,7 +1,7 @@
 use Rattle.promises.specs.Ways.{session-party, abort-can, abort-run}
 use borrow.Author.Needs.{needs}
-use Rattle.calls.proofs.abort_accepted.Statement.{statement}
-use Rattle.calls.proofs.abort_accepted.Tie as tie
+use Rattle.accepted.proofs.abort.Statement.{statement}
+use Rattle.accepted.proofs.abort.Tie as tie
 
 entries-requires : tie.Need-entries-requires
 entries-requires c κs = search needs
@@ -33,8 +33,8 @@ same-length c = search needs
 returns : tie.Need-returns
 returns c = abort-run _ _ _ (c .before .before .before .before .before .before .before .before .before .before .before .before .pre .0) (c .before .before .before .before .before .before .before .before .before .before .before .before .pre .1) (c .before .before .before .before .before .before .before .before .before .entries .ensures) (c .before .before .before .before .before .before .before .records .ensures) (c .before .before .before .before .before .before .seat .ensures) (c .before .before .before .before .abort-words .ensures) (c .before .ended-session .ensures) (c .settle .ensures)
 
-pub abort-accepted-spec : {M : Type 1} → statement M
-abort-accepted-spec =
+pub abort-spec : {M : Type 1} → statement M
+abort-spec =
     tie.close
     (tie.spec
     entries-requires

@@ -1,7 +1,7 @@
 use Rattle.promises.specs.Stepping.{early-one, early-two, early-three, early-four}
 use borrow.Author.Needs.{needs}
-use Rattle.calls.proofs.early_step.Statement.{statement}
-use Rattle.calls.proofs.early_step.Tie as tie
+use Rattle.stepping.proofs.early_step.Statement.{statement}
+use Rattle.stepping.proofs.early_step.Tie as tie
 
 first-step-requires : tie.Need-first-step-requires
 first-step-requires c κs = c .before .before .before .before .pre .first (c .before .if1 .taken)

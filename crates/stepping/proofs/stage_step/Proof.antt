@@ -1,8 +1,8 @@
 use Rattle.promises.specs.Stepping.{stage-take, stage-early}
 use denote.Ref.{now}
 use borrow.Author.Needs.{needs}
-use Rattle.calls.proofs.stage_step.Statement.{statement}
-use Rattle.calls.proofs.stage_step.Tie as tie
+use Rattle.stepping.proofs.stage_step.Statement.{statement}
+use Rattle.stepping.proofs.stage_step.Tie as tie
 
 take-step-requires : tie.Need-take-step-requires
 take-step-requires c κs = c .before .before .before .before .before .before .pre .takes (c .before .before .if1 .taken)

@@ -1,7 +1,7 @@
 use Rattle.promises.specs.Ways.{session-party, begin-run}
 use borrow.Author.Needs.{needs}
-use Rattle.calls.proofs.begin_accepted.Statement.{statement}
-use Rattle.calls.proofs.begin_accepted.Tie as tie
+use Rattle.accepted.proofs.begin.Statement.{statement}
+use Rattle.accepted.proofs.begin.Tie as tie
 
 seat-requires : tie.Need-seat-requires
 seat-requires c κs = search needs
@@ -15,6 +15,6 @@ settle-requires c κs = session-party _ _ (c .before .before .before .pre .1)
 returns : tie.Need-returns
 returns c = begin-run _ _ _ (c .before .before .before .before .pre .0) (c .before .before .before .before .pre .1) (c .before .before .seat .ensures) (c .before .begun-session .ensures) (c .settle .ensures)
 
-pub begin-accepted-spec : {M : Type 1} → statement M
-begin-accepted-spec =
+pub begin-spec : {M : Type 1} → statement M
+begin-spec =
     tie.close (tie.spec seat-requires begun-session-requires settle-requires returns)

@@ -2,8 +2,8 @@ use Rattle.promises.specs.Ways.{any-party}
 use Rattle.promises.specs.Steps.{step-can, step-run}
 use denote.Ref.{now}
 use borrow.Author.Needs.{needs}
-use Rattle.calls.proofs.step_accepted.Statement.{statement}
-use Rattle.calls.proofs.step_accepted.Tie as tie
+use Rattle.stepping.proofs.step.Statement.{statement}
+use Rattle.stepping.proofs.step.Tie as tie
 
 entries-requires : tie.Need-entries-requires
 entries-requires c κs = search needs
@@ -35,8 +35,8 @@ same-length-2 c = search needs
 returns : tie.Need-returns
 returns c = step-run (now (c .before .before .before .before .before .before .before .before .before .before .before .before .before .before .before .before .args .store)) (c .before .before .before .before .before .before .before .before .before .before .before .before .before .before .before .before .args .t) (c .before .before .before .before .before .before .before .before .before .before .before .before .before .before .before .before .args .p) (now (c .before .before .before .before .before .before .before .before .before .before .before .before .before .before .before .before .args .list)) (c .before .before .before .before .before .before .before .before .before .before .before .before .before .before .before .before .pre .0) (c .before .before .before .before .before .before .before .before .before .before .before .before .before .before .before .before .pre .1) (c .before .before .before .before .before .before .before .before .before .before .before .before .entries .ensures) (c .before .before .before .before .before .before .before .before .before .before .records .ensures) (c .before .before .before .before .before .before .before .before .before .seat .ensures) (c .before .before .before .before .before .before .stage-step .ensures) (c .settle .ensures)
 
-pub step-accepted-spec : {M : Type 1} → statement M
-step-accepted-spec =
+pub step-spec : {M : Type 1} → statement M
+step-spec =
     tie.close
     (tie.spec
     entries-requires

@@ -1,8 +1,8 @@
 use lib.ListN.{replicate}
 use mathlib.Core.Path.{ap}
 use borrow.Author.Needs.{needs}
-use Rattle.calls.proofs.fresh_table.Statement.{statement}
-use Rattle.calls.proofs.fresh_table.Tie as tie
+use Rattle.accepted.proofs.fresh_table.Statement.{statement}
+use Rattle.accepted.proofs.fresh_table.Tie as tie
 
 fresh-session-requires : tie.Need-fresh-session-requires
 fresh-session-requires c κs = search needs

@@ -1,7 +1,7 @@
 use Rattle.promises.specs.Stepping.{node-low, node-high}
 use borrow.Author.Needs.{needs}
-use Rattle.calls.proofs.node_step.Statement.{statement}
-use Rattle.calls.proofs.node_step.Tie as tie
+use Rattle.stepping.proofs.node_step.Statement.{statement}
+use Rattle.stepping.proofs.node_step.Tie as tie
 
 lowest-step-requires : tie.Need-lowest-step-requires
 lowest-step-requires c κs = c .before .before .before .before .pre .low (c .before .if1 .taken)

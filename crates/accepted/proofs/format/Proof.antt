@@ -1,7 +1,7 @@
 use Rattle.promises.specs.Ways.{format-most, format-can, format-run}
 use borrow.Author.Needs.{needs}
-use Rattle.calls.proofs.format_accepted.Statement.{statement}
-use Rattle.calls.proofs.format_accepted.Tie as tie
+use Rattle.accepted.proofs.format.Statement.{statement}
+use Rattle.accepted.proofs.format.Tie as tie
 
 records-for-requires : tie.Need-records-for-requires
 records-for-requires c κs = format-most _ _ (c .before .pre)
@@ -18,7 +18,7 @@ same-length c = search needs
 returns : tie.Need-returns
 returns c = format-run _ _ _ (c .before .before .before .before .before .before .before .pre) (c .before .before .before .before .before .records-for .ensures) (c .before .before .before .fresh-store .ensures) (c .fresh-table .ensures)
 
-pub format-accepted-spec : {M : Type 1} → statement M
-format-accepted-spec =
+pub format-spec : {M : Type 1} → statement M
+format-spec =
     tie.close
     (tie.spec records-for-requires fresh-store-requires fresh-table-requires same-length returns)
