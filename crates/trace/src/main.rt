@@ -52,7 +52,10 @@ fn play_some(store: &mut [u32], list: &mut [u32], out: &mut Text, x: Script) -> 
 
 // Nothing says that the input ends, so the turns are counted down, from a number that no run uses up.
 fn play_all(store: &mut [u32], list: &mut [u32], out: &mut Text, x: Script) -> Script {
-    let mut part = play_some(store, list, out, x);
+    let mut part = Part {
+        script: x,
+        is_more: true,
+    };
     let mut turns = u64::MAX;
     while turns > 0 && part.is_more {
         let script = part.script;

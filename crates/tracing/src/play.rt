@@ -8,7 +8,7 @@ use sessions::PARTIES;
 use sessions::Session;
 
 // More steps than any request of a store of 700 records takes: it goes down the tree twice at most, and takes each descriptor once.
-const STEPS: u32 = 4096;
+const STEPS: u32 = 4097;
 
 fn goes_on(s: Served) -> bool {
     let answer = s.answer;
@@ -22,13 +22,21 @@ fn goes_on(s: Served) -> bool {
     }
 }
 
+// One step of party p, over the table that the step before left.
+fn step(store: &mut [u32], list: &mut [u32], s: Served, p: u32) -> Served {
+    let table = s.table;
+    calls::step(store, list, table, p)
+}
+
 // Steps of party p until the answer is not more.
 fn go(store: &mut [u32], list: &mut [u32], t: [Session; PARTIES], p: u32) -> Served {
-    let mut s = calls::step(store, list, t, p);
+    let mut s = Served {
+        table: t,
+        answer: Answer::More,
+    };
     let mut left = STEPS;
     while left > 0 && goes_on(s) {
-        let table = s.table;
-        s = calls::step(store, list, table, p);
+        s = step(store, list, s, p);
         left -= 1;
     }
     s

@@ -11,14 +11,11 @@ Inv-loop store₀ list₀ out₀ part₀ turns₀ store list out part turns = (l
 abbrev μ-loop : tie.MeasureT-loop
 μ-loop store₀ list₀ out₀ part₀ turns₀ store list out part turns = turns
 
-play-some-requires : tie.Need-play-some-requires Inv-loop μ-loop
-play-some-requires c κs = search needs
-
 loop-holds : tie.Need-loop-holds Inv-loop μ-loop
 loop-holds c = search needs
 
-play-some-requires-2 : tie.Need-play-some-requires-2 Inv-loop μ-loop
-play-some-requires-2 c κs = search needs
+play-some-requires : tie.Need-play-some-requires Inv-loop μ-loop
+play-some-requires c κs = search needs
 
 sub-turns : tie.Need-sub-turns Inv-loop μ-loop
 sub-turns c = search needs
@@ -44,9 +41,8 @@ play-all-spec =
     (tie.spec
     Inv-loop
     μ-loop
-    play-some-requires
     loop-holds
-    play-some-requires-2
+    play-some-requires
     sub-turns
     loop-less
     loop-again

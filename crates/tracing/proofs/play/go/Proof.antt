@@ -11,17 +11,14 @@ Inv-loop store₀ list₀ p s₀ left₀ store list s left = (length store ≡ l
 abbrev μ-loop : tie.MeasureT-loop
 μ-loop store₀ list₀ p s₀ left₀ store list s left = left
 
-step-requires : tie.Need-step-requires Inv-loop μ-loop
-step-requires c κs = search needs
-
 loop-holds : tie.Need-loop-holds Inv-loop μ-loop
 loop-holds c = search needs
 
 goes-on-requires : tie.Need-goes-on-requires Inv-loop μ-loop
 goes-on-requires c κs = search needs
 
-step-requires-2 : tie.Need-step-requires-2 Inv-loop μ-loop
-step-requires-2 c κs = search needs
+step-requires : tie.Need-step-requires Inv-loop μ-loop
+step-requires c κs = search needs
 
 sub-left : tie.Need-sub-left Inv-loop μ-loop
 sub-left c = search needs
@@ -56,10 +53,9 @@ go-spec =
     (tie.spec
     Inv-loop
     μ-loop
-    step-requires
     loop-holds
     goes-on-requires
-    step-requires-2
+    step-requires
     sub-left
     loop-less
     loop-again
