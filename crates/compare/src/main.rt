@@ -4,14 +4,12 @@
 // lists are compared at every call; entries, the holders and members of keys, free count and tree at every call of a small round and at every few of
 // a large one. Each committed session runs whole on the logical model, in order of commit, and each aborted one on a copy; the store, with all that
 // are unfinished aborted, is compared with the logical content. The checker judges the store throughout. Random and fixed: each run is the same.
-mod choose;
 mod make;
-mod report;
 mod rounds;
 
-use comparing::book::BOOK;
-use comparing::both::LISTS;
-use report::report;
+use books::book::BOOK;
+use books::report::report;
+use choices::call::LISTS;
 use rounds::round;
 use schedules::content::CONTENT;
 use schedules::logs::LOGS;

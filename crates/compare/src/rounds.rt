@@ -1,153 +1,23 @@
 // Rounds: a round begins with a format and ends with the abort of all that are begun; its parameters go by its number.
-use crate::choose::choose;
-use crate::choose::plain;
 use crate::make::make;
-use comparing::book::ASKED;
-use comparing::book::Book;
-use comparing::book::CALL;
-use comparing::book::ENTRIES;
-use comparing::book::EVERY;
-use comparing::book::IS_STOPPED;
-use comparing::book::KEYS;
-use comparing::book::PHASE;
-use comparing::book::RANGE;
-use comparing::book::RECORDS;
-use comparing::book::RISEN;
-use comparing::book::ROUND;
-use comparing::book::SESSIONS;
-use comparing::book::TURNS;
-use comparing::book::WAITED;
-use comparing::book::WORDS;
-use comparing::book::set_hand;
-use comparing::both;
-use comparing::both::Lists;
-use comparing::both::Model;
-use comparing::content::in_sequence;
-use comparing::content::is_begun;
-use comparing::content::see_all;
-use comparing::keys::GROW;
-use comparing::keys::MIX;
-use comparing::keys::RISE;
-use comparing::keys::SHRINK;
+use books::book::Book;
+use books::book::IS_STOPPED;
+use books::book::Model;
+use books::book::TURNS;
+use books::contents::see_end;
+use books::seats::is_begun;
+use choices::call;
+use choices::call::Lists;
+use choices::call::plain;
+use choices::choose::in_sequence;
+use choices::choose::next;
+use choices::kinds::first_call;
+use choices::kinds::start;
 use schedules::content::Content;
-use schedules::content::clear;
 use schedules::logs::Logs;
-use schedules::logs::forget;
-use schedules::random::below;
 use schedules::random::random;
 use schedules::words::Side;
 use schedules::words::get;
-use schedules::words::put;
-use schedules::words::sum;
-
-// How many kinds of rounds there are.
-const KINDS: u32 = 10;
-
-// Sessions, entries and records of a kind; which keys and how many of them; how many calls; the intervals of whole comparisons and of the checker.
-struct Kind {
-    sessions: u32,
-    entries: u32,
-    records: u32,
-    keys: u32,
-    range: u32,
-    turns: u32,
-    every: u32,
-    asked: u32,
-}
-
-fn sized(sessions: u32, entries: u32, records: u32, keys: u32, range: u32) -> Kind {
-    if records < 100 {
-        return Kind {
-            sessions: sessions,
-            entries: entries,
-            records: records,
-            keys: keys,
-            range: range,
-            turns: 6000,
-            every: 1,
-            asked: 2,
-        };
-    }
-    Kind {
-        sessions: sessions,
-        entries: entries,
-        records: records,
-        keys: keys,
-        range: range,
-        turns: 14000,
-        every: 1 + records / 64,
-        asked: 1 + records / 8,
-    }
-}
-
-fn kind_of(b: &mut Book, number: u32) -> Kind {
-    match number {
-        0 => sized(6, 3, 8 + below(b, 8) % 8, 0, 12),
-        1 => sized(16, 16, 40, 0, 40),
-        2 => sized(6, 8, 24, 0, 12),
-        3 => sized(16, 32, 200, 1, 60),
-        4 => sized(6, 2, 20 + below(b, 16) % 16, 2, 20),
-        5 => sized(16, 32, 700, 0, 400),
-        6 => sized(6, 24, 40, 1, 20),
-        7 => sized(16, 20, 200, 2, 300),
-        8 => sized(6, 32, 700, 1, 200),
-        _ => sized(16, 5, 32, 0, 12),
-    }
-}
-
-fn forget_all(b: &mut Book, l: &mut Logs) {
-    let mut p = 0;
-    while p < 17 {
-        forget(l, p);
-        set_hand(b, p, 0, 0);
-        set_hand(b, p, WAITED, 0);
-        p += 1;
-    }
-}
-
-fn set_kind(b: &mut Book, k: Kind) {
-    put(b, SESSIONS, k.sessions);
-    put(b, ENTRIES, k.entries);
-    put(b, RECORDS, k.records);
-    put(b, KEYS, k.keys);
-    put(b, RANGE, k.range);
-    put(b, TURNS, k.turns);
-    put(b, EVERY, k.every);
-    put(b, ASKED, k.asked);
-    let fit = 16 + 3 * (k.entries % 64) + 20 * (k.records % 1024);
-    let words = sum(fit, below(b, 20));
-    put(b, WORDS, words);
-    put(b, RISEN, 0);
-    put(b, CALL, 0);
-    put(b, IS_STOPPED, 0);
-}
-
-// What the sessions are at in eighth i of a small round, and of a large one.
-fn small_phase(i: u32) -> u32 {
-    match i {
-        0 | 4 => GROW,
-        3 | 6 | 7 => SHRINK,
-        _ => MIX,
-    }
-}
-
-fn large_phase(i: u32) -> u32 {
-    match i {
-        0 | 1 => RISE,
-        2 => GROW,
-        3 | 5 => MIX,
-        _ => SHRINK,
-    }
-}
-
-fn set_phase(b: &mut Book, turn: u32, turns: u32) {
-    let eighth = (turn % 65536) * 8 / (1 + turns % 65536);
-    if get(b, RECORDS) < 100 {
-        put(b, PHASE, small_phase(eighth));
-    } else {
-        put(b, PHASE, large_phase(eighth));
-    }
-}
 
 fn turns(
     s: &mut Side,
@@ -163,8 +33,7 @@ fn turns(
         if get(b, IS_STOPPED) != 0 {
             return;
         }
-        set_phase(b, i, n);
-        let c = choose(s, a, b, l);
+        let c = next(s, a, b, l, i);
         make(s, lists, a, b, l, content, c);
         i += 1;
     }
@@ -181,7 +50,7 @@ fn end_one(
     p: u32,
 ) {
     if is_begun(s, p) {
-        make(s, lists, a, b, l, content, plain(both::ABORT, p));
+        make(s, lists, a, b, l, content, plain(call::ABORT, p));
     }
 }
 
@@ -200,9 +69,7 @@ fn end(
         end_one(s, lists, a, b, l, content, in_sequence(x, i));
         i += 1;
     }
-    if get(b, IS_STOPPED) == 0 {
-        see_all(s, b, content);
-    }
+    see_end(s, b, content);
 }
 
 pub fn round(
@@ -214,15 +81,8 @@ pub fn round(
     content: &mut Content,
     number: u32,
 ) {
-    put(b, ROUND, number);
-    let k = kind_of(b, number % KINDS);
-    set_kind(b, k);
-    clear(content);
-    forget_all(b, l);
-    let mut c = plain(both::FORMAT, 0);
-    c.entry = get(b, ENTRIES);
-    c.first = get(b, WORDS);
-    make(s, lists, a, b, l, content, c);
+    start(b, l, content, number);
+    make(s, lists, a, b, l, content, first_call(b));
     turns(s, lists, a, b, l, content);
     end(s, lists, a, b, l, content);
 }

@@ -1,12 +1,8 @@
-// Comparing: a call made on the store and on the second model, and what is compared after it.
+// Comparing: what the program compare does on the store: a call made on it, a copy of it with all sessions aborted, a copy of it with one word changed.
 //
-// both makes the calls; book counts them and keeps the first difference; looks, keys and content compare entries, tree, holders, members and the logical
-// content; judge asks the checker; after runs the sessions that have ended on the logical model. It promises that every function is safe and ends. It
-// rests on calls for the store, on naive for the model, on schedules for reading words and for the logical model, on checker for the second judge.
-pub mod after;
-pub mod book;
-pub mod both;
+// serve makes the calls; content compares the copy with the logical model; judge asks the checker about the store and about the changed copy, and the
+// store about the changed copy. It promises that every function is safe and ends. It rests on calls for the store, on books for the comparisons and
+// where they are noted, on choices for what a call is, on schedules for words, random numbers and the logical model.
 pub mod content;
 pub mod judge;
-pub mod keys;
-pub mod looks;
+pub mod serve;

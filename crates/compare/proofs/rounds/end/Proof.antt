@@ -31,17 +31,11 @@ loop-less c = search needs
 loop-again : tie.Need-loop-again Inv-loop μ-loop
 loop-again c = search needs
 
-get-requires : tie.Need-get-requires Inv-loop μ-loop
-get-requires c κs = search needs
-
-see-all-requires : tie.Need-see-all-requires Inv-loop μ-loop
-see-all-requires c κs = search needs
+see-end-requires : tie.Need-see-end-requires Inv-loop μ-loop
+see-end-requires c κs = search needs
 
 returns : tie.Need-returns Inv-loop μ-loop
 returns c = search needs
-
-returns-2 : tie.Need-returns-2 Inv-loop μ-loop
-returns-2 c = search needs
 
 pub end-spec : {M : Type 1} → statement M
 end-spec =
@@ -56,7 +50,5 @@ end-spec =
     add-i
     loop-less
     loop-again
-    get-requires
-    see-all-requires
-    returns
-    returns-2)
+    see-end-requires
+    returns)

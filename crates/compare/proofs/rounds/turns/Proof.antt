@@ -22,11 +22,8 @@ get-requires-2 c κs = search needs
 returns : tie.Need-returns Inv-loop μ-loop
 returns c = search needs
 
-set-phase-requires : tie.Need-set-phase-requires Inv-loop μ-loop
-set-phase-requires c κs = search needs
-
-choose-requires : tie.Need-choose-requires Inv-loop μ-loop
-choose-requires c κs = search needs
+next-requires : tie.Need-next-requires Inv-loop μ-loop
+next-requires c κs = search needs
 
 make-requires : tie.Need-make-requires Inv-loop μ-loop
 make-requires c κs = search needs
@@ -53,8 +50,7 @@ turns-spec =
     loop-holds
     get-requires-2
     returns
-    set-phase-requires
-    choose-requires
+    next-requires
     make-requires
     add-i
     loop-less

@@ -1,0 +1,85 @@
+// Call: a call by its kind, party and numbers; the words of its answer; the lists that are lent.
+use books::book::Book;
+use books::book::WORDS;
+use naive_steps::party::Said;
+use schedules::words::get;
+use schedules::words::wide;
+
+pub const FORMAT: u32 = 0;
+
+pub const BEGIN: u32 = 1;
+
+pub const PUT: u32 = 2;
+
+pub const STEP: u32 = 3;
+
+pub const COMMIT: u32 = 4;
+
+pub const ABORT: u32 = 5;
+
+// A call. Of a format, entry is M and first the number of words; of a step, first is the number of words of the list.
+pub struct Call {
+    pub kind: u32,
+    pub party: u32,
+    pub code: u32,
+    pub entry: u32,
+    pub first: u32,
+    pub second: u32,
+}
+
+// The answers' words.
+pub const OK: u32 = 0;
+
+pub const MORE: u32 = 1;
+
+pub const WAIT: u32 = 2;
+
+pub const DONE: u32 = 3;
+
+pub const REFUSED: u32 = 4;
+
+// The two lists that are lent: the store's, and the model's behind it.
+pub const LIST: usize = 1024;
+
+pub const LISTS: usize = 2048;
+
+pub type Lists = [u32; LISTS];
+
+// How many words of the list a call is lent.
+pub fn listed(c: Call) -> usize {
+    if c.kind == STEP {
+        if c.first < 1024 {
+            return wide(c.first);
+        }
+    }
+    LIST
+}
+
+// A call of a party alone.
+pub fn plain(kind: u32, p: u32) -> Call {
+    Call {
+        kind: kind,
+        party: p,
+        code: 0,
+        entry: 0,
+        first: 0,
+        second: 0,
+    }
+}
+
+// How many words the store of a call has.
+pub fn store_words(b: &Book, c: Call) -> u32 {
+    if c.kind == FORMAT {
+        return c.first;
+    }
+    get(b, WORDS)
+}
+
+// An answer.
+pub fn say(word: u32, first: u32, second: u32) -> Said {
+    Said {
+        word: word,
+        first: first,
+        second: second,
+    }
+}
