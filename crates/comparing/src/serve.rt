@@ -1,7 +1,6 @@
 // Serve: a call made on the store.
 use books::seats::set_table;
 use books::seats::table;
-use outcomes::Served;
 use choices::call::BEGIN;
 use choices::call::COMMIT;
 use choices::call::Call;
@@ -18,6 +17,7 @@ use choices::call::listed;
 use choices::call::say;
 use naive_steps::party::Said;
 use outcomes::Answer;
+use outcomes::Served;
 use schedules::words::STORE;
 use schedules::words::Side;
 use schedules::words::TABLE;

@@ -1,6 +1,6 @@
 // Play: the calls that a command makes.
-use outcomes::Served;
 use outcomes::Answer;
+use outcomes::Served;
 use scripts::lines::Line;
 use scripts::lines::NUMBERS;
 use scripts::lines::code_of;
