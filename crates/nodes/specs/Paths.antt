@@ -30,7 +30,7 @@ below-le (b ∷ bs) k = go (leb k b) (below-le bs k)
     go true h = omega arith
     go false h = omega arith
 
--- it is one of the node's
+-- the son on the path is one of the node's
 pub son-place : (n : Node) (key : ℕ) → 1 ≤ n .count → sonFor n key < n .count
 unfolding sonFor
 son-place n key h =
