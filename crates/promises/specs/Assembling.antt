@@ -1,12 +1,13 @@
 -- From a row on words to the promise of a call.
 use mathlib.Core.Path.{_≡_, refl, sym, ap, subst, _∙_}
-use mathlib.Core.Bool.{true}
-use mathlib.Core.List.{List, []}
+use mathlib.Core.Bool.{Bool, true, false, cond}
+use mathlib.Core.List.{List, [], _∷_}
 use Prim.Native.Nat.{ℕ}
 use lib.ListN.{length, set}
 use lib.Seq.{getD-set-other}
 use Rattle.sessions.specs.declared.Session.{Session}
 use Rattle.sessions.specs.Sessions.{session-at, idle-session}
+use Rattle.serial.specs.Serial.{true≢false}
 use Rattle.serial.specs.Calls as C
 use Rattle.machine.specs.State.{Outcome, refused}
 use Rattle.machine.specs.Steps.{answer}
@@ -19,15 +20,62 @@ use Rattle.meaning.specs.Sound.{Sound}
 use Rattle.layout.specs.Layout.{means}
 use Rattle.layout.specs.Row.{Stands, Becomes}
 use Rattle.layout.specs.Back.{holds-means, becomes-sound}
-use Rattle.promises.specs.Relations.{outcome, stays, Others, Kept, Answered, Around, list-of}
+use Rattle.refusals.specs.Refusing.{first-of}
+use Rattle.promises.specs.Relations.{outcome, stays, Others, Kept, Ended, Answered, Around, list-of}
+
+-- ---- which answers end the request
+
+abbrev pub is-refused : C.Answer → Bool
+is-refused C.ok = false
+is-refused C.more = false
+is-refused (C.wait p) = false
+is-refused (C.done ns) = false
+is-refused (C.refused n k) = true
+
+abbrev pub number-of : C.Answer → ℕ
+number-of C.ok = 0
+number-of C.more = 0
+number-of (C.wait p) = 0
+number-of (C.done ns) = 0
+number-of (C.refused n k) = n
+
+-- No answer but a refusal.
+pub no-refusal : {X : Type 0} (a : C.Answer) → is-refused a ≡ false → (n k : ℕ) → a ≡ C.refused n k → C.ends-request n ≡ true → X
+no-refusal a q n k e y = absurd (true≢false (ap is-refused e) q)
+
+-- No refusal by another number.
+pub not-ending : {X : Type 0} (i : ℕ) → C.ends-request i ≡ false → (n k : ℕ) → C.refused i 0 ≡ C.refused n k → C.ends-request n ≡ true → X
+not-ending i q n k e y = absurd (true≢false y (ap C.ends-request (sym (ap number-of e)) ∙ q))
+
+abbrev pub Each : (ℕ → Type 0) → List (ℕ × Bool) → Type 0
+Each P [] = Unit {0}
+Each P (c ∷ cs) = P (c .0) × Each P cs
+
+pub first-is : (P : ℕ → Type 0) (cs : List (ℕ × Bool)) → P 0 → Each P cs → P (first-of cs)
+unfolding first-of
+first-is P [] z h = z
+first-is P (c ∷ cs) z h = go (c .1) (first-is P cs z (h .1))
+  where
+    go : (b : Bool) → P (first-of cs) → P (cond b (c .0) (first-of cs))
+    go true r = h .0
+    go false r = r
+
+abbrev pub NotEnding : ℕ → Type 0
+NotEnding n = C.ends-request n ≡ false
+
+pub first-not-ending : (cs : List (ℕ × Bool)) → Each NotEnding cs → C.ends-request (first-of cs) ≡ false
+first-not-ending cs h = first-is NotEnding cs refl h
+
+-- ---- from a row to the promise
 
 -- The words of a sound store hold a layout that means what they mean.
 pub stands-means : (s : List ℕ) (t : List Session) (A : Stands s t) → means (A .lay) t ≡ meaning s t
 stands-means s t A = sym (holds-means s t (A .lay) (A .holds))
 
 pub answered-by : (c : C.Call) (s : List ℕ) (t : List Session) → Sound s t → (o : Outcome) → outcome c s t ≡ o → (a : C.Answer) (l′ s′ : List ℕ) (t′ : List Session) → Tells (o .answer) a
-    → l′ ≡ list-after c (o .written) → Becomes s s′ t′ (o .next) → (stays a ≡ true → (s′ ≡ s) × (t′ ≡ t)) → Others c t t′ → Kept c s s′ → Answered c s t a l′ s′ t′ × Around s s′
-answered-by c s t A o e a l′ s′ t′ tells list B still others kept =
+    → l′ ≡ list-after c (o .written) → Becomes s s′ t′ (o .next) → (stays a ≡ true → (s′ ≡ s) × (t′ ≡ t))
+    → ((n k : ℕ) → a ≡ C.refused n k → C.ends-request n ≡ true → Ended c s t s′ t′) → Others c t t′ → Kept c s s′ → Answered c s t a l′ s′ t′ × Around s s′
+answered-by c s t A o e a l′ s′ t′ tells list B still ended others kept =
     let sound = subst (λ z. S.Sound (z .next)) e (keeps (call-of c (length s)) (meaning s t) (A .state)) in
     let R = becomes-sound s s′ t′ (o .next) B sound in (
       record {
@@ -37,6 +85,7 @@ answered-by c s t A o e a l′ s′ t′ tells list B still others kept =
         means = R .1 ∙ ap (λ z. z .next) (sym e);
         long = B .long;
         still = still;
+        ended = ended;
         others = others;
         kept = kept;
       },
@@ -68,9 +117,9 @@ list-same (C.step p l) = refl
 list-same (C.commit p) = refl
 list-same (C.abort p) = refl
 
-pub answered-refused : (c : C.Call) (s : List ℕ) (t : List Session) → Sound s t → (n : ℕ) → outcome c s t ≡ answer (refused n 0) (meaning s t)
+pub answered-refused : (c : C.Call) (s : List ℕ) (t : List Session) → Sound s t → (n : ℕ) → C.ends-request n ≡ false → outcome c s t ≡ answer (refused n 0) (meaning s t)
     → Answered c s t (C.refused n 0) (list-of c) s t × Around s s
-answered-refused c s t A n e = (
+answered-refused c s t A n y e = (
   record {
     tells = subst (λ z. Tells (z .answer) (C.refused n 0)) (sym e) refl;
     list-is = list-same c ∙ ap (λ z. list-after c (z .written)) (sym e);
@@ -78,6 +127,7 @@ answered-refused c s t A n e = (
     means = ap (λ z. z .next) (sym e);
     long = refl;
     still = λ z. (refl, refl);
+    ended = not-ending n y;
     others = others-same c t;
     kept = kept-same c s;
   },

@@ -26,9 +26,8 @@ use Rattle.meaning.specs.Sound.{Sound}
 use Rattle.layout.specs.Asked.{request-in}
 use Rattle.refusals.specs.Refusing.{first-of, begin-list, put-list, step-list, commit-list, abort-list, begin-refused, put-refused, step-refused, commit-refused, abort-refused}
 use Rattle.refusals.specs.Coded.{format-refused}
-use Rattle.promises.specs.Relations.{outcome, stays, list-of, Answered, Calls, Formats}
-use Rattle.promises.specs.Assembling.{list-same}
-use Rattle.promises.specs.Ways.{is-refused}
+use Rattle.promises.specs.Relations.{outcome, stays, list-of, Ended, Answered, Calls, Formats}
+use Rattle.promises.specs.Assembling.{is-refused, number-of, Each, first-is, list-same}
 use Rattle.promises.specs.Steps.{hand-is, outcome-is, party}
 
 -- The checks of a call after 1 and 2, in document 01's order; each is read from the store's length, M and the table.
@@ -79,8 +78,10 @@ pub record Demand-1 (c : C.Call) (s : List ℕ) (t : List Session) (a : C.Answer
   -- A refusal changes nothing,
   pub left-damaged : ¬ Sound s t → (l′ ≡ list-of c) × (s′ ≡ s) × (t′ ≡ t)
   pub unchanged : Sound s t → (n k : ℕ) → a ≡ C.refused n k → C.ends-request n ≡ false → (l′ ≡ list-of c) × (s′ ≡ s) × (t′ ≡ t)
-  -- except that 11 and 12 end the request.
+  -- except that 11 and 12 end the request
   pub ends : Sound s t → (n k : ℕ) → a ≡ C.refused n k → C.ends-request n ≡ true → Ends c (meaning s′ t′)
+  -- and change nothing else.
+  pub ended : Sound s t → (n k : ℕ) → a ≡ C.refused n k → C.ends-request n ≡ true → (l′ ≡ list-of c) × Ended c s t s′ t′
 
 -- ---- what is told
 
@@ -91,27 +92,7 @@ told-refused (wait ps) n k e = absurd (true≢false {b = true} refl (ap is-refus
 told-refused (done ns) n k e = absurd (true≢false {b = true} refl (ap is-refused e))
 told-refused (refused i j) n k e = cc
 
-abbrev number-of : C.Answer → ℕ
-number-of C.ok = 0
-number-of C.more = 0
-number-of (C.wait p) = 0
-number-of (C.done ns) = 0
-number-of (C.refused n k) = n
-
 -- ---- the first refusal
-
-abbrev Each : (ℕ → Type 0) → List (ℕ × Bool) → Type 0
-Each P [] = Unit {0}
-Each P (c ∷ cs) = P (c .0) × Each P cs
-
-first-is : (P : ℕ → Type 0) (cs : List (ℕ × Bool)) → P 0 → Each P cs → P (first-of cs)
-unfolding first-of
-first-is P [] z h = z
-first-is P (c ∷ cs) z h = go (c .1) (first-is P cs z (h .1))
-  where
-    go : (b : Bool) → P (first-of cs) → P (cond b (c .0) (first-of cs))
-    go true r = h .0
-    go false r = r
 
 -- None of the checks has number 2, 11 or 12.
 abbrev Early : ℕ → Type 0
@@ -235,6 +216,7 @@ demand-1 c s t a l′ s′ t′ P = record {
   left-damaged = λ n. let U = P .refuses n in (U .list-same, U .store-same, U .table-same);
   unchanged = λ S n k e z. let A = P .answers S .0 in let w = A .still (ap stays e ∙ ap not z) in (same-list c s t a l′ s′ t′ S A n k e, w .0, w .1);
   ends = λ S n k e y. ending S n k e y (ℕ-discrete (refusal-of c s t) 0);
+  ended = λ S n k e y. let A = P .answers S .0 in (same-list c s t a l′ s′ t′ S A n k e, A .ended n k e y);
 }
   where
     taken-then : Sound s t → refusal-of c s t ≡ 0 → Accepts c a

@@ -15,6 +15,7 @@ use Rattle.machine.specs.Demand.{Tells}
 use Rattle.meaning.specs.Reading.{meaning}
 use Rattle.meaning.specs.Sound.{Sound}
 use Rattle.promises.specs.Relations.{outcome, stays, Answered, Calls, Formats}
+use Rattle.promises.specs.Assembling.{is-refused, no-refusal, not-ending}
 use Rattle.promises.specs.Demands.{Returns}
 
 -- Begin, put, step, commit, abort.
@@ -45,6 +46,7 @@ formats-return m s t a s′ t′ F = λ S. go S (format-either (eqb m 0 || ltb 1
           means = ap (λ u. meaning u t′) (still .0) ∙ ap (meaning s) (still .1) ∙ ap (λ z. z .next) (sym e);
           long = F .long;
           still = F .refuses;
+          ended = λ n k q y. not-ending 3 refl n k (sym told ∙ q) y;
           others = tt;
           kept = tt;
         }
@@ -58,6 +60,7 @@ formats-return m s t a s′ t′ F = λ S. go S (format-either (eqb m 0 || ltb 1
           means = new .1 ∙ ap (λ z. z .next) (sym e);
           long = F .long;
           still = F .refuses;
+          ended = no-refusal a (ap is-refused told);
           others = tt;
           kept = tt;
         }

@@ -3,7 +3,7 @@ use mathlib.Core.Path.{_≡_}
 use mathlib.Core.Bool.{Bool, true, false, not}
 use mathlib.Core.List.{List, []}
 use Prim.Native.Nat.{ℕ}
-use lib.ListN.{length, replicate}
+use lib.ListN.{length, replicate, set}
 use Rattle.words.specs.Store.{beyond}
 use Rattle.sessions.specs.declared.Session.{Session}
 use Rattle.sessions.specs.Sessions.{session-at, idle-session, parties}
@@ -13,6 +13,8 @@ use Rattle.machine.specs.Calls.{call, records-for}
 use Rattle.machine.specs.Demand.{call-of, Tells, list-after}
 use Rattle.meaning.specs.Reading.{M-of, R-of, meaning}
 use Rattle.meaning.specs.Sound.{Sound}
+use Rattle.endings.specs.Table.{idled}
+use Rattle.finishing.specs.Finishing.{endRequest}
 
 -- What the machine does with a call, on what the words mean.
 abbrev pub outcome : C.Call → List ℕ → List Session → Outcome
@@ -44,6 +46,15 @@ Kept (C.step p l) s s′ = Unit {0}
 Kept (C.commit p) s s′ = Unit {0}
 Kept (C.abort p) s s′ = Unit {0}
 
+-- What 11 and 12 leave: the request is ended, its latch and its pins with it, and nothing else is written. They arise only inside a step.
+abbrev pub Ended : C.Call → List ℕ → List Session → List ℕ → List Session → Type 0
+Ended (C.format m) s t s′ t′ = ⊥
+Ended (C.begin p) s t s′ t′ = ⊥
+Ended (C.put p c e f g) s t s′ t′ = ⊥
+Ended (C.step p l) s t s′ t′ = (s′ ≡ endRequest s (M-of s) (session-at t p)) × (t′ ≡ set t p (idled (session-at t p)))
+Ended (C.commit p) s t s′ t′ = ⊥
+Ended (C.abort p) s t s′ t′ = ⊥
+
 -- A call on sound words: the machine's answer, the list that it writes, and words that mean the machine's next state.
 pub record Answered (c : C.Call) (s : List ℕ) (t : List Session) (a : C.Answer) (l′ : List ℕ) (s′ : List ℕ) (t′ : List Session) : Type 0 where
   pub tells : Tells (outcome c s t .answer) a
@@ -52,6 +63,7 @@ pub record Answered (c : C.Call) (s : List ℕ) (t : List Session) (a : C.Answer
   pub means : meaning s′ t′ ≡ outcome c s t .next
   pub long : length s′ ≡ length s
   pub still : stays a ≡ true → (s′ ≡ s) × (t′ ≡ t)
+  pub ended : (n k : ℕ) → a ≡ C.refused n k → C.ends-request n ≡ true → Ended c s t s′ t′
   pub others : Others c t t′
   pub kept : Kept c s s′
 

@@ -16,7 +16,7 @@ use Rattle.serial.specs.Model.{two-words}
 use Rattle.serial.specs.Calls as C
 use Rattle.outcomes.specs.Said.{said, Stepped, moved}
 use Rattle.outcomes.specs.declared.Moved.{Moved}
-use Rattle.machine.specs.Logic.{either}
+use Rattle.machine.specs.Logic.{either, eqb-is, eqb-not}
 use Rattle.machine.specs.Holders.{width, latch-word, elem}
 use Rattle.machine.specs.Tree.{pick}
 use Rattle.machine.specs.State.{State, Tree, same, Desc, Request, Stage, start, enter, at, change, take, Outcome, more, descOf, no-desc, stored, gap-below}
@@ -59,7 +59,11 @@ use Rattle.taking.specs.Taking.{inWayOf, foundIn, passStep, doneStep, shortStep
 use Rattle.taking.specs.Taking as K
 use Rattle.taking.specs.Moves.{take-moves, take-list, take-next}
 use Rattle.taking.specs.Ready.{take-ready}
+use Rattle.members.specs.Members.{unpinAt}
+use Rattle.endings.specs.Table.{idled}
+use Rattle.finishing.specs.Finishing.{endRequest, latch-none, low-none, low-some, high-none, first-pins, pinned-4, pinned-other, end-run}
 use Rattle.promises.specs.Relations.{stays}
+use Rattle.promises.specs.Assembling.{is-refused, no-refusal}
 
 -- ---- what a step leaves
 
@@ -384,6 +388,170 @@ marked-least k n w (suc h) u (inr g) = sons (u .sons) (λ v q. marked-least k n 
     sons [] f g = absurd g
     sons (e ∷ es) f (inl g) = f (e .0) g
     sons (e ∷ es) f (inr g) = sons es f g
+
+-- ---- 11 and 12 end the request and write nothing else
+
+abbrev pub Closes : List ℕ → ℕ → Session → Stepped → Type 0
+Closes s m x z = (n k : ℕ) → said (z .answer) ≡ C.refused n k → C.ends-request n ≡ true → (z .words ≡ endRequest s m x) × (z .session ≡ idled x)
+
+only-4 : (k : ℕ) → ¬ (k ≡ 0) → k ≤ 5 → ¬ (k ≡ 1) → ¬ (k ≡ 2) → ¬ (k ≡ 3) → ¬ (k ≡ 5) → k ≡ 4
+only-4 k n l a b c e = five-ways (k ≡ 4) k n l (λ q. absurd (a q)) (λ q. absurd (b q)) (λ q. absurd (c q)) (λ q. q) (λ q. absurd (e q))
+
+module _ (s : List ℕ) (m : ℕ) (x : Session) where
+  E : Stepped → Type 0
+  E = Closes s m x
+
+  goes : (z : Stepped) → is-refused (said (z .answer)) ≡ false → E z
+  unfolding E
+  goes z e = no-refusal (said (z .answer)) e
+
+  ends : (z : Stepped) → z .words ≡ endRequest s m x → z .session ≡ idled x → E z
+  unfolding E
+  ends z a b = λ n k e y. (a, b)
+
+  by-test : (b : Bool) (y z : Stepped) → (b ≡ true → E y) → (b ≡ false → E z) → E (cond b y z)
+  by-test true y z f g = f refl
+  by-test false y z f g = g refl
+
+  -- A request at its first step has no latch and no pin.
+  none-1 : x .stage ≡ 1 → ¬ (x .code ≡ 5) → s ≡ endRequest s m x
+  none-1 e c =
+      let a : ¬ (x .stage ≡ 3) = λ z. omega (arith, z, e) in
+      let b : ¬ (x .stage ≡ 4) = λ z. omega (arith, z, e) in
+      let d : ¬ (x .stage ≡ 5) = λ z. omega (arith, z, e) in
+      end-run s m x (latch-none s m x a) (low-none s m x (first-pins x (pinned-other x b d c) refl)) (high-none s m x d)
+
+  -- One that is to change a group has the pin of first.
+  pin-4 : x .stage ≡ 4 → unpinAt s m (x .low) ≡ endRequest s m x
+  pin-4 e =
+      let a : ¬ (x .stage ≡ 3) = λ z. omega (arith, z, e) in
+      let d : ¬ (x .stage ≡ 5) = λ z. omega (arith, z, e) in
+      end-run s m x (latch-none s m x a) (sym (low-some s m x (first-pins x (pinned-4 x e) refl))) (high-none (unpinAt s m (x .low)) m x d)
+
+  read-closes : (p : ℕ) → E (readStep s p x)
+  unfolding readStep readDone unlessHeld waits
+  read-closes p = let q = entryBlocker s (x .entry) 0 p in either E (eqb q 0) (readDone s p x) (waits s x q) (goes (readDone s p x) refl) (goes (waits s x q) refl)
+
+  write-closes : x .stage ≡ 1 → ¬ (x .code ≡ 5) → (p : ℕ) → E (writeStep s m p x)
+  unfolding writeStep writeFree writeDone unlessHeld waits refuses
+  write-closes e c p =
+      let q = entryBlocker s (x .entry) 1 p in
+      either E (eqb q 0) (writeFree s m p x) (waits s x q)
+      (either E (eqb (headerWord s freePlace) 0) (refuses s x) (writeDone s m p x) (ends (refuses s x) (none-1 e c) refl) (goes (writeDone s m p x) refl)) (goes (waits s x q) refl)
+
+  entry-closes : (p : ℕ) → E (entryStep s p x)
+  unfolding entryStep entryDone unlessHeld waits
+  entry-closes p = let q = entryBlocker s (x .entry) 1 p in either E (eqb q 0) (entryDone s p x) (waits s x q) (goes (entryDone s p x) refl) (goes (waits s x q) refl)
+
+  first-closes : x .stage ≡ 1 → (p : ℕ) → E (firstStep s m p x)
+  unfolding firstStep tidiedNone
+  first-closes e p =
+      either E (eqb (x .code) 1) (readStep s p x) (cond (eqb (x .code) 2) (writeStep s m p x) (cond (leb (x .code) 4) (entryStep s p x) (tidiedNone s x))) (read-closes p)
+      (by-test (eqb (x .code) 2) (writeStep s m p x) (cond (leb (x .code) 4) (entryStep s p x) (tidiedNone s x))
+      (λ q. write-closes e (λ z. omega (arith, z, eqb-is (x .code) 2 q)) p)
+      (λ q. either E (leb (x .code) 4) (entryStep s p x) (tidiedNone s x) (entry-closes p) (goes (tidiedNone s x) refl)))
+
+  enter-closes : (p : ℕ) → E (enterStep s m p x)
+  unfolding enterStep enterFree enterFull rootWaits rootRefused enterHalves halvesAt enterWhole wholeAt
+  enter-closes p =
+      let q = rootInWay s m p in
+      let u = droppedWords s m in
+      either E (eqb q 0) (enterFree s m p x) (rootWaits s x q)
+      (either E (splitsRoot s m p) (enterFull s m p x) (enterWhole u m p x)
+      (either E (hasTwo s m) (enterHalves u m p x) (rootRefused s m x) (goes (enterHalves u m p x) refl) (ends (rootRefused s m x) refl refl)) (goes (enterWhole u m p x) refl)) (goes (rootWaits s x q) refl)
+
+  mend-closes : (p i : ℕ) (first : Bool) (other down : ℕ) → E (mendBy s m p x i first other down)
+  mend-closes p i first other down =
+      either E (leb other 5) (joinStep s m p x i down) (cond first (W.leftStep s m p x i down) (rightStep s m p x i down)) (goes (joinStep s m p x i down) refl)
+      (either E first (W.leftStep s m p x i down) (rightStep s m p x i down) (goes (W.leftStep s m p x i down) refl) (goes (rightStep s m p x i down) refl))
+
+  pair-closes : (p : ℕ) → E (pairStep s m p x)
+  unfolding pairStep mendStep
+  pair-closes p =
+      let n = nodeAt s m (x .at) in
+      let i = pairPlace n (x .target) in
+      let first = eqb (sonFor n (x .target)) 0 in
+      let b = firstInWay p (nodeAt s m (sonAt s m (x .at) i) .latch) (nodeAt s m (sonAt s m (x .at) (i + 1)) .latch) in
+      either E (eqb b 0) (mendStep s m p x) (waitsFor s x b)
+      (mend-closes p i first (otherCount s m (x .at) i first) (downBound s m (x .level - 1) (x .at) i)) (goes (waitsFor s x b) refl)
+
+  alone-closes : (p : ℕ) → E (aloneStep s m p x)
+  unfolding aloneStep downStep splitStep plainStep
+  alone-closes p =
+      let a = nodeAt s m (sonToward s m (x .at) (x .target)) in
+      let b = inWay p (a .latch) in
+      either E (eqb b 0) (downStep s m p x) (waitsFor s x b)
+      (either E (not (eqb p 0) && eqb (a .count) 8) (splitStep s m p x) (plainStep s m p x)
+      (either E (hasFree s m 1) (halvedStep s m p x) (refusedFull s m x) (goes (halvedStep s m p x) refl) (ends (refusedFull s m x) refl refl)) (goes (plainStep s m p x) refl)) (goes (waitsFor s x b) refl)
+
+  level-closes : (p : ℕ) → E (levelStep s m p x)
+  unfolding levelStep
+  level-closes p = either E (eqb p 0 && eqb (nodeAt s m (sonToward s m (x .at) (x .target)) .count) 3) (pairStep s m p x) (aloneStep s m p x) (pair-closes p) (alone-closes p)
+
+  tidy-closes : (r : ℕ) → E (tidyStep s m r x)
+  unfolding tidyStep goneStep leftStep
+  tidy-closes r =
+      let b = predOf s m r (x .target) in
+      let d = sonToward s m (x .at) (x .target) in
+      either E (removable (descriptorAt s m d) (descriptorAt s m b .gap)) (goneStep s m b d x) (leftStep s m x) (goes (goneStep s m b d x) refl) (goes (leftStep s m x) refl)
+
+  session-closes : (r : ℕ) → E (sessionStep s m r x)
+  unfolding sessionStep pinStep makeStep fullStep madeStep
+  session-closes r =
+      either E (eqb (wordOf s m (sonToward s m (x .at) (x .target)) 1) (x .target)) (pinStep s m x) (makeStep s m r x) (goes (pinStep s m x) refl)
+      (either E (eqb (headerWord s freePlace) 0) (fullStep s m x) (madeStep s m r x) (ends (fullStep s m x) refl refl) (goes (madeStep s m r x) refl))
+
+  low-closes : (r p : ℕ) → E (lowestStep s m r p x)
+  unfolding lowestStep
+  low-closes r p = either E (eqb p 0) (tidyStep s m r x) (sessionStep s m r x) (tidy-closes r) (session-closes r)
+
+  code-closes : x .stage ≡ 4 → (p i : ℕ) → E (codeStep s m p x (x .low) i)
+  unfolding codeStep insertStep roomStep addStep refuseStep keepStep removeStep G.takeStep
+  code-closes e p i =
+      let d = x .low in
+      either E (eqb (x .code) 3) (insertStep s m p x d i) (removeStep s m p x d i)
+      (either E (eqb i 0) (roomStep s m p x d) (keepStep s m p x d)
+      (either E (G.hasTwo s m) (addStep s m p x d) (refuseStep s m x d) (goes (addStep s m p x d) refl) (ends (refuseStep s m x d) (pin-4 e) refl)) (goes (keepStep s m p x d) refl))
+      (either E (eqb i 0) (keepStep s m p x d) (G.takeStep s m p x d i) (goes (keepStep s m p x d) refl) (goes (G.takeStep s m p x d i) refl))
+
+  change-closes : x .stage ≡ 4 → (r p : ℕ) → E (changeStep s m r p x)
+  unfolding changeStep changeAt G.waitStep
+  change-closes e r p =
+      let d = x .low in
+      let q : ℕ = changeBlocker s m d p in
+      let i = memberOf s m r (descriptorAt s m d .first) (x .entry) in
+      either E (eqb q 0) (codeStep s m p x d i) (G.waitStep s x q) (code-closes e p i) (goes (G.waitStep s x q) refl)
+
+  take-closes : (r n p : ℕ) → E (takeStep s m r n p x)
+  unfolding takeStep K.waitStep freeStep passStep lastStep doneStep shortStep
+  take-closes r n p =
+      let d = nextTaken s m r x in
+      let q = inWayOf s m d p in
+      let f = foundIn s m r x in
+      either E (eqb q 0) (freeStep s m r n d p x) (K.waitStep s q x)
+      (either E (ltb (wordOf s m d 1) (x .second)) (passStep s m d p x) (lastStep s m r n d p x) (goes (passStep s m d p x) refl)
+      (either E (leb (2 * f) n) (doneStep s m d p x f) (shortStep s m x f) (goes (doneStep s m d p x f) refl) (ends (shortStep s m x f) refl refl))) (goes (K.waitStep s q x) refl)
+
+  node-closes : (r p : ℕ) → E (nodeStep s m r p x)
+  unfolding nodeStep
+  node-closes r p = either E (eqb (x .level) 1) (lowestStep s m r p x) (levelStep s m p x) (low-closes r p) (level-closes p)
+
+  early-closes : ¬ (x .stage ≡ 0) → x .stage ≤ 5 → ¬ (x .stage ≡ 5) → (r p : ℕ) → E (earlyStep s m r p x)
+  unfolding earlyStep
+  early-closes a l b r p =
+      by-test (eqb (x .stage) 1) (firstStep s m p x) (cond (eqb (x .stage) 2) (enterStep s m p x) (cond (eqb (x .stage) 3) (nodeStep s m r p x) (changeStep s m r p x))) (λ e. first-closes (eqb-is (x .stage) 1 e) p)
+      (λ c. by-test (eqb (x .stage) 2) (enterStep s m p x) (cond (eqb (x .stage) 3) (nodeStep s m r p x) (changeStep s m r p x)) (λ e. enter-closes p)
+      (λ d. by-test (eqb (x .stage) 3) (nodeStep s m r p x) (changeStep s m r p x) (λ e. node-closes r p)
+      (λ e. change-closes (only-4 (x .stage) a l (eqb-not (x .stage) 1 c) (eqb-not (x .stage) 2 d) (eqb-not (x .stage) 3 e) b) r p)))
+
+  all-close : ¬ (x .stage ≡ 0) → x .stage ≤ 5 → (r n p : ℕ) → E (stageStep s m r n p x)
+  unfolding stageStep
+  all-close a l r n p =
+      by-test (eqb (x .stage) 5) (takeStep s m r n p x) (earlyStep s m r p x) (λ e. take-closes r n p) (λ e. early-closes a l (eqb-not (x .stage) 5 e) r p)
+
+  pub stage-closes : ¬ (x .stage ≡ 0) → x .stage ≤ 5 → (r n p : ℕ) → Closes s m x (stageStep s m r n p x)
+  unfolding E
+  stage-closes a l r n p = all-close a l r n p
 
 -- ---- the step is the machine's
 

@@ -1,5 +1,5 @@
 -- The ways out of a step.
-use mathlib.Core.Path.{_≡_, sym, ap, subst, _∙_}
+use mathlib.Core.Path.{_≡_, refl, sym, ap, subst, _∙_}
 use mathlib.Core.Bool.{cond, not}
 use mathlib.Core.List.{List, []}
 use mathlib.Core.Option.{some}
@@ -28,15 +28,15 @@ use Rattle.layout.specs.Asked.{request-in, hand-means, set-same}
 use Rattle.taking.specs.Taking.{over}
 use Rattle.refusals.specs.Refusing.{first-of, begun-in, hand-in, step-list, step-refused}
 use Rattle.promises.specs.Relations.{outcome}
-use Rattle.promises.specs.Assembling.{stands-means, answered-by, set-others}
+use Rattle.promises.specs.Assembling.{first-not-ending, stands-means, answered-by, set-others}
 use Rattle.promises.specs.Ways.{Serves, none-true, any-party, serve-refused}
-use Rattle.promises.specs.Stepping.{stageStep, stageWritten, StageReady, LeavesBoth, stage-still, stage-moves, stage-list, stage-ready}
+use Rattle.promises.specs.Stepping.{stageStep, stageWritten, StageReady, LeavesBoth, stage-still, stage-closes, stage-moves, stage-list, stage-ready}
 
 pub step-refuses : (s : List ℕ) (t : List Session) (p : ℕ) (l : List ℕ) (n : ℕ) → Sound s t → n ≡ first-of (step-list t p) → ¬ (n ≡ 0) → Serves (C.step p l) s t (C.refused n 0) l s t
 unfolding call
 step-refuses s t p l n A e z =
     let o = steps p (length l) (sessionOf p (meaning s t) .hand) (meaning s t) in
-    serve-refused (C.step p l) s t n (first-of (step-list t p)) o A e z (step-refused s t A p o)
+    serve-refused (C.step p l) s t n (first-of (step-list t p)) o A e z (first-not-ending (step-list t p) (refl, (refl, (refl, tt)))) (step-refused s t A p o)
 
 -- A request is in hand.
 pub has-hand : (t : List Session) (p : ℕ) → first-of (step-list t p) ≡ 0 → ¬ (session-at t p .stage ≡ 0)
@@ -88,6 +88,7 @@ module _ (s : List ℕ) (t : List Session) (p : ℕ) (l : List ℕ) (A : Sound s
       answered-by (C.step p l) s t A (over-state (meaning s t)) outcome-is (said (done-step .answer)) (over (stageWritten s (M-of s) (R-of s) (length l) p x) l) (done-step .words) (set t p (done-step .session))
       (moves .tells) written-is (moves .becomes)
       (λ q. let e = stage-still s x (M-of s) (R-of s) (length l) p q in (e .0, ap (set t p) (e .1) ∙ set-same t p))
+      (λ i k q y. let e = stage-closes s (M-of s) x (has-hand t p z) (B .holds .hands p party .stage) (R-of s) (length l) p i k q y in (e .0, ap (set t p) (e .1)))
       (set-others t p (done-step .session)) tt
 
 -- ---- the run of the code, as equations

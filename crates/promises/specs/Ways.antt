@@ -38,7 +38,7 @@ use Rattle.endings.specs.Fresh.{freshStore, Roomy}
 use Rattle.refusals.specs.Refusing.{first-of, begun-in, begin-list, put-list, commit-list, abort-list, begin-refused, put-refused, commit-refused, abort-refused}
 use Rattle.refusals.specs.Coded.{format-refused}
 use Rattle.promises.specs.Relations.{outcome, Calls, Formats, Answered, Around, list-of}
-use Rattle.promises.specs.Assembling.{stands-means, answered-by, answered-refused, set-others}
+use Rattle.promises.specs.Assembling.{is-refused, no-refusal, first-not-ending, stands-means, answered-by, answered-refused, set-others}
 
 -- What a call on sound words promises.
 abbrev pub Serves : C.Call → List ℕ → List Session → C.Answer → List ℕ → List ℕ → List Session → Type 0
@@ -95,7 +95,7 @@ begin-done s t p e A =
     let unbegun : session-at t p .begun ≡ 0 = not-begun (eqb p 0) (session-at t p .begun) (y .0) in
     let becomes = subst (λ z. Becomes s s (set t p (newlyBegun (session-at t p))) (begins p z)) (stands-means s t B) (begin-becomes s t B p (n .0) (n .1) unbegun) in
     answered-by (C.begin p) s t A (answer ok (begins p σ)) (begin-refused s t A p (answer ok (begins p σ)) ∙ accept (first-of (begin-list t p)) (answer ok (begins p σ)) (answer (refused (first-of (begin-list t p)) 0) σ) e)
-    C.ok [] s (set t p (newlyBegun (session-at t p))) refl refl becomes (λ q. absurd (true≢false {b = false} q refl)) (set-others t p (newlyBegun (session-at t p))) refl
+    C.ok [] s (set t p (newlyBegun (session-at t p))) refl refl becomes (λ q. absurd (true≢false {b = false} q refl)) (no-refusal C.ok refl) (set-others t p (newlyBegun (session-at t p))) refl
 
 -- ---- put
 
@@ -112,7 +112,7 @@ put-done s t p c e f g z A =
     let l : p ≤ width = omega (arith, leb-not (suc width) p (x .0)) in
     let becomes = subst (λ z. Becomes s s t′ (accepted p c e f g z)) (stands-means s t B) (put-becomes s t B p l c e f g) in
     answered-by (C.put p c e f g) s t A o (put-refused s t A p c e f g o ∙ accept n o (answer (refused n 0) σ) z)
-    C.ok [] s t′ refl refl becomes (λ q. absurd (true≢false {b = false} q refl)) (set-others t p (asked s (M-of s) (R-of s) (session-at t p) c e f g)) refl
+    C.ok [] s t′ refl refl becomes (λ q. absurd (true≢false {b = false} q refl)) (no-refusal C.ok refl) (set-others t p (asked s (M-of s) (R-of s) (session-at t p) c e f g)) refl
 
 -- ---- commit
 
@@ -132,7 +132,7 @@ commit-done s t (suc k) z A =
     let x = none-true 4 (no-session p) _ (λ q. omega (arith, q)) z in
     let becomes = subst (λ z. Becomes s s′ t′ (commits p z)) (stands-means s t B) (commit-becomes s t B k (session-number p (x .0) .1)) in
     answered-by (C.commit p) s t A o (commit-refused s t A p o ∙ accept n o (answer (refused n 0) σ) z)
-    C.ok [] s′ t′ refl refl becomes (λ q. absurd (true≢false {b = false} q refl)) (set-others t p (unbegun (session-at t p))) tt
+    C.ok [] s′ t′ refl refl becomes (λ q. absurd (true≢false {b = false} q refl)) (no-refusal C.ok refl) (set-others t p (unbegun (session-at t p))) tt
 
 -- ---- abort
 
@@ -150,7 +150,7 @@ abort-done s t p z A =
     let k = session-number p (x .0) in
     let becomes = subst (λ z. Becomes s s′ t′ (aborts p z)) (stands-means s t B) (abort-becomes s t B p (k .0) (k .1)) in
     answered-by (C.abort p) s t A o (abort-refused s t A p o ∙ accept n o (answer (refused n 0) σ) z)
-    C.ok [] s′ t′ refl refl becomes (λ q. absurd (true≢false {b = false} q refl)) (set-others t p (unbegun (session-at t p))) tt
+    C.ok [] s′ t′ refl refl becomes (λ q. absurd (true≢false {b = false} q refl)) (no-refusal C.ok refl) (set-others t p (unbegun (session-at t p))) tt
 
 -- ---- format
 
@@ -165,13 +165,6 @@ format-sizes m r e =
     go false false true e = absurd (true≢false {b = true} refl e)
     go false true c e = absurd (true≢false {b = true} refl e)
     go true b c e = absurd (true≢false {b = true} refl e)
-
-abbrev pub is-refused : C.Answer → Bool
-is-refused C.ok = false
-is-refused C.more = false
-is-refused (C.wait p) = false
-is-refused (C.done ns) = false
-is-refused (C.refused n k) = true
 
 not-ok : (n : ℕ) → C.refused n 0 ≡ C.ok → ⊥
 not-ok n e = true≢false {b = true} refl (ap is-refused e)
@@ -214,30 +207,31 @@ format-done s t m z =
 -- ---- the runs of the code, as equations
 
 -- Refused by number.
-pub serve-refused : (c : C.Call) (s : List ℕ) (t : List Session) (n f : ℕ) (o : Outcome) → Sound s t → n ≡ f → ¬ (n ≡ 0)
+pub serve-refused : (c : C.Call) (s : List ℕ) (t : List Session) (n f : ℕ) (o : Outcome) → Sound s t → n ≡ f → ¬ (n ≡ 0) → C.ends-request f ≡ false
     → outcome c s t ≡ cond (eqb f 0) o (answer (refused f 0) (meaning s t)) → Serves c s t (C.refused n 0) (list-of c) s t
-serve-refused c s t n f o A e z q =
+serve-refused c s t n f o A e z y q =
     subst (λ k. Serves c s t (C.refused k 0) (list-of c) s t) (sym e)
-    (answered-refused c s t A f (q ∙ ap (λ b. cond b o (answer (refused f 0) (meaning s t))) (ne-eqb f 0 (λ k. z (e ∙ k)))))
+    (answered-refused c s t A f y (q ∙ ap (λ b. cond b o (answer (refused f 0) (meaning s t))) (ne-eqb f 0 (λ k. z (e ∙ k)))))
 
 pub begin-refuses : (s : List ℕ) (t : List Session) (p n : ℕ) → Sound s t → n ≡ first-of (begin-list t p) → ¬ (n ≡ 0) → Serves (C.begin p) s t (C.refused n 0) [] s t
 unfolding call
-begin-refuses s t p n A e z = let o = answer ok (begins p (meaning s t)) in serve-refused (C.begin p) s t n (first-of (begin-list t p)) o A e z (begin-refused s t A p o)
+begin-refuses s t p n A e z = let o = answer ok (begins p (meaning s t)) in serve-refused (C.begin p) s t n (first-of (begin-list t p)) o A e z (first-not-ending (begin-list t p) (refl, (refl, tt))) (begin-refused s t A p o)
 
 pub put-refuses : (s : List ℕ) (t : List Session) (p c e f g m n : ℕ) → Sound s t → m ≡ M-of s → n ≡ first-of (put-list m t p c e f g) → ¬ (n ≡ 0)
     → Serves (C.put p c e f g) s t (C.refused n 0) [] s t
 unfolding call
 put-refuses s t p c e f g m n A i q z =
     let o = answer ok (accepted p c e f g (meaning s t)) in
-    serve-refused (C.put p c e f g) s t n (first-of (put-list (M-of s) t p c e f g)) o A (q ∙ ap (λ k. first-of (put-list k t p c e f g)) i) z (put-refused s t A p c e f g o)
+    serve-refused (C.put p c e f g) s t n (first-of (put-list (M-of s) t p c e f g)) o A (q ∙ ap (λ k. first-of (put-list k t p c e f g)) i) z
+    (first-not-ending (put-list (M-of s) t p c e f g) (refl, (refl, (refl, (refl, (refl, (refl, (refl, tt)))))))) (put-refused s t A p c e f g o)
 
 pub commit-refuses : (s : List ℕ) (t : List Session) (p n : ℕ) → Sound s t → n ≡ first-of (commit-list t p) → ¬ (n ≡ 0) → Serves (C.commit p) s t (C.refused n 0) [] s t
 unfolding call
-commit-refuses s t p n A e z = let o = answer ok (commits p (meaning s t)) in serve-refused (C.commit p) s t n (first-of (commit-list t p)) o A e z (commit-refused s t A p o)
+commit-refuses s t p n A e z = let o = answer ok (commits p (meaning s t)) in serve-refused (C.commit p) s t n (first-of (commit-list t p)) o A e z (first-not-ending (commit-list t p) (refl, (refl, (refl, tt)))) (commit-refused s t A p o)
 
 pub abort-refuses : (s : List ℕ) (t : List Session) (p n : ℕ) → Sound s t → n ≡ first-of (abort-list t p) → ¬ (n ≡ 0) → Serves (C.abort p) s t (C.refused n 0) [] s t
 unfolding call
-abort-refuses s t p n A e z = let o = answer ok (aborts p (meaning s t)) in serve-refused (C.abort p) s t n (first-of (abort-list t p)) o A e z (abort-refused s t A p o)
+abort-refuses s t p n A e z = let o = answer ok (aborts p (meaning s t)) in serve-refused (C.abort p) s t n (first-of (abort-list t p)) o A e z (first-not-ending (abort-list t p) (refl, (refl, tt))) (abort-refused s t A p o)
 
 -- The party is one of the 17.
 pub session-party : (p : ℕ) (cs : List (ℕ × Bool)) → first-of ((4, no-session p) ∷ cs) ≡ 0 → p ≤ 16
@@ -324,6 +318,7 @@ format-answers s t m z =
       means = a .1 ∙ sym (ap (λ w. w .next) e);
       long = F .long;
       still = λ k. absurd (true≢false {b = false} k refl);
+      ended = no-refusal C.ok refl;
       others = tt;
       kept = tt;
     }
@@ -333,4 +328,5 @@ pub format-refused-answers : (s : List ℕ) (t : List Session) (m : ℕ) → Sou
 unfolding call
 format-refused-answers s t m A n =
     let o = answer ok (fresh m (records-for m (length s))) in
-    serve-refused (C.format m) s t (first-of (format-checks m (length s))) (first-of (format-checks m (length s))) o A refl n (format-refused m (length s) (meaning s t) o) .0
+    serve-refused (C.format m) s t (first-of (format-checks m (length s))) (first-of (format-checks m (length s))) o A refl n
+    (first-not-ending (format-checks m (length s)) (refl, tt)) (format-refused m (length s) (meaning s t) o) .0
