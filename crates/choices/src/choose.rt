@@ -1,7 +1,4 @@
 // Choose: the next call, by chance.
-use crate::call;
-use crate::call::Call;
-use crate::call::plain;
 use crate::keys::GROW;
 use crate::keys::MIX;
 use crate::keys::RISE;
@@ -20,6 +17,9 @@ use books::book::SESSIONS;
 use books::book::TURNS;
 use books::book::WAITED;
 use books::book::hand;
+use books::call;
+use books::call::Call;
+use books::call::plain;
 use schedules::logs::Logs;
 use schedules::logs::finished;
 use schedules::random::below;

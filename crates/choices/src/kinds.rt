@@ -1,7 +1,4 @@
 // Kinds: what a round is like, by its number: how large, which keys, how many calls, and what the sessions are at.
-use crate::call::Call;
-use crate::call::FORMAT;
-use crate::call::plain;
 use crate::keys::GROW;
 use crate::keys::MIX;
 use crate::keys::RISE;
@@ -23,6 +20,9 @@ use books::book::TURNS;
 use books::book::WAITED;
 use books::book::WORDS;
 use books::book::set_hand;
+use books::call::Call;
+use books::call::FORMAT;
+use books::call::plain;
 use schedules::content::Content;
 use schedules::content::clear;
 use schedules::logs::Logs;

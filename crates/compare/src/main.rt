@@ -8,8 +8,8 @@ mod make;
 mod rounds;
 
 use books::book::BOOK;
+use books::call::LISTS;
 use books::report::report;
-use choices::call::LISTS;
 use rounds::round;
 use schedules::content::CONTENT;
 use schedules::logs::LOGS;

@@ -4,13 +4,10 @@ use books::book::Book;
 use books::book::EVERY;
 use books::book::Model;
 use books::book::is_due;
+use books::call::Call;
+use books::call::Lists;
+use books::call::store_words;
 use books::looks::see;
-use choices::answers::see_call;
-use choices::call::Call;
-use choices::call::Lists;
-use choices::call::store_words;
-use choices::hands::after;
-use choices::model::on_model;
 use comparing::content::see_copy;
 use comparing::judge::judge;
 use comparing::serve::on_store;
@@ -19,6 +16,9 @@ use schedules::logs::Logs;
 use schedules::words::SIDE;
 use schedules::words::Side;
 use schedules::words::copy;
+use turns::answers::see_call;
+use turns::hands::after;
+use turns::model::on_model;
 
 // What is compared whole, at every so many calls.
 fn see_due(s: &Side, a: &Model, b: &mut Book) {

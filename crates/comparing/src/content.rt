@@ -2,13 +2,12 @@
 use crate::serve::on_store;
 use books::book::Book;
 use books::book::WORDS;
+use books::call::ABORT;
+use books::call::LISTS;
+use books::call::Lists;
+use books::call::plain;
 use books::contents::see_all;
 use books::seats::is_begun;
-use choices::answers::see_abort;
-use choices::call::ABORT;
-use choices::call::LISTS;
-use choices::call::Lists;
-use choices::call::plain;
 use choices::choose::in_sequence;
 use schedules::content::Content;
 use schedules::random::random;
@@ -16,6 +15,7 @@ use schedules::words::SIDE;
 use schedules::words::Side;
 use schedules::words::copy;
 use schedules::words::get;
+use turns::answers::see_abort;
 
 fn abort_one(s: &mut Side, lists: &mut Lists, b: &mut Book, p: u32) {
     if !is_begun(s, p) {

@@ -3,17 +3,17 @@
 use crate::serve::on_store;
 use books::book::Book;
 use books::book::WORDS;
+use books::call::BEGIN;
+use books::call::LISTS;
+use books::call::plain;
 use books::checks::ask_checker;
 use books::checks::is_sound;
 use books::checks::note_damage;
-use choices::call::BEGIN;
-use choices::call::LISTS;
-use choices::call::plain;
-use choices::damage::change;
 use schedules::words::SIDE;
 use schedules::words::Side;
 use schedules::words::copy;
 use schedules::words::get;
+use turns::damage::change;
 
 // Party 17 is refused by 4, and by 2 before that.
 fn is_taken(s: &mut Side, words: u32) -> bool {

@@ -1,8 +1,8 @@
--- `choices::hands::mixed_list` is safe and ends.
+-- `turns::hands::mixed_list` is safe and ends.
 use Prim.Native.Nat.{_-_}
 use borrow.Author.Needs.{needs}
-use Rattle.choices.proofs.hands.mixed_list.Statement.{statement}
-use Rattle.choices.proofs.hands.mixed_list.Tie as tie
+use Rattle.turns.proofs.hands.mixed_list.Statement.{statement}
+use Rattle.turns.proofs.hands.mixed_list.Tie as tie
 
 abbrev Inv-loop : tie.InvT-loop
 Inv-loop lists pairs n words₀ i₀ words i = Unit {0}

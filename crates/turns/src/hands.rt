@@ -1,7 +1,4 @@
 // Hands: what a call means for the request in hand and for the logical model, read off the call and its answer alone.
-use crate::call;
-use crate::call::Call;
-use crate::call::Lists;
 use books::book::Book;
 use books::book::COMMIT;
 use books::book::COMMITTED;
@@ -13,6 +10,9 @@ use books::book::WAITED;
 use books::book::differ;
 use books::book::hand;
 use books::book::set_hand;
+use books::call;
+use books::call::Call;
+use books::call::Lists;
 use naive_steps::party::Said;
 use schedules::content;
 use schedules::content::Answered;

@@ -1,16 +1,16 @@
 // Model: a call made on the second model.
-use crate::call::BEGIN;
-use crate::call::COMMIT;
-use crate::call::Call;
-use crate::call::FORMAT;
-use crate::call::LIST;
-use crate::call::Lists;
-use crate::call::PUT;
-use crate::call::REFUSED;
-use crate::call::STEP;
-use crate::call::listed;
-use crate::call::say;
 use books::book::Model;
+use books::call::BEGIN;
+use books::call::COMMIT;
+use books::call::Call;
+use books::call::FORMAT;
+use books::call::LIST;
+use books::call::Lists;
+use books::call::PUT;
+use books::call::REFUSED;
+use books::call::STEP;
+use books::call::listed;
+use books::call::say;
 use naive_steps::party::Said;
 
 fn step_model(a: &mut [u32], lists: &mut [u32], p: u32, listed: usize) -> Said {

@@ -1,6 +1,6 @@
 // Call: a call by its kind, party and numbers; the words of its answer; the lists that are lent.
-use books::book::Book;
-use books::book::WORDS;
+use crate::book::Book;
+use crate::book::WORDS;
 use naive_steps::party::Said;
 use schedules::words::get;
 use schedules::words::wide;

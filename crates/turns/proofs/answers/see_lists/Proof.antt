@@ -1,8 +1,8 @@
--- `choices::answers::see_lists` is safe and ends.
+-- `turns::answers::see_lists` is safe and ends.
 use Prim.Native.Nat.{_-_}
 use borrow.Author.Needs.{needs}
-use Rattle.choices.proofs.answers.see_lists.Statement.{statement}
-use Rattle.choices.proofs.answers.see_lists.Tie as tie
+use Rattle.turns.proofs.answers.see_lists.Statement.{statement}
+use Rattle.turns.proofs.answers.see_lists.Tie as tie
 
 abbrev Inv-loop : tie.InvT-loop
 Inv-loop b lists x₀ i₀ x i = Unit {0}

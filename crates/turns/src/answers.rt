@@ -1,8 +1,4 @@
 // Answers: what the store and the model said, compared and counted, and which words a call may change.
-use crate::call;
-use crate::call::Call;
-use crate::call::LIST;
-use crate::call::Lists;
 use books::book::ABORT;
 use books::book::ANSWERED;
 use books::book::BESIDE;
@@ -23,6 +19,10 @@ use books::book::UNCHANGED;
 use books::book::WORD;
 use books::book::differ;
 use books::book::same;
+use books::call;
+use books::call::Call;
+use books::call::LIST;
+use books::call::Lists;
 use naive_steps::party::Said;
 use schedules::words::Side;
 use schedules::words::TABLE;
