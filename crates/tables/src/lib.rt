@@ -1,7 +1,8 @@
 // Tables: a lent session table. Its 17 records are loaded by value, one is stored back, or all are.
 //
-// A lent table is a slice of session records, here of 17, which the caller has tested. What is loaded are the records as they stand; what is stored is what was passed, and no
-// other record changes. Each of the three is walked by hand, as a slice of structs is, and proofs/Callees has their calls as steps of a caller's walk. It rests on sessions alone.
+// A lent table is a slice of session records. Each function asks that there are 17, which its caller tests. What is loaded is the records as they stand; what
+// is stored is what was passed, and no other record changes. The three are proved by hand, step by step, and proofs/Callees has a call of each as one step of
+// a caller's proof. It rests on sessions alone.
 ghost use mathlib.Core.Path.{_≡_};
 ghost use Prim.Native.Nat.{_<_};
 ghost use lib.ListN.{length, set, replicate};
