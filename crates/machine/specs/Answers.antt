@@ -87,13 +87,13 @@ module _ (P : Outcome → Type 0) (p : ℕ) (r : Request) (s : State) (plain : (
   unfolding finished
   finished-plain ns t = plain (done ns) (ended p r t) refl
 
-  first-plain : P (first-step p r s)
+  pub first-plain : P (first-step p r s)
   unfolding first-step read-step write-step entry-step
   first-plain = either P (eqb (r .code) 1) (read-step p r s) _ (guard-plain _ 0 _ (finished-plain _ _))
       (either P (eqb (r .code) 2) (write-step p r s) _ (guard-plain _ 1 _ (finished-plain _ _))
       (either P (leb (r .code) 4) (entry-step p r s) (finished p r (0 ∷ 0 ∷ []) s) (guard-plain _ 0 _ (goes-plain _ _)) (finished-plain _ _)))
 
-  enter-plain : (x : ℕ) → P (enter-step p r x s)
+  pub enter-plain : (x : ℕ) → P (enter-step p r x s)
   unfolding enter-step
   enter-plain x = guard-plain _ _ _ (goes-plain _ _)
 
@@ -108,11 +108,11 @@ module _ (P : Outcome → Type 0) (p : ℕ) (r : Request) (s : State) (plain : (
   stand-plain x zero t = lowest-plain x (pick x no-desc same (t .sons))
   stand-plain x (suc h) t = guard-plain _ _ _ (goes-plain _ _)
 
-  at-plain : (x : ℕ) → P (at-step p r x s)
+  pub at-plain : (x : ℕ) → P (at-step p r x s)
   unfolding at-step
   at-plain x = latch-cases P (latch-word p) x (answer more s) (stand-step p r x s) (suc (s .root .height)) (s .root .node) (plain more s refl) (stand-plain x)
 
-  change-plain : P (change-step p r s)
+  pub change-plain : P (change-step p r s)
   unfolding change-step insert-step remove-step
   change-plain =
       let d = descOf (r .first) s in

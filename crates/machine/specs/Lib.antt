@@ -67,13 +67,14 @@ pub mod Abort
 pub mod Session
 pub mod Moves
 pub mod Safety
--- Demand 2: waits, going forward, long locks, answers.
+-- Demand 2: waits, going forward, long locks, answers; what a step needs.
 pub mod Waits
 pub mod Forward
 pub mod Ledger
 pub mod Grows
 pub mod Held
 pub mod Answers
+pub mod Needs
 -- Demand 3.
 pub mod Demand
 pub mod Told

@@ -4,7 +4,7 @@ use mathlib.Core.Bool.{Bool, true, false}
 use mathlib.Core.List.{List, [], _∷_, _++_}
 use mathlib.Core.Logic.{_↔_}
 use mathlib.Core.Option.{some}
-use Prim.Native.Nat.{ℕ, zero, suc}
+use Prim.Native.Nat.{ℕ, zero, suc, _<_}
 use lib.ListN.{length, drop}
 use Rattle.sessions.specs.declared.Session.{Session}
 use Rattle.serial.specs.Serial.{true≢false}
@@ -18,10 +18,11 @@ use Rattle.machine.specs.Calls.{Call, call}
 use Rattle.machine.specs.View.{items, holders}
 use Rattle.machine.specs.Session.{req-of}
 use Rattle.machine.specs.Ledger.{next-ledger}
-use Rattle.machine.specs.Answers.{Logical, Untouched, AsModel, answers-as-model, leaves-logical, may-change}
+use Rattle.machine.specs.Answers.{Logical, Untouched, AsModel, answers-as-model, leaves-logical, may-change, TooShort}
 use Rattle.machine.specs.Held.{ledger-step, descents-keep, unseen-step}
 use Rattle.machine.specs.Waits.{WaitsFor, step-blockers, step-waits, waiting}
 use Rattle.machine.specs.Forward.{Ahead, Onward, step-forward}
+use Rattle.machine.specs.Needs.{step-needs, step-11, AtSecond, step-12}
 use Rattle.machine.specs.Demand.{call-of, Tells}
 use Rattle.meaning.specs.Reading.{meaning}
 use Rattle.meaning.specs.Sound.{Sound}
@@ -31,7 +32,7 @@ use Rattle.machine.specs.State.{in-stage}
 use Rattle.sessions.specs.Sessions.{session-at}
 use Rattle.layout.specs.Asked.{request-in}
 use Rattle.promises.specs.Steps.{hand-is, outcome-is, party}
-use Rattle.promises.specs.Demand1.{refusal-of}
+use Rattle.promises.specs.Demand1.{refusal-of, told-refused}
 
 -- A request that is done: it answers, writes and leaves what the logical model does with it.
 pub record Modelled (q : Req) (s : List ℕ) (t : List Session) (l ns l′ s′ : List ℕ) (t′ : List Session) : Type 0 where
@@ -46,8 +47,14 @@ pub record Demand-2 (p : ℕ) (r : Request) (l s : List ℕ) (t : List Session) 
   -- A step waits exactly if another party's lock conflicts with it, and names one whose lock does,
   pub waits : ((q : ℕ) × (a ≡ C.wait q)) ↔ ¬ (step-blockers p r (meaning s t) (r .stage) ≡ [])
   pub names : (q : ℕ) → a ≡ C.wait q → elem q (step-blockers p r (meaning s t) (r .stage)) ≡ true
-  -- and otherwise goes forward or is refused (Demand1.Accepts).
+  -- and otherwise goes forward or is refused (Demand1.Accepts):
   pub forward : a ≡ C.more → (g : Stage) × (sessionOf p (meaning s′ t′) .hand ≡ some (in-stage g r)) × Ahead p r (meaning s t) (r .stage) (meaning s′ t′) g
+  -- 11, with 0 beside it, exactly if nobody is in the way and fewer records are free than this step needs,
+  pub free-records : (k : ℕ)
+      → (a ≡ C.refused 11 k) ↔ ((k ≡ 0) × (step-blockers p r (meaning s t) (r .stage) ≡ []) × (meaning s t .free < step-needs p r (meaning s t) (r .stage)))
+  -- 12 exactly if it is a locate's step at second, nobody is in the way, and the list is shorter than twice the count of memberships in the range, which comes back too.
+  pub list-short : (k : ℕ)
+      → (a ≡ C.refused 12 k) ↔ (AtSecond r (meaning s t) (r .stage) × (step-blockers p r (meaning s t) (r .stage) ≡ []) × TooShort r (meaning s t) (length l) k)
   -- Housekeeping changes no entry, membership or holder.
   pub housekeeping : p ≡ 0 → ((i : Item) → items (meaning s′ t′) i ≡ items (meaning s t) i)
       × ((k : Kind) (m : Mode) (q z : ℕ) → holders (meaning s′ t′) k m q z ≡ holders (meaning s t) k m q z)
@@ -106,6 +113,10 @@ names-from z (b ∷ bs) o a w e q i = let h : Tells (wait (b ∷ bs)) a = subst 
     party-same : (i j : ℕ) → C.wait i ≡ C.wait j → i ≡ j
     party-same i j e = cc
 
+-- A refusal comes exactly if the machine's comes.
+refused-from : (z : Answer) (a : C.Answer) (n k : ℕ) (X : Type 0) → Tells z a → (z ≡ refused n k) ↔ X → (a ≡ C.refused n k) ↔ X
+refused-from z a n k X e h = ((λ i. h .0 (told-refused z n k (subst (Tells z) i e))), λ x. subst (λ y. Tells y a) (h .1 x) e)
+
 module _ (p : ℕ) (l s : List ℕ) (t : List Session) (a : C.Answer) (l′ s′ : List ℕ) (t′ : List Session) (P : Calls (C.step p l) s t a l′ s′ t′) (S : Sound s t)
     (z : refusal-of (C.step p l) s t ≡ 0) where
   abbrev r : Request
@@ -142,6 +153,18 @@ module _ (p : ℕ) (l s : List ℕ) (t : List Session) (a : C.Answer) (l′ s′
   blocked : WaitsFor (meaning s t) (step-blockers p r (meaning s t) (r .stage)) o
   blocked = subst (WaitsFor (meaning s t) (step-blockers p r (meaning s t) (r .stage))) (sym (outcome-is s t p l S z)) (step-waits (length l) p r (meaning s t) (r .stage))
 
+  abbrev Unserved : ℕ → Type 0
+  Unserved k = (k ≡ 0) × (step-blockers p r (meaning s t) (r .stage) ≡ []) × (meaning s t .free < step-needs p r (meaning s t) (r .stage))
+
+  refused-11 : (k : ℕ) → (o .answer ≡ refused 11 k) ↔ Unserved k
+  refused-11 k = subst (λ (x : Outcome). (x .answer ≡ refused 11 k) ↔ Unserved k) (sym (outcome-is s t p l S z)) (step-11 (length l) p r (meaning s t) (r .stage) k)
+
+  abbrev Unlisted : ℕ → Type 0
+  Unlisted k = AtSecond r (meaning s t) (r .stage) × (step-blockers p r (meaning s t) (r .stage) ≡ []) × TooShort r (meaning s t) (length l) k
+
+  refused-12 : (k : ℕ) → (o .answer ≡ refused 12 k) ↔ Unlisted k
+  refused-12 k = subst (λ (x : Outcome). (x .answer ≡ refused 12 k) ↔ Unlisted k) (sym (outcome-is s t p l S z)) (step-12 (length l) p r (meaning s t) (S .state) in-hand k)
+
   onward : a ≡ C.more → (g : Stage) × (sessionOf p (meaning s′ t′) .hand ≡ some (in-stage g r)) × Ahead p r (meaning s t) (r .stage) (meaning s′ t′) g
   onward e =
       let h : Onward p r (meaning s t) (r .stage) (o .answer) (o .next) = subst (λ x. Onward p r (meaning s t) (r .stage) (x .answer) (x .next)) (sym (outcome-is s t p l S z)) (step-forward p r (meaning s t) (S .state) in-hand (length l)) in
@@ -154,6 +177,8 @@ module _ (p : ℕ) (l s : List ℕ) (t : List Session) (a : C.Answer) (l′ s′
     waits = waits-from (meaning s t) (step-blockers p r (meaning s t) (r .stage)) o a blocked (A .tells);
     names = names-from (meaning s t) (step-blockers p r (meaning s t) (r .stage)) o a blocked (A .tells);
     forward = onward;
+    free-records = λ k. refused-from (o .answer) a 11 k (Unserved k) (A .tells) (refused-11 k);
+    list-short = λ k. refused-from (o .answer) a 12 k (Unlisted k) (A .tells) (refused-12 k);
     housekeeping = λ e. subst (λ x. ((i : Item) → items x i ≡ items (meaning s t) i) × ((k : Kind) (m : Mode) (q z : ℕ) → holders x k m q z ≡ holders (meaning s t) k m q z)) (sym (A .means))
         (descents-keep p (length l) (meaning s t) (S .state) (ap (λ k. unseen-step k (meaning s t)) e));
   }
