@@ -96,8 +96,14 @@ runs S (wrong {x} {y} {z} {u} {k} {ks} n d r) =
     let q = runs (subst (λ s. Sound s (x .table)) (sym (w .0)) S) r in
     (q .0, subst (λ s. Run words (lending s (x .table)) (q .0) z) (w .0) (q .1), λ t. q .2 t ∙ sym (ap (λ v. told v ks) (w .1 t)))
 
+pub lendings-sound : {x z : Lending} {ks : List Turn} → Sound-lent x → Lendings x ks z → Sound-lent z
+lendings-sound S over = S
+lendings-sound S (then d r) = lendings-sound (lends-sound S d) r
+lendings-sound S (wrong {x} n d r) = lendings-sound (subst (λ s. Sound s (x .table)) (sym (wrong-table n d .0)) S) r
+
 -- A format that was accepted has a table of 17 records.
-accepted-format : (m : ℕ) (a : Answer) (x x′ : Lending) → On17 Formatted (x .store) (x .table) m a (x′ .store) (x′ .table) → said a ≡ C.ok → Formats m (x .store) (x .table) C.ok (x′ .store) (x′ .table)
+accepted-format : (m : ℕ) (a : Answer) (x x′ : Lending) → On17 Formatted (x .store) (x .table) m a (x′ .store) (x′ .table) → said a ≡ C.ok
+    → Formats m (x .store) (x .table) C.ok (x′ .store) (x′ .table)
 accepted-format m a x x′ h e = go (ℕ-discrete (length (x .table)) parties)
   where
     not-ok : {n k : ℕ} → C.refused n k ≡ C.ok → ⊥
