@@ -7,15 +7,16 @@ use lib.Dec.{T, ltb, ltb→lt}
 use lib.ListN.{length}
 use Rattle.sessions.specs.declared.Session.{Session}
 use Rattle.sessions.specs.Sessions.{parties}
-use Rattle.serial.specs.Calls.{Turn, nothing, told, Run, stop, next, Demand-3}
+use Rattle.serial.specs.Calls.{Turn, nothing, told, Demand-3}
 use Rattle.serial.specs.Calls as C
 use Rattle.serial.specs.Serial.{true≢false}
 use Rattle.outcomes.specs.declared.Answer.{Answer}
 use Rattle.outcomes.specs.Said.{said}
-use Rattle.promises.specs.Demands.{Lending, Returns, words}
+use Rattle.promises.specs.Demands.{Lending, words}
 use Rattle.store.specs.declared.Ask.{Ask}
 use Rattle.store.specs.Lent.{Formatted, Begun, Put, Committed, Aborted}
-use Rattle.store.specs.Turns.{format-turn, begin-turn, put-turn, step-turn, commit-turn, abort-turn, lent-demand-3}
+use Rattle.store.specs.Turns.{turn, Lends, formats, begins, puts, steps, commits, aborts, Lendings, Sound-lent, sound-long, lends-sound, format-sound, lent-demand-3}
+use Rattle.store.specs.Turns as L
 use Rattle.entry_store.specs.Packed.{unpacked, unpacked-packed, Small, Worded, Packs}
 use Rattle.entry_store.specs.Brief.{brief, calls-brief, formats-brief}
 use Rattle.entry_store.specs.Exported.{Told, Stepped}
@@ -73,6 +74,7 @@ pub data Exchanges : Lending → List Exchange → Lending → Type 0 where
   over : {x : Lending} → Exchanges x [] x
   then : {x y z : Lending} {k : Exchange} {ks : List Exchange} → Exported x (k .call) (k .number) (k .list) y → Exchanges y ks z → Exchanges x (k ∷ ks) z
 
+-- It is a return of the store's function (store, specs/Turns), with the answer read off the number.
 module _ (x y : Lending) (r : ℕ) (n : length (x .table) ≡ parties) where
   abbrev s : List ℕ
   s = x .store
@@ -86,32 +88,25 @@ module _ (x y : Lending) (r : ℕ) (n : length (x .table) ≡ parties) where
   abbrev t′ : List Session
   t′ = y .table
 
-  read-off : (c : C.Call) (a : C.Answer) (l : List ℕ) → Packs a r → brief a ≡ true → Returns x (record { call = c; answer = a; list = l }) y → Returns x (record { call = c; answer = unpacked r; list = l }) y
-  read-off c a l P e h = subst (λ z. Returns x (record { call = c; answer = z; list = l }) y) (sym (reads a r P e)) h
+  read-off : (c : C.Call) (a : Answer) (l : List ℕ) → Packs (said a) r → brief (said a) ≡ true → Lends x (turn c a l) y → Lends x (record { call = c; answer = unpacked r; list = l }) y
+  read-off c a l P e h = subst (λ z. Lends x (record { call = c; answer = z; list = l }) y) (sym (reads (said a) r P e)) h
 
-  returns : (c : C.Call) (l : List ℕ) → Exported x c r l y → Returns x (record { call = c; answer = unpacked r; list = list-told c l }) y
-  returns (C.format m) l h = let a = h .answer in read-off (C.format m) (said a) [] (h .packs) (formats-brief m s t (said a) s′ t′ (h .does .0 n)) (format-turn s t a s′ t′ n m (h .does))
-  returns (C.begin p) l h = let a = h .answer in read-off (C.begin p) (said a) [] (h .packs) (calls-brief (C.begin p) s t (said a) [] s′ t′ (h .does .0 n)) (begin-turn s t a s′ t′ n p (h .does))
-  returns (C.put p c e f g) l h =
+  lends : (c : C.Call) (l : List ℕ) → Exported x c r l y → Lends x (record { call = c; answer = unpacked r; list = list-told c l }) y
+  lends (C.format m) l h = let a = h .answer in read-off (C.format m) a [] (h .packs) (formats-brief m s t (said a) s′ t′ (h .does .0 n)) (formats {a = a} (h .does))
+  lends (C.begin p) l h = let a = h .answer in read-off (C.begin p) a [] (h .packs) (calls-brief (C.begin p) s t (said a) [] s′ t′ (h .does .0 n)) (begins {a = a} (h .does))
+  lends (C.put p c e f g) l h =
       let a = h .answer in
       let k : Ask = record { party = p; code = c; entry = e; first = f; second = g } in
-      read-off (C.put p c e f g) (said a) [] (h .packs) (calls-brief (C.put p c e f g) s t (said a) [] s′ t′ (h .does .0 n)) (put-turn s t a s′ t′ n k (h .does))
-  returns (C.step p w) l h = let a = h .answer in read-off (C.step p w) (said a) l (h .packs) (calls-brief (C.step p w) s t (said a) l s′ t′ (h .does .0 n)) (step-turn s t a s′ t′ n w p l (h .does))
-  returns (C.commit p) l h = let a = h .answer in read-off (C.commit p) (said a) [] (h .packs) (calls-brief (C.commit p) s t (said a) [] s′ t′ (h .does .0 n)) (commit-turn s t a s′ t′ n p (h .does))
-  returns (C.abort p) l h = let a = h .answer in read-off (C.abort p) (said a) [] (h .packs) (calls-brief (C.abort p) s t (said a) [] s′ t′ (h .does .0 n)) (abort-turn s t a s′ t′ n p (h .does))
+      read-off (C.put p c e f g) a [] (h .packs) (calls-brief (C.put p c e f g) s t (said a) [] s′ t′ (h .does .0 n)) (puts {k = k} {a = a} (h .does))
+  lends (C.step p w) l h = let a = h .answer in read-off (C.step p w) a l (h .packs) (calls-brief (C.step p w) s t (said a) l s′ t′ (h .does .0 n)) (steps {a = a} (h .does))
+  lends (C.commit p) l h = let a = h .answer in read-off (C.commit p) a [] (h .packs) (calls-brief (C.commit p) s t (said a) [] s′ t′ (h .does .0 n)) (commits {a = a} (h .does))
+  lends (C.abort p) l h = let a = h .answer in read-off (C.abort p) a [] (h .packs) (calls-brief (C.abort p) s t (said a) [] s′ t′ (h .does .0 n)) (aborts {a = a} (h .does))
 
-  -- The table stays of 17 records.
-  long : (c : C.Call) (l : List ℕ) → Exported x c r l y → length (y .table) ≡ parties
-  long (C.format m) l h = h .table-long ∙ n
-  long (C.begin p) l h = h .table-long ∙ n
-  long (C.put p c e f g) l h = h .table-long ∙ n
-  long (C.step p w) l h = h .table-long ∙ n
-  long (C.commit p) l h = h .table-long ∙ n
-  long (C.abort p) l h = h .table-long ∙ n
-
-runs : {x y : Lending} {ks : List Exchange} → length (x .table) ≡ parties → Exchanges x ks y → Run words x (map turn-of ks) y
-runs n over = stop
-runs n (then {x} {y} {z} {k} {ks} d r) = next (returns x y (k .number) n (k .call) (k .list) d) (runs (long x y (k .number) n (k .call) (k .list) d) r)
+lendings : {x y : Lending} {ks : List Exchange} → Sound-lent x → Exchanges x ks y → Lendings x (map turn-of ks) y
+lendings S over = L.over
+lendings S (then {x} {y} {z} {k} {ks} d r) =
+    let h = lends x y (k .number) (sound-long x S) (k .call) (k .list) d in
+    L.then h (lendings (lends-sound S h) r)
 
 -- A format that returned 0, ok, on a table of 17 records; then any list of calls, by any parties: it keeps demand 3.
 pub exported-demand-3 : (m : ℕ) (x x′ : Lending) → length (x .table) ≡ parties → Told Formatted (x .store) (x .table) m 0 (x′ .store) (x′ .table)
@@ -120,4 +115,5 @@ unfolding unpacked
 exported-demand-3 m x x′ n h ks y r =
     let a = h .answer in
     let e = reads (said a) 0 (h .packs) (formats-brief m (x .store) (x .table) (said a) (x′ .store) (x′ .table) (h .does .0 n)) in
-    lent-demand-3 (x .store) (x .table) a (x′ .store) (x′ .table) n m (h .does) (sym e) (map turn-of ks) y (runs (h .table-long ∙ n) r)
+    let ok = sym e in
+    lent-demand-3 m a x x′ (h .does) ok (map turn-of ks) y (lendings (format-sound m a x x′ (h .does) ok) r)

@@ -1,14 +1,18 @@
--- A lent call is a turn of the machine of words (calls, specs/Demands): every list of lent calls on a table of 17 records keeps demand 3.
-use mathlib.Core.Path.{_≡_, subst}
-use mathlib.Core.List.{List, []}
+-- Demand 3 over the six functions of this crate: any list of their returns, each as its contract says, after a format that was accepted.
+use mathlib.Core.Path.{_≡_, refl, sym, ap, subst, _∙_}
+use mathlib.Core.List.{List, [], _∷_}
 use Prim.Native.Nat.{ℕ}
+use native.Mathlib.Decide.{ℕ-discrete}
 use lib.ListN.{length}
 use Rattle.sessions.specs.declared.Session.{Session}
 use Rattle.sessions.specs.Sessions.{parties}
-use Rattle.serial.specs.Calls.{Turn, nothing, told, Run, Demand-3}
+use Rattle.serial.specs.Calls.{Turn, Told, nothing, tell, told, Run, stop, next, Demand-3}
 use Rattle.serial.specs.Calls as C
 use Rattle.outcomes.specs.declared.Answer.{Answer}
+use Rattle.outcomes.specs.declared.Answer.the-variants.{Refused}
 use Rattle.outcomes.specs.Said.{said}
+use Rattle.meaning.specs.Sound.{Sound}
+use Rattle.meaning.specs.Table.{table-many}
 use Rattle.promises.specs.Relations.{Formats}
 use Rattle.promises.specs.Demands.{Lending, Returns, words}
 use Rattle.promises.specs.Promised.{calls-return, formats-return}
@@ -16,31 +20,112 @@ use Rattle.promises.specs.Words.{formatted-calls}
 use Rattle.store.specs.declared.Ask.{Ask}
 use Rattle.store.specs.Lent.{Formatted, Begun, Put, Committed, Aborted, On17, Stepped17}
 
-abbrev lending : List ℕ → List Session → Lending
+abbrev pub lending : List ℕ → List Session → Lending
 lending s t = record { store = s; table = t }
 
-abbrev turn : C.Call → Answer → List ℕ → Turn
+-- A call, its answer as document 01 says it, and the words of the lent list when it returned.
+abbrev pub turn : C.Call → Answer → List ℕ → Turn
 turn c a l = record { call = c; answer = said a; list = l }
 
-module _ (s : List ℕ) (t : List Session) (a : Answer) (s′ : List ℕ) (t′ : List Session) (n : length t ≡ parties) where
-  pub format-turn : (m : ℕ) → On17 Formatted s t m a s′ t′ → Returns (lending s t) (turn (C.format m) a []) (lending s′ t′)
-  format-turn m h = formats-return m s t (said a) s′ t′ (h .0 n)
+-- One return of one of the six functions: what its contract says of store, table and list as they were lent and as they were left. Only step has a list.
+pub data Lends : Lending → Turn → Lending → Type 0 where
+  formats : {x y : Lending} {m : ℕ} {a : Answer} → On17 Formatted (x .store) (x .table) m a (y .store) (y .table) → Lends x (turn (C.format m) a []) y
+  begins : {x y : Lending} {p : ℕ} {a : Answer} → On17 Begun (x .store) (x .table) p a (y .store) (y .table) → Lends x (turn (C.begin p) a []) y
+  puts : {x y : Lending} {k : Ask} {a : Answer} → On17 Put (x .store) (x .table) k a (y .store) (y .table)
+      → Lends x (turn (C.put (k .party) (k .code) (k .entry) (k .first) (k .second)) a []) y
+  steps : {x y : Lending} {p : ℕ} {l l′ : List ℕ} {a : Answer} → Stepped17 (x .store) (x .table) l p a (y .store) (y .table) l′ → Lends x (turn (C.step p l) a l′) y
+  commits : {x y : Lending} {p : ℕ} {a : Answer} → On17 Committed (x .store) (x .table) p a (y .store) (y .table) → Lends x (turn (C.commit p) a []) y
+  aborts : {x y : Lending} {p : ℕ} {a : Answer} → On17 Aborted (x .store) (x .table) p a (y .store) (y .table) → Lends x (turn (C.abort p) a []) y
 
-  pub begin-turn : (p : ℕ) → On17 Begun s t p a s′ t′ → Returns (lending s t) (turn (C.begin p) a []) (lending s′ t′)
-  begin-turn p h = calls-return (C.begin p) s t (said a) [] s′ t′ (h .0 n)
+-- A list of calls, whoever's turn each is. The host lends its store and its table as the call before left them; or its store with a table u that is not of
+-- 17 records, and then keeps its own.
+pub data Lendings : Lending → List Turn → Lending → Type 0 where
+  over : {x : Lending} → Lendings x [] x
+  then : {x y z : Lending} {k : Turn} {ks : List Turn} → Lends x k y → Lendings y ks z → Lendings x (k ∷ ks) z
+  wrong : {x y z : Lending} {u : List Session} {k : Turn} {ks : List Turn} → ¬ (length u ≡ parties) → Lends (lending (x .store) u) k y
+      → Lendings (lending (y .store) (x .table)) ks z → Lendings x (k ∷ ks) z
 
-  pub put-turn : (k : Ask) → On17 Put s t k a s′ t′ → Returns (lending s t) (turn (C.put (k .party) (k .code) (k .entry) (k .first) (k .second)) a []) (lending s′ t′)
-  put-turn k h = calls-return (C.put (k .party) (k .code) (k .entry) (k .first) (k .second)) s t (said a) [] s′ t′ (h .0 n)
+-- On a table of 17 records it is a turn of the machine of words (promises, specs/Demands).
+pub lends-return : {x y : Lending} {k : Turn} → length (x .table) ≡ parties → Lends x k y → Returns x k y
+lends-return n (formats {x} {y} {m} {a} h) = formats-return m (x .store) (x .table) (said a) (y .store) (y .table) (h .0 n)
+lends-return n (begins {x} {y} {p} {a} h) = calls-return (C.begin p) (x .store) (x .table) (said a) [] (y .store) (y .table) (h .0 n)
+lends-return n (puts {x} {y} {k} {a} h) = calls-return (C.put (k .party) (k .code) (k .entry) (k .first) (k .second)) (x .store) (x .table) (said a) [] (y .store) (y .table) (h .0 n)
+lends-return n (steps {x} {y} {p} {l} {l′} {a} h) = calls-return (C.step p l) (x .store) (x .table) (said a) l′ (y .store) (y .table) (h .0 n)
+lends-return n (commits {x} {y} {p} {a} h) = calls-return (C.commit p) (x .store) (x .table) (said a) [] (y .store) (y .table) (h .0 n)
+lends-return n (aborts {x} {y} {p} {a} h) = calls-return (C.abort p) (x .store) (x .table) (said a) [] (y .store) (y .table) (h .0 n)
 
-  pub step-turn : (l : List ℕ) (p : ℕ) (l′ : List ℕ) → Stepped17 s t l p a s′ t′ l′ → Returns (lending s t) (turn (C.step p l) a l′) (lending s′ t′)
-  step-turn l p l′ h = calls-return (C.step p l) s t (said a) l′ s′ t′ (h .0 n)
+abbrev pub Sound-lent : Lending → Type 0
+Sound-lent x = Sound (x .store) (x .table)
 
-  pub commit-turn : (p : ℕ) → On17 Committed s t p a s′ t′ → Returns (lending s t) (turn (C.commit p) a []) (lending s′ t′)
-  commit-turn p h = calls-return (C.commit p) s t (said a) [] s′ t′ (h .0 n)
+-- A sound store has a table of 17 records, and a call leaves it sound.
+pub sound-long : (x : Lending) → Sound-lent x → length (x .table) ≡ parties
+sound-long x S = table-many (x .store) (x .table) (S .state)
 
-  pub abort-turn : (p : ℕ) → On17 Aborted s t p a s′ t′ → Returns (lending s t) (turn (C.abort p) a []) (lending s′ t′)
-  abort-turn p h = calls-return (C.abort p) s t (said a) [] s′ t′ (h .0 n)
+pub lends-sound : {x y : Lending} {k : Turn} → Sound-lent x → Lends x k y → Sound-lent y
+unfolding Returns
+lends-sound {x} S d = lends-return (sound-long x S) d S .sound
 
-  -- Any list of calls after an accepted format.
-  pub lent-demand-3 : (m : ℕ) → On17 Formatted s t m a s′ t′ → said a ≡ C.ok → (ks : List Turn) (y : Lending) → Run words (lending s′ t′) ks y → Demand-3 words (told nothing ks) y
-  lent-demand-3 m h e ks y run = formatted-calls m s s′ t t′ (subst (λ z. Formats m s t z s′ t′) e (h .0 n)) ks y run
+-- Refusal 1 tells nothing, and the store is left as it was.
+refused-1 : (c : C.Call) (t : Told) → C.tell-refused c 1 t ≡ t
+refused-1 (C.format m) t = refl
+refused-1 (C.begin p) t = refl
+refused-1 (C.put p c e f g) t = refl
+refused-1 (C.step p l) t = refl
+refused-1 (C.commit p) t = refl
+refused-1 (C.abort p) t = refl
+
+tells-nothing : (c : C.Call) (a : Answer) (l : List ℕ) → a ≡ Refused 1 0 → (t : Told) → tell (turn c a l) t ≡ t
+tells-nothing c a l e t = ap (λ b. tell (turn c b l) t) e ∙ refused-1 c t
+
+wrong-table : {x y : Lending} {k : Turn} → ¬ (length (x .table) ≡ parties) → Lends x k y → (y .store ≡ x .store) × ((t : Told) → tell k t ≡ t)
+wrong-table z (formats {x} {y} {m} {a} h) = (h .1 z .1, tells-nothing (C.format m) a [] (h .1 z .0))
+wrong-table z (begins {x} {y} {p} {a} h) = (h .1 z .1, tells-nothing (C.begin p) a [] (h .1 z .0))
+wrong-table z (puts {x} {y} {k} {a} h) = (h .1 z .1, tells-nothing (C.put (k .party) (k .code) (k .entry) (k .first) (k .second)) a [] (h .1 z .0))
+wrong-table z (steps {x} {y} {p} {l} {l′} {a} h) = (h .1 z .1, tells-nothing (C.step p l) a l′ (h .1 z .0))
+wrong-table z (commits {x} {y} {p} {a} h) = (h .1 z .1, tells-nothing (C.commit p) a [] (h .1 z .0))
+wrong-table z (aborts {x} {y} {p} {a} h) = (h .1 z .1, tells-nothing (C.abort p) a [] (h .1 z .0))
+
+-- The calls with the host's own table are turns of the machine of words, and tell what all the calls tell.
+runs : {x z : Lending} {ks : List Turn} → Sound-lent x → Lendings x ks z → (js : List Turn) × Run words x js z × ((t : Told) → told t js ≡ told t ks)
+runs S over = ([], stop, λ t. refl)
+runs S (then {x} {y} {z} {k} {ks} d r) =
+    let q = runs (lends-sound S d) r in
+    (k ∷ q .0, next (lends-return (sound-long x S) d) (q .1), λ t. q .2 (tell k t))
+runs S (wrong {x} {y} {z} {u} {k} {ks} n d r) =
+    let w = wrong-table n d in
+    let q = runs (subst (λ s. Sound s (x .table)) (sym (w .0)) S) r in
+    (q .0, subst (λ s. Run words (lending s (x .table)) (q .0) z) (w .0) (q .1), λ t. q .2 t ∙ sym (ap (λ v. told v ks) (w .1 t)))
+
+pub lendings-sound : {x z : Lending} {ks : List Turn} → Sound-lent x → Lendings x ks z → Sound-lent z
+lendings-sound S over = S
+lendings-sound S (then d r) = lendings-sound (lends-sound S d) r
+lendings-sound S (wrong {x} n d r) = lendings-sound (subst (λ s. Sound s (x .table)) (sym (wrong-table n d .0)) S) r
+
+-- A format that was accepted has a table of 17 records.
+accepted-format : (m : ℕ) (a : Answer) (x x′ : Lending) → On17 Formatted (x .store) (x .table) m a (x′ .store) (x′ .table) → said a ≡ C.ok
+    → Formats m (x .store) (x .table) C.ok (x′ .store) (x′ .table)
+accepted-format m a x x′ h e = go (ℕ-discrete (length (x .table)) parties)
+  where
+    not-ok : {n k : ℕ} → C.refused n k ≡ C.ok → ⊥
+    not-ok r = subst refusal r tt
+      where
+        refusal : C.Answer → Type 0
+        refusal C.ok = ⊥
+        refusal C.more = ⊥
+        refusal (C.wait p) = ⊥
+        refusal (C.done ns) = ⊥
+        refusal (C.refused n k) = Unit {0}
+
+    go : Dec (length (x .table) ≡ parties) → Formats m (x .store) (x .table) C.ok (x′ .store) (x′ .table)
+    go (yes n) = subst (λ z. Formats m (x .store) (x .table) z (x′ .store) (x′ .table)) e (h .0 n)
+    go (no z) = absurd (not-ok (sym (ap said (h .1 z .0)) ∙ e))
+
+pub format-sound : (m : ℕ) (a : Answer) (x x′ : Lending) → On17 Formatted (x .store) (x .table) m a (x′ .store) (x′ .table) → said a ≡ C.ok → Sound-lent x′
+format-sound m a x x′ h e = accepted-format m a x x′ h e .accepts refl .0
+
+-- A format that was accepted; then any list of calls: it keeps demand 3.
+pub lent-demand-3 : (m : ℕ) (a : Answer) (x x′ : Lending) → On17 Formatted (x .store) (x .table) m a (x′ .store) (x′ .table) → said a ≡ C.ok
+    → (ks : List Turn) (y : Lending) → Lendings x′ ks y → Demand-3 words (told nothing ks) y
+lent-demand-3 m a x x′ h e ks y r =
+    let q = runs (format-sound m a x x′ h e) r in
+    subst (λ t. Demand-3 words t y) (q .2 nothing) (formatted-calls m (x .store) (x′ .store) (x .table) (x′ .table) (accepted-format m a x x′ h e) (q .0) y (q .1))
