@@ -133,9 +133,8 @@ static inline struct entry_store_answer entry_store_unpack(uint64_t answer)
 /* ---- refusals */
 
 /*
- * A refusal changes no word of store, table or list, but that 11 and 12 also end the request in hand, its short lock and its seizures (a word of the
- * node's or descriptor's record that stands for nothing may become 0); long locks of earlier steps stay. Where more than one applies the first in the
- * order 1, 3 or 2, 4, 5, 7, 6, 8, 9, 10 is answered.
+ * A refusal changes no word of store, table or list, but that 11 and 12 also end the request in hand, its short lock and its seizures; long locks of
+ * earlier steps stay. Where more than one applies the first in the order 1, 3 or 2, 4, 5, 7, 6, 8, 9, 10 is answered.
  */
 enum entry_store_refusal {
     /* The host program causes these: a fault of the caller's code or of its memory. */

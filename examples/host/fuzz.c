@@ -386,14 +386,8 @@ static void words_beyond_kept(void)
          "the words beyond the records are not changed");
 }
 
-// Whether word k of a node that has so many sons is unused.
-static int unused_in_node(size_t k, uint32_t sons)
-{
-    return k >= 17 || (k >= 2 && k < 9 && k - 2 + 1 >= sons) || (k >= 9 && k - 9 >= sons);
-}
-
 // Whether 11 and 12 may change word k of the store: the short lock of the request's node, the seize counts of
-// its descriptors. These records are written whole, so that unused words of them may become 0.
+// its descriptors.
 static int ends_with_request(size_t k)
 {
     const struct entry_store_session *r = &old_table()[now.party];
@@ -402,10 +396,7 @@ static int ends_with_request(size_t k)
         return 0;
     }
     size_t i = (k - records) / 20 + 1, at = (k - records) % 20;
-    if (r->stage == 3 && i == r->at) {
-        return at == 0 || (store[k] == 0 && unused_in_node(at, old_store()[k - at + 1]));
-    }
-    return (i == r->low || i == r->high) && (at == 5 || (store[k] == 0 && at >= 7));
+    return (r->stage == 3 && i == r->at && at == 0) || ((i == r->low || i == r->high) && at == 5);
 }
 
 // 11 and 12 end the request, its short lock and its seizures.
@@ -413,7 +404,7 @@ static void only_request_ended(void)
 {
     for (size_t k = 0; k < store_len; k++) {
         fact(store[k] == old_store()[k] || ends_with_request(k),
-             "11 and 12 change no word in use but the request's short lock and seize counts");
+             "11 and 12 change no word but the request's short lock and seize counts");
     }
     fact(table[now.party].stage == 0, "11 and 12 end the request");
     fact(unchanged(&list_room), "11 and 12 leave the list");

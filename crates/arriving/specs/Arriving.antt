@@ -9,7 +9,8 @@ use Rattle.groups.specs.Descriptor.{descriptorAt, putDescriptor, madeIn, withNe
 use Rattle.chain.specs.Free.{popFree, pushFree}
 use Rattle.scans.specs.Scans.{lastUpto}
 use Rattle.nodes.specs.Paths.{sonToward}
-use Rattle.descents.specs.Descents.{latchAt, insertLeaf, removeLeaf}
+use Rattle.nodes.specs.Ops.{latchAt}
+use Rattle.descents.specs.Descents.{insertLeaf, removeLeaf}
 use Rattle.members.specs.Members.{pinAt}
 use Rattle.sessions.specs.declared.Session.{Session}
 use Rattle.endings.specs.Table.{idled}

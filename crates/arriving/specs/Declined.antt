@@ -17,9 +17,10 @@ use Rattle.meaning.specs.Latched.{at-request}
 use Rattle.layout.specs.Layout.{means}
 use Rattle.layout.specs.Row.{Stands, Becomes}
 use Rattle.layout.specs.Left.{idle-fits}
-use Rattle.descents.specs.Descents.{latchAt}
+use Rattle.nodes.specs.Ops.{latchAt}
 use Rattle.endings.specs.Table.{idled}
-use Rattle.arriving.specs.Release.{released, left-hand}
+use Rattle.finishing.specs.Ended.{end-latch}
+use Rattle.arriving.specs.Handed.{left-hand}
 
 -- A request that pins nothing on its descent ends.
 pub ended-descent : (p : ℕ) (x : Session) (σ : State.State) → ¬ (x .code ≡ 5) → ended p (at-request x) σ ≡ set-hand p none (on-tree (on-latch (latch-word p) (x .target) unlatched) σ)
@@ -32,6 +33,6 @@ unfolding idled
 declined-becomes s t A p l e n =
     let x = session-at t p in
     let s′ = latchAt s (M-of s) (x .at) 0 in
-    let R = released s t (A .lay) (A .holds) (A .sound) p l e (idled x) refl refl in
+    let R = end-latch s t (A .lay) (A .holds) (A .sound) p l e (idled x) refl refl in
     subst (Becomes s s′ (set t p (idled x))) (sym (ended-descent p x (means (A .lay) t) n))
     (left-hand s t (A .lay) s′ (on-tree (on-latch (latch-word p) (x .target) unlatched)) p (idled x) (idled x) R (A .holds .seats) l refl refl (idle-fits (R .lay) p (idled x) refl))

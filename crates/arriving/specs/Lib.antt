@@ -5,7 +5,7 @@ pub mod Runs
 pub mod Lowest
 pub mod Site
 pub mod Standing
-pub mod Release
+pub mod Handed
 pub mod Declined
 pub mod Arrived
 pub mod Pinning

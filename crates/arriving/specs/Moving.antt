@@ -38,7 +38,7 @@ use Rattle.endings.specs.Table.{idled}
 use Rattle.finishing.specs.Finishing.{endRequest}
 use Rattle.finishing.specs.Ended.{refused-moves}
 use Rattle.nodes.specs.Paths.{sonToward}
-use Rattle.descents.specs.Descents.{latchAt}
+use Rattle.nodes.specs.Ops.{latchAt}
 use Rattle.arriving.specs.Arriving.{pinStep, makeWords, madeStep, fullStep, makeStep, goneStep, leftStep, tidyStep, sessionStep, lowestStep, predOf, arrivedAt}
 use Rattle.arriving.specs.Lowest.{Lowest, at-lowest}
 use Rattle.arriving.specs.Site.{site-low, site-high, site-leaves, site-son}

@@ -7,7 +7,7 @@ use native.Mathlib.Numerals.{add-one}
 use native.Mathlib.Omega.{arith}
 use lib.Dec.{eqb, leb}
 use lib.ListN.{set}
-use Rattle.groups.specs.Descriptor.{descriptorAt, putDescriptor, withPins}
+use Rattle.groups.specs.Descriptor.{descriptorAt, putPins}
 use Rattle.sessions.specs.declared.Session.{Session}
 use Rattle.sessions.specs.Sessions.{session-at}
 use Rattle.machine.specs.Tree.{onp}
@@ -21,15 +21,16 @@ use Rattle.layout.specs.Layout.{Lay, leaves-in, Has, Holds, means}
 use Rattle.layout.specs.Row.{Stands, Becomes}
 use Rattle.layout.specs.Ordering.{Rising}
 use Rattle.layout.specs.Room.{Sizes}
-use Rattle.layout.specs.Left.{Left, left-then, left-desc}
+use Rattle.layout.specs.Left.{Left, left-then, left-pins}
 use Rattle.nodes.specs.Paths.{sonToward}
-use Rattle.descents.specs.Descents.{latchAt}
+use Rattle.nodes.specs.Ops.{latchAt}
 use Rattle.members.specs.Members.{pinAt}
 use Rattle.endings.specs.Table.{idled}
 use Rattle.arriving.specs.Arriving.{pinWords, arrivedAt}
 use Rattle.arriving.specs.Lowest.{Lowest}
 use Rattle.arriving.specs.Site.{site-has}
-use Rattle.arriving.specs.Release.{released, left-hand}
+use Rattle.finishing.specs.Ended.{end-latch}
+use Rattle.arriving.specs.Handed.{left-hand}
 use Rattle.arriving.specs.Standing.{descends-at, session-code}
 use Rattle.arriving.specs.Arrived.{arrived-undo, arrived-begun, arrived-hand, arrived-fits}
 
@@ -68,11 +69,9 @@ pinned-same p x σ = ap (λ n. with-root (record { height = σ .root .height; no
 
 pin-left : (s : List ℕ) (t : List Session) (L : Lay) → Holds s t L → Sizes L → Rising L → (m : ℕ) → M-of s ≡ m → (k d : ℕ) → Has k d (leaves-in L)
     → Left s t L (pinAt s m d) (on-desc k (pin-desc suc))
-unfolding pinAt withPins
+unfolding pinAt
 pin-left s t L H Z o m e k d h =
-    subst (λ n. Left s t L (putDescriptor s n d (withPins (descriptorAt s n d) (descriptorAt s n d .pins + 1))) (on-desc k (pin-desc suc))) e
-    (subst (λ j. Left s t L (putDescriptor s (M-of s) d (withPins (descriptorAt s (M-of s) d) j)) (on-desc k (pin-desc suc))) (sym (add-one (descriptorAt s (M-of s) d .pins)))
-    (left-desc (λ n. n) (λ n. n) (λ n. n) suc s t L H Z o k d h 0 (omega arith)))
+    subst (λ n. Left s t L (putPins s m d n) (on-desc k (pin-desc suc))) (sym (add-one (descriptorAt s m d .pins))) (left-pins suc s t L H Z o m e k d h)
 
 -- ---- the row
 
@@ -92,7 +91,7 @@ pin-becomes s t A p l nz e N key =
     let s₂ = pinAt s₁ m d in
     let f = on-tree (on-latch (latch-word p) k unlatched) in
     let g = on-desc k (pin-desc suc) in
-    let R = released s t L (A .holds) (A .sound) p l e (idled x) refl refl in
+    let R = end-latch s t L (A .holds) (A .sound) p l e (idled x) refl refl in
     let had = site-has s t L (A .holds) p N key in
     let P = pin-left s₁ (set t p (idled x)) (R .lay) (R .holds) (R .sizes) (R .rising) m (R .written .entries) k d (R .has k d had) in
     let B = left-then s (set t p (idled x)) L s₁ s₂ f g R P in

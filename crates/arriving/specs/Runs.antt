@@ -8,14 +8,13 @@ use borrow.Author.Tests.{eq-eqb, ne-eqb}
 use Rattle.words.specs.Store.{HasRecord, wordOf, has-kept}
 use Rattle.words.specs.Header.{headerWord, firstPlace, freePlace}
 use Rattle.kinds.specs.Kind.{write-length, write-other}
-use Rattle.nodes.specs.Node.{nodeAt, nodeKind}
-use Rattle.nodes.specs.Ops.{withLatch}
+use Rattle.nodes.specs.Ops.{latchAt, latch-length, latch-other}
 use Rattle.groups.specs.declared.Descriptor.{Descriptor}
 use Rattle.groups.specs.Descriptor.{descriptorAt, putDescriptor, decodeDescriptor, madeIn, withNextDescriptor, removable}
 use Rattle.chain.specs.Free.{popFree, pushFree}
 use Rattle.scans.specs.Scans.{lastUpto, CanFollow}
 use Rattle.nodes.specs.Paths.{sonToward}
-use Rattle.descents.specs.Descents.{latchAt, insertLeaf, removeLeaf, CanInsert, CanRemove}
+use Rattle.descents.specs.Descents.{insertLeaf, removeLeaf, CanInsert, CanRemove}
 use Rattle.members.specs.Members.{pinAt, Pinnable}
 use Rattle.sessions.specs.declared.Session.{Session}
 use Rattle.endings.specs.Table.{idled}
@@ -64,15 +63,13 @@ Leaves t z y = (t ≡ y .words) × (z ≡ moved y)
 -- ---- a stored key
 
 pub pin-able : {s t : List ℕ} {m d : ℕ} {x : Session} → PinReady s m x → d ≡ sonToward s m (x .at) (x .target) → t ≡ latchAt s m (x .at) 0 → Pinnable t m d
-unfolding latchAt
 pin-able {s} {t} {m} {d} {x} P e q =
     let k = sonToward s m (x .at) (x .target) in
-    let n = withLatch (nodeAt s m (x .at)) 0 in
     let has = P .toward .node in
     let son = P .toward .son in
-    let same = write-other nodeKind s m (x .at) n has decodeDescriptor k (son .first) (P .apart) in
+    let same = ap decodeDescriptor (latch-other s m (x .at) 0 has k (son .first) (P .apart)) in
     subst (λ i. Pinnable t m i) (sym e) (subst (λ z. Pinnable z m k) (sym q)
-    (record { has = has-kept son (write-length nodeKind s m (x .at) n has); room = subst (λ v. v .pins < 4294967295) (sym same) (P .room) }))
+    (record { has = has-kept son (latch-length s m (x .at) 0 has); room = subst (λ v. v .pins < 4294967295) (sym same) (P .room) }))
 
 pub pin-run : (s : List ℕ) {s₁ s₂ : List ℕ} {d : ℕ} {y : Session} (m : ℕ) (x : Session) → d ≡ sonToward s m (x .at) (x .target) → s₁ ≡ latchAt s m (x .at) 0 → s₂ ≡ pinAt s₁ m d → y ≡ arrivedAt x d
     → Leaves s₂ (record { answer = More; session = y }) (pinStep s m x)

@@ -110,7 +110,7 @@ pub fn pin_step(store: &mut [u32], m: usize, x: Session) -> Moved
 {
     let at = x.at as usize;
     let d = son_toward(store, m, at, x.target);
-    descents::set_latch(store, m, at, 0);
+    nodes::set_latch(store, m, at, 0);
     members::pin_at(store, m, d);
     Moved {
         answer: Answer::More,
@@ -199,7 +199,7 @@ fn left_step(store: &mut [u32], m: usize, x: Session) -> Moved
     ensures { λ z. ⌜ (now (store .exit) ≡ leftStep (now (store .entry)) m x .words) × (z ≡ moved (leftStep (now (store .entry)) m x)) ⌝ }
 {
     let at = x.at as usize;
-    descents::set_latch(store, m, at, 0);
+    nodes::set_latch(store, m, at, 0);
     Moved {
         answer: Answer::Tidied(x.target, 0),
         session: endings::idle_session(x),

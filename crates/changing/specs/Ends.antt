@@ -5,7 +5,7 @@ use mathlib.Core.Option.{none}
 use Prim.Native.Nat.{ℕ, _-_, _≤_}
 use native.Mathlib.Omega.{arith}
 use lib.ListN.{set}
-use Rattle.groups.specs.Descriptor.{descriptorAt, putDescriptor, withPins, withHolders, grantUpdate}
+use Rattle.groups.specs.Descriptor.{descriptorAt, putDescriptor, withHolders, grantUpdate}
 use Rattle.sessions.specs.declared.Session.{Session}
 use Rattle.sessions.specs.Sessions.{session-at}
 use Rattle.machine.specs.Holders.{width, held-by}
@@ -19,7 +19,7 @@ use Rattle.layout.specs.Keep.{table-row}
 use Rattle.layout.specs.Places.{means-hand}
 use Rattle.layout.specs.Ordering.{Rising}
 use Rattle.layout.specs.Room.{Sizes}
-use Rattle.layout.specs.Left.{Left, idle-fits, left-then, left-desc, left-becomes}
+use Rattle.layout.specs.Left.{Left, idle-fits, left-then, left-desc, left-pins, left-becomes}
 use Rattle.members.specs.Members.{updateAt, unpinAt}
 use Rattle.endings.specs.Table.{idled}
 use Rattle.changing.specs.Changing.{holdAndEnd}
@@ -36,10 +36,8 @@ updates p = hold-desc same (held-by p) same
 
 module _ (s : List ℕ) (t : List Session) (L : Lay) (H : Holds s t L) (Z : Sizes L) (o : Rising L) (m : ℕ) (e : M-of s ≡ m) (k d : ℕ) (h : Has k d (leaves-in L)) where
   pub pin-left : Left s t L (unpinAt s m d) (on-desc k lets-go)
-  unfolding unpinAt withPins
-  pin-left =
-      subst (λ n. Left s t L (putDescriptor s n d (withPins (descriptorAt s n d) (descriptorAt s n d .pins - 1))) (on-desc k lets-go)) e
-      (left-desc (λ n. n) (λ n. n) (λ n. n) (λ n. n - 1) s t L H Z o k d h 0 (omega arith))
+  unfolding unpinAt
+  pin-left = left-pins (λ n. n - 1) s t L H Z o m e k d h
 
   hold-left : (p : ℕ) → Left s t L (updateAt s m d p) (on-desc k (updates p))
   unfolding updateAt withHolders

@@ -8,13 +8,9 @@ use Rattle.words.specs.Store.{HasRecord, wordOf}
 use Rattle.words.specs.Header.{headerWord, freePlace}
 use Rattle.nodes.specs.declared.Node.{Node}
 use Rattle.nodes.specs.Node.{nodeAt, putNode}
-use Rattle.nodes.specs.Ops.{sonFor, withLatch}
+use Rattle.nodes.specs.Ops.{sonFor, withLatch, latchAt}
 use Rattle.nodes.specs.Paths.{sonToward}
 use Rattle.reshaping.specs.Ops.{insertBefore, insertBehind, removeSon}
-
--- node i with another latch word
-unfoldable pub latchAt : List ℕ → ℕ → ℕ → ℕ → List ℕ
-latchAt s m i w = putNode s m i (withLatch (nodeAt s m i) w)
 
 -- ---- one level down
 

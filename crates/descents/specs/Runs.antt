@@ -5,10 +5,10 @@ use Prim.Native.Nat.{ℕ}
 use Rattle.words.specs.Store.{wordOf}
 use Rattle.nodes.specs.declared.Node.{Node}
 use Rattle.nodes.specs.Node.{nodeAt, putNode}
-use Rattle.nodes.specs.Ops.{sonFor, withLatch}
+use Rattle.nodes.specs.Ops.{sonFor, withLatch, latchAt}
 use Rattle.nodes.specs.Paths.{sonAt, sonToward}
 use Rattle.reshaping.specs.Ops.{removeSon}
-use Rattle.descents.specs.Descents.{latchAt, plainSon, beside, insertLeaf, removeLeaf}
+use Rattle.descents.specs.Descents.{plainSon, beside, insertLeaf, removeLeaf}
 
 -- ---- one level down
 

@@ -11,19 +11,10 @@ ghost use Prim.Native.Nat.{_≤_, _<_};
 ghost use Rattle.words.specs.Store.{HasRecord};
 ghost use Rattle.nodes.specs.Paths.{sonToward};
 ghost use Rattle.chain.specs.Free.{Poppable};
-ghost use Rattle.descents.specs.Descents.{latchAt, Toward, plainSon, CanInsert, beside, insertLeaf, CanRemove, removeLeaf, hasFree, inWay, firstInWay};
+ghost use Rattle.descents.specs.Descents.{Toward, plainSon, CanInsert, beside, insertLeaf, CanRemove, removeLeaf, hasFree, inWay, firstInWay};
 use nodes::Node;
 
 // ---- latches
-
-// Node i gets a latch word.
-pub fn set_latch(store: &mut [u32], m: usize, i: usize, w: u32)
-    requires { ⌜ HasRecord (now store) m i ⌝ }
-    ensures { λ _. ⌜ now (store .exit) ≡ latchAt (now (store .entry)) m i w ⌝ }
-{
-    let n = nodes::load_node(store, m, i);
-    nodes::write_node(store, m, i, nodes::with_latch(n, w));
-}
 
 // The party and 1 whose latch word w is in party p's way, 0 for none.
 pub fn in_way(p: u32, w: u32) -> u32
@@ -79,8 +70,8 @@ pub fn enter_son(store: &mut [u32], m: usize, at: usize, key: u32, w: u32) -> us
     let p = nodes::load_node(store, m, at);
     let i = nodes::find_son(p, key);
     let son = nodes::node_son(store, m, at, i) as usize;
-    set_latch(store, m, at, 0);
-    set_latch(store, m, son, w);
+    nodes::set_latch(store, m, at, 0);
+    nodes::set_latch(store, m, son, w);
     son
 }
 

@@ -9,7 +9,6 @@ use native.Mathlib.Omega.{arith}
 use lib.Dec.{eqb}
 use lib.ListN.{set}
 use borrow.Author.Tests.{eq-eqb, ne-eqb}
-use Rattle.groups.specs.Descriptor.{descriptorAt, putDescriptor, withPins}
 use Rattle.serial.specs.Serial.{true≢false}
 use Rattle.sessions.specs.declared.Session.{Session}
 use Rattle.sessions.specs.Sessions.{session-at}
@@ -34,8 +33,8 @@ use Rattle.layout.specs.Ordering.{Rising, rising-of, ord-sons}
 use Rattle.layout.specs.Room.{Sizes, sizes-of}
 use Rattle.layout.specs.Asked.{request-in, hand-means}
 use Rattle.layout.specs.LatchRows.{relatched, latch-written, latch-put}
-use Rattle.layout.specs.Left.{Left, idle-fits, left-then, left-none, left-desc}
-use Rattle.descents.specs.Descents.{latchAt}
+use Rattle.layout.specs.Left.{Left, idle-fits, left-then, left-none, left-pins}
+use Rattle.nodes.specs.Ops.{latchAt}
 use Rattle.members.specs.Members.{unpinAt}
 use Rattle.endings.specs.Table.{idled}
 use Rattle.finishing.specs.Finishing.{endLatch, endLow, endHigh, endRequest}
@@ -122,10 +121,8 @@ pins-are x (is-5 e) c =
 -- One pin less, with the header as it was before.
 one-pin : (s : List ℕ) (t : List Session) (L : Lay) → Holds s t L → Sizes L → Rising L → (m : ℕ) → M-of s ≡ m → (k d : ℕ) → Has k d (leaves-in L)
     → Left s t L (unpinAt s m d) (on-desc k (pin-desc (λ n. n - 1)))
-unfolding unpinAt withPins
-one-pin s t L H Z o m e k d h =
-    subst (λ n. Left s t L (putDescriptor s n d (withPins (descriptorAt s n d) (descriptorAt s n d .pins - 1))) (on-desc k (pin-desc (λ i. i - 1)))) e
-    (left-desc (λ n. n) (λ n. n) (λ n. n) (λ n. n - 1) s t L H Z o k d h 0 (omega arith))
+unfolding unpinAt
+one-pin s t L H Z o m e k d h = left-pins (λ n. n - 1) s t L H Z o m e k d h
 
 -- The same change, said otherwise.
 left-as : (s : List ℕ) (t : List Session) (L : Lay) (s′ : List ℕ) (f g : State → State) → ((z : State) → f z ≡ g z) → Left s t L s′ f → Left s t L s′ g
@@ -176,9 +173,8 @@ module _ (s : List ℕ) (t : List Session) (L : Lay) (H : Holds s t L) (sound : 
   x = session-at t p
 
   -- With a record that has no request in hand, the latch is gone.
-  end-latch : x .stage ≡ 3 → (y : Session) → y .stage ≡ 0 → y .undo ≡ x .undo
+  pub end-latch : x .stage ≡ 3 → (y : Session) → y .stage ≡ 0 → y .undo ≡ x .undo
       → Left s (set t p y) L (latchAt s (M-of s) (x .at) 0) (on-tree (on-latch (latch-word p) (x .target) unlatched))
-  unfolding latchAt
   end-latch e y idle undo =
       let A = at-mark L t (H .seats) sound p l e (H .hands p l) in
       let c = A .around in

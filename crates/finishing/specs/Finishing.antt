@@ -2,13 +2,18 @@
 use mathlib.Core.Path.{_≡_, refl, sym, ap, subst, _∙_}
 use mathlib.Core.Bool.{Bool, true, false, cond, not}
 use mathlib.Core.List.{List}
-use Prim.Native.Nat.{ℕ}
+use Prim.Native.Nat.{ℕ, _+_, _-_}
 use lib.Dec.{eqb}
+use lib.ListN.{getD}
+use lib.Seq.{getD-set-other}
 use borrow.Author.Tests.{eq-eqb, ne-eqb}
-use Rattle.words.specs.Store.{HasRecord}
+use Rattle.words.specs.Store.{baseOf, HasRecord}
 use Rattle.sessions.specs.declared.Session.{Session}
+use Rattle.serial.specs.Serial.{true≢false}
+use Rattle.machine.specs.Logic.{eqb-is}
+use Rattle.groups.specs.Descriptor.{descriptorAt, putPins}
 use Rattle.meaning.specs.Sound.{pins-first}
-use Rattle.descents.specs.Descents.{latchAt}
+use Rattle.nodes.specs.Ops.{latchAt}
 use Rattle.members.specs.Members.{Pinned, unpinAt}
 
 -- Whether the request has pinned the descriptor of first.
@@ -29,6 +34,32 @@ endHigh s m x = cond (eqb (x .stage) 5) (cond (eqb (x .first) (x .second)) s (un
 
 unfoldable pub endRequest : List ℕ → ℕ → Session → List ℕ
 endRequest s m x = endHigh (endLow (endLatch s m x) m x) m x
+
+-- Word i of the store is none of these: the latch of the node at which the descent stands, the pins of first and of second.
+pub record Elsewhere (m : ℕ) (x : Session) (i : ℕ) : Type 0 where
+  pub latch : x .stage ≡ 3 → ¬ (i ≡ baseOf m (x .at) + 0)
+  pub low : pins-first x ≡ true → ¬ (i ≡ baseOf m (x .low) + 5)
+  pub high : x .stage ≡ 5 → ¬ (x .first ≡ x .second) → ¬ (i ≡ baseOf m (x .high) + 5)
+
+-- Every such word stays.
+pub elsewhere-same : (s : List ℕ) (m : ℕ) (x : Session) (i : ℕ) → Elsewhere m x i → getD (endRequest s m x) i 0 ≡ getD s i 0
+unfolding endRequest endLatch endLow endHigh latchAt unpinAt putPins
+elsewhere-same s m x i e =
+    at-high (endLow (endLatch s m x) m x) (eqb (x .stage) 5) refl (eqb (x .first) (x .second)) refl ∙ at-low (endLatch s m x) (pins-first x) refl ∙ at-latch (eqb (x .stage) 3) refl
+  where
+    at-latch : (b : Bool) → eqb (x .stage) 3 ≡ b → getD (cond b (latchAt s m (x .at) 0) s) i 0 ≡ getD s i 0
+    at-latch true q = getD-set-other s (baseOf m (x .at) + 0) i 0 0 (e .latch (eqb-is (x .stage) 3 q))
+    at-latch false q = refl
+
+    at-low : (z : List ℕ) (b : Bool) → pins-first x ≡ b → getD (cond b (unpinAt z m (x .low)) z) i 0 ≡ getD z i 0
+    at-low z true q = getD-set-other z (baseOf m (x .low) + 5) i (descriptorAt z m (x .low) .pins - 1) 0 (e .low q)
+    at-low z false q = refl
+
+    at-high : (z : List ℕ) (b : Bool) → eqb (x .stage) 5 ≡ b → (c : Bool) → eqb (x .first) (x .second) ≡ c → getD (cond b (cond c z (unpinAt z m (x .high))) z) i 0 ≡ getD z i 0
+    at-high z true q true r = refl
+    at-high z true q false r =
+        getD-set-other z (baseOf m (x .high) + 5) i (descriptorAt z m (x .high) .pins - 1) 0 (e .high (eqb-is (x .stage) 5 q) (λ f. true≢false (eq-eqb (x .first) (x .second) f) r))
+    at-high z false q c r = refl
 
 -- What the words must have: the records that the session record names, pinned.
 abbrev pub LatchEnds : List ℕ → ℕ → Session → Type 0

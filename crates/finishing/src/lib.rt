@@ -17,7 +17,7 @@ fn end_latch(store: &mut [u32], m: usize, x: Session)
         return;
     }
     let at = x.at as usize;
-    descents::set_latch(store, m, at, 0);
+    nodes::set_latch(store, m, at, 0);
 }
 
 // Whether the request has pinned the descriptor of first.

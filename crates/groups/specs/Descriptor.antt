@@ -4,8 +4,10 @@ use mathlib.Core.List.{List, _∷_}
 use mathlib.Core.Bool.{Bool, not, _&&_}
 use Prim.Native.Nat.{ℕ}
 use lib.Dec.{eqb}
-use lib.ListN.{getD, length, replicate}
-use Rattle.words.specs.Store.{HasRecord}
+use native.Mathlib.Omega.{arith}
+use lib.ListN.{getD, length, replicate, set}
+use lib.Seq.{getD-set-same, getD-set-other}
+use Rattle.words.specs.Store.{HasRecord, putWord}
 use Rattle.kinds.specs.Kind.{Kind, readAt, writeAt, write-same}
 use Rattle.groups.specs.declared.Descriptor.{Descriptor}
 
@@ -65,6 +67,17 @@ withFirstMember d first =
 unfoldable pub withPins : Descriptor → ℕ → Descriptor
 withPins d pins =
     record { next = d .next; key = d .key; locate = d .locate; update = d .update; gap = d .gap; pins = pins; first = d .first }
+
+-- descriptor i of a store with another number of pins: that word, and no other
+unfoldable pub putPins : List ℕ → ℕ → ℕ → ℕ → List ℕ
+putPins s m i pins = putWord s m i 5 pins
+
+-- it reads as the descriptor with that number
+pub pins-words : (l : List ℕ) (n : ℕ) → length l ≡ 20 → decodeDescriptor (set l 5 n) ≡ withPins (decodeDescriptor l) n
+unfolding decodeDescriptor withPins
+pins-words l n e =
+    rw (getD-set-other l 5 0 n 0 (λ q. omega (arith, q)), getD-set-other l 5 1 n 0 (λ q. omega (arith, q)), getD-set-other l 5 2 n 0 (λ q. omega (arith, q)),
+    getD-set-other l 5 3 n 0 (λ q. omega (arith, q)), getD-set-other l 5 4 n 0 (λ q. omega (arith, q)), getD-set-same l 5 n 0 (omega (arith, e)), getD-set-other l 5 6 n 0 (λ q. omega (arith, q))) refl
 
 -- the three words of holders replaced
 unfoldable pub withHolders : Descriptor → ℕ → ℕ → ℕ → Descriptor

@@ -8,10 +8,9 @@
 // record's words, what a descriptor that is written reads as, the operations). Words of holders are handed in as numbers; nothing here looks
 // at a bit, walks a chain or says what a lock is. It rests on the crates words and kinds.
 ghost use mathlib.Core.Path.{_≡_};
-ghost use Prim.Native.Nat.{_+_, _-_, _≤_, _<_};
-ghost use lib.ListN.{length};
+ghost use lib.ListN.{length, set};
 ghost use Rattle.words.specs.Store.{HasRecord};
-ghost use Rattle.groups.specs.Descriptor.{encodeDescriptor, decodeDescriptor, descriptorAt, putDescriptor, madeIn, withNextDescriptor, withFirstMember, withPins, withHolders, grantLocate, grantUpdate, grantGap, removable};
+ghost use Rattle.groups.specs.Descriptor.{encodeDescriptor, decodeDescriptor, descriptorAt, putDescriptor, madeIn, withNextDescriptor, withFirstMember, putPins, withHolders, grantLocate, grantUpdate, grantGap, removable};
 ghost use Rattle.groups.specs.Membership.{encodeMembership, decodeMembership, membershipAt, putMembership, withNextMember, withMemberBefore};
 
 // A group descriptor; pins is document 01's seize count.
@@ -106,6 +105,24 @@ pub fn write_descriptor(store: &mut [u32], m: usize, i: usize, d: Descriptor)
     save_descriptor(&mut store[at..end], d);
 }
 
+// Writes the pins of the descriptor whose record is lent; its other words stay.
+pub fn save_pins(part: &mut [u32], pins: u32)
+    requires { ⌜ length (now part) ≡ 20 ⌝ }
+    ensures { λ _. ⌜ now (part .exit) ≡ set (now (part .entry)) 5 pins ⌝ }
+{
+    part[5] = pins;
+}
+
+// Descriptor i gets another number of pins.
+pub fn set_pins(store: &mut [u32], m: usize, i: usize, pins: u32)
+    requires { ⌜ HasRecord (now store) m i ⌝ }
+    ensures { λ _. ⌜ now (store .exit) ≡ putPins (now (store .entry)) m i pins ⌝ }
+{
+    let at = words::base(m, i);
+    let end = at + 20;
+    save_pins(&mut store[at..end], pins);
+}
+
 // One word of the descriptor at record i, with the rest unread.
 pub fn descriptor_next(store: &[u32], m: usize, i: usize) -> u32
     requires { ⌜ HasRecord (now store) m i ⌝ }
@@ -186,24 +203,6 @@ pub fn with_first_member(mut d: Descriptor, first: u32) -> Descriptor
     ensures { λ r. ⌜ r ≡ withFirstMember d first ⌝ }
 {
     d.first = first;
-    d
-}
-
-// A request seizes the descriptor.
-pub fn pin(mut d: Descriptor) -> Descriptor
-    requires { ⌜ d .pins < 4294967295 ⌝ }
-    ensures { λ r. ⌜ r ≡ withPins d (d .pins + 1) ⌝ }
-{
-    d.pins += 1;
-    d
-}
-
-// A request's seizure ends.
-pub fn unpin(mut d: Descriptor) -> Descriptor
-    requires { ⌜ 1 ≤ d .pins ⌝ }
-    ensures { λ r. ⌜ r ≡ withPins d (d .pins - 1) ⌝ }
-{
-    d.pins -= 1;
     d
 }
 

@@ -1,14 +1,12 @@
--- The descriptor of a key written with other holders or pins; the node where a party stands written with another latch word.
+-- The descriptor of a key written with other holders or pins.
 use mathlib.Core.Path.{_≡_, sym, ap, subst, _∙_}
 use mathlib.Core.List.{List, [], _∷_}
 use Prim.Native.Nat.{ℕ, suc, _≤_}
 use native.Mathlib.Omega.{arith}
-use lib.ListN.{set}
-use Rattle.words.specs.Store.{HasRecord, wordOf}
-use Rattle.nodes.specs.Node.{length-encode}
+use lib.ListN.{length, set}
+use Rattle.words.specs.Store.{HasRecord, putRecord, wordOf, record-same}
 use Rattle.groups.specs.declared.Descriptor.{Descriptor}
-use Rattle.groups.specs.Descriptor as G
-use Rattle.groups.specs.Descriptor.{descriptorAt, putDescriptor, encodeDescriptor, descriptor-same}
+use Rattle.groups.specs.Descriptor.{decodeDescriptor, descriptorAt}
 use Rattle.sessions.specs.declared.Session.{Session}
 use Rattle.sessions.specs.Sessions.{session-at}
 use Rattle.machine.specs.Holders.{width}
@@ -39,11 +37,15 @@ module _ (s : List ℕ) (t : List Session) (L : Lay) (H : Holds s t L) (Z : Size
   pub key-among : d ≤ R-of s
   key-among = omega (arith, owned-in s t L H Z d key-owned .1, H .fits .records)
 
-  module _ (D : Descriptor) where
-    pub desc-written : Written s (putDescriptor s (M-of s) d D) (d ∷ [])
-    desc-written = put-written s d (encodeDescriptor D) key-has (G.length-encode D) key-among
+  -- Words w, which read as D, are written over the record.
+  module _ (D : Descriptor) (w : List ℕ) (whole : length w ≡ 20) (reads : decodeDescriptor w ≡ D) where
+    abbrev with-words : List ℕ
+    with-words = putRecord s (M-of s) d w
 
-    -- The words are D's; the next descriptor, the key and the first member are as before.
+    pub desc-written : Written s with-words (d ∷ [])
+    desc-written = put-written s d w key-has whole key-among
+
+    -- The next descriptor, the key and the first member are as before.
     pub record Puts (l′ : Leaf) : Type 0 where
       pub num : l′ .num ≡ d
       pub key : l′ .desc .key ≡ k
@@ -58,14 +60,14 @@ module _ (s : List ℕ) (t : List Session) (L : Lay) (H : Holds s t L) (Z : Size
 
     pub desc-put : (l′ : Leaf) → Puts l′ → (p : ℕ) (x′ : Session) → p ≤ width → x′ .undo ≡ session-at t p .undo
         → HandFits (with-tree L (L .height) (fill (A .around) l′) (L .free)) p x′
-        → Holds (putDescriptor s (M-of s) d D) (set t p x′) (with-tree L (L .height) (fill (A .around) l′) (L .free))
+        → Holds with-words (set t p x′) (with-tree L (L .height) (fill (A .around) l′) (L .free))
     desc-put l′ P p x′ l u own =
         let m = M-of s in
-        let s′ = putDescriptor s m d D in
-        let back : descriptorAt s′ m d ≡ D = descriptor-same s m d D key-has in
+        let s′ = with-words in
+        let back : descriptorAt s′ m d ≡ D = ap decodeDescriptor (record-same s m d w key-has whole) ∙ reads in
         let n = A .num in
         desc-row s t L H (A .around) (A .leaf) l′ (A .is) (P .num ∙ sym n) (P .key ∙ sym (A .key)) (P .members) s′ (subst (λ i. Written s s′ (i ∷ [])) (sym n) desc-written)
-        (put-entries s d (encodeDescriptor D) key-has (G.length-encode D)) (put-head s d (encodeDescriptor D) key-has (G.length-encode D))
+        (put-entries s d w key-has whole) (put-head s d w key-has whole)
         (desc-fits s′ m l′ D (ap (descriptorAt s′ m) (P .num) ∙ back) (P .key-word) (P .locate) (P .update) (P .gap) (P .pins))
         (ap (λ i. wordOf s m i 0) n ∙ sym (desc-next s m d) ∙ sym (P .next) ∙ sym (ap (λ x. x .next) back) ∙ desc-next s′ m d ∙ ap (λ i. wordOf s′ m i 0) (sym n))
         (ap (λ i. wordOf s m i 6) n ∙ sym (desc-first s m d) ∙ sym (P .first) ∙ sym (ap (λ x. x .first) back) ∙ desc-first s′ m d ∙ ap (λ i. wordOf s′ m i 6) (sym n))

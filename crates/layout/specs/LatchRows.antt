@@ -5,10 +5,10 @@ use Prim.Native.Nat.{ℕ, suc, _+_, _≤_}
 use native.Mathlib.Omega.{arith}
 use lib.Dec.{lit<}
 use lib.ListN.{set}
-use Rattle.words.specs.Store.{HasRecord, recordAt}
+use Rattle.words.specs.Store.{HasRecord, recordAt, putRecord, length-word}
 use Rattle.words.specs.Header.{headerWord, rootPlace, heightPlace, firstPlace, freePlace}
-use Rattle.nodes.specs.Node.{nodeAt, putNode, encodeNode, length-encode, Sized, sized-decode, decodeNode}
-use Rattle.nodes.specs.Ops.{withLatch}
+use Rattle.nodes.specs.Node.{nodeAt}
+use Rattle.nodes.specs.Ops.{withLatch, latchAt, latch-record, latch-same}
 use Rattle.nodes.specs.Entries as N
 use Rattle.nodes.specs.Entries.{latch-entries}
 use Rattle.sessions.specs.declared.Session.{Session}
@@ -22,9 +22,9 @@ use Rattle.meaning.specs.Numbers.{one-is, times-append, times-in, in-times, apa
 use Rattle.meaning.specs.Frame.{SameAt, leaf-records, numbers-times}
 use Rattle.meaning.specs.Around.{NCtx, fill, num-of, bound-in, numbers-around, times-fill, nodes-fill, leaves-fill, before, behind, number-of}
 use Rattle.layout.specs.Layout.{Lay, leaves-in, members-of, undos-from, all-records, NodeFits, TreeFits, Holds}
-use Rattle.layout.specs.Written.{Written, put-written, put-entries, put-head}
+use Rattle.layout.specs.Written.{Written, SameEntries, SameHead, put-written, put-entries, put-head}
 use Rattle.layout.specs.Keep.{with-tree, Hands, records-times, owned-most, own-all, own-tree, ctx-keep, fits-open, fits-close, tree-keep, chained-keep, each-keep, same-apart, tree-row, num-fill}
-use Rattle.layout.specs.Puts.{node-put}
+use Rattle.layout.specs.Puts.{node-count, node-fits}
 use Rattle.layout.specs.Room.{Sizes, owned-in, owned-has}
 
 -- A node with another latch word.
@@ -106,23 +106,29 @@ module _ (s : List ℕ) (t : List Session) (L : Lay) (H : Holds s t L) {k : ℕ}
     node-has = owned-has s t L H Z at node-owned
 
     abbrev relatch : List ℕ
-    relatch = putNode s (M-of s) at (withLatch (nodeAt s (M-of s) at) w)
+    relatch = latchAt s (M-of s) at w
+
+    abbrev words : List ℕ
+    words = set (recordAt s (M-of s) at) 0 w
+
+    is-put : putRecord s (M-of s) at words ≡ relatch
+    is-put = latch-record s (M-of s) at w node-has
 
     pub latch-written : Written s relatch (at ∷ [])
-    latch-written = put-written s at (encodeNode (withLatch (nodeAt s (M-of s) at) w)) node-has (length-encode (withLatch (nodeAt s (M-of s) at) w)) (omega (arith, owned-in s t L H Z at node-owned .1, H .fits .records))
+    latch-written = subst (λ z. Written s z (at ∷ [])) is-put (put-written s at words node-has (length-word s (M-of s) at 0 w) (omega (arith, owned-in s t L H Z at node-owned .1, H .fits .records)))
 
     -- The tree with that node relatched fits the words.
     pub latch-fits : TreeFits relatch (M-of s) (suc (L .height)) top (fill c (relatched k w u))
-    unfolding TreeFits num-of withLatch decodeNode
+    unfolding TreeFits num-of withLatch
     latch-fits =
         let m = M-of s in
         let h = suc (L .height) in
-        let n = withLatch (nodeAt s m at) w in
         let o = fits-open s m c u top (subst (TreeFits s m h top) is (H .fits .tree)) in
         let around = same-apart s relatch (at ∷ []) latch-written (numbers-around c) around-proper (node-around, tt) in
         let sons = same-apart s relatch (at ∷ []) latch-written (flat (numbers k) (u .sons)) sons-proper (node-sons, tt) in
-        let z : Sized n = record { bounds = sized-decode (recordAt s m at) .bounds; sons = sized-decode (recordAt s m at) .sons } in
-        let here : NodeFits relatch m (bound-in c top) (record { num = at; word = w }) (N.entries n (bound-in c top)) = node-put s m at (bound-in c top) n node-has z (o .1 .0 .few) in
+        let few : nodeAt s m at .count ≤ 8 = subst (λ n. n ≤ 8) (sym (node-count s m at)) (o .1 .0 .few) in
+        let here : NodeFits relatch m (bound-in c top) (record { num = at; word = w }) (N.entries (withLatch (nodeAt s m at) w) (bound-in c top)) =
+        node-fits relatch m at (bound-in c top) (withLatch (nodeAt s m at) w) (latch-same s m at w node-has) few in
         fits-close relatch m c (relatched k w u) top (ctx-keep s relatch m c top at around (o .0)) (
           subst (NodeFits relatch m (bound-in c top) (record { num = at; word = w })) (latch-entries (nodeAt s m at) w (bound-in c top) ∙ o .1 .0 .sons) here,
           each-keep (TreeFits s m k) (TreeFits relatch m k) (numbers k) (SameAt s relatch m) (λ b a q f. tree-keep s relatch m k b a q f) (u .sons) sons (o .1 .1),
@@ -134,9 +140,9 @@ module _ (s : List ℕ) (t : List Session) (L : Lay) (H : Holds s t L) {k : ℕ}
     latch-put p x′ hands =
         let m = M-of s in
         let h = suc (L .height) in
-        let n = withLatch (nodeAt s m at) w in
-        let head = put-head s at (encodeNode n) node-has (length-encode n) in
-        tree-row s t L H relatch (at ∷ []) latch-written (put-entries s at (encodeNode n) node-has (length-encode n)) (head firstPlace (lit< tt)) (node-rest, tt)
+        let whole = length-word s m at 0 w in
+        let head : SameHead s relatch = subst (SameHead s) is-put (put-head s at words node-has whole) in
+        tree-row s t L H relatch (at ∷ []) latch-written (subst (SameEntries s) is-put (put-entries s at words node-has whole)) (head firstPlace (lit< tt)) (node-rest, tt)
         (L .height) (fill c (relatched k w u)) (L .free)
         (leaves-fill c (relatched k w u) ∙ sym (ap (leaves Leaf Mark h) is ∙ leaves-fill c u))
         (head heightPlace (lit< tt) ∙ H .fits .height)

@@ -3,14 +3,15 @@ use mathlib.Core.Path.{_≡_, refl, sym, ap, subst, _∙_}
 use mathlib.Core.List.{List, [], _∷_, _++_}
 use Prim.Native.Nat.{ℕ, suc, _≤_}
 use native.Mathlib.Omega.{arith}
-use Rattle.words.specs.Store.{wordOf}
+use lib.ListN.{length, set}
+use Rattle.words.specs.Store.{recordAt, putRecord, wordOf, put-word, length-word, length-record}
 use Rattle.groups.specs.declared.Descriptor.{Descriptor}
-use Rattle.groups.specs.Descriptor.{descriptorAt, putDescriptor}
+use Rattle.groups.specs.Descriptor.{encodeDescriptor, decodeDescriptor, descriptorAt, putDescriptor, length-encode, decode-encode, putPins, withPins, pins-words}
 use Rattle.sessions.specs.declared.Session.{Session}
 use Rattle.sessions.specs.Sessions.{session-at}
 use Rattle.machine.specs.Tree.{leaves}
 use Rattle.machine.specs.Holders.{width, latch-word}
-use Rattle.machine.specs.State.{Desc, State, on-desc, top}
+use Rattle.machine.specs.State.{Desc, State, on-desc, pin-desc, top}
 use Rattle.machine.specs.Order.{Ord}
 use Rattle.meaning.specs.Reading.{Leaf, Mark, erase, M-of}
 use Rattle.meaning.specs.Sound.{All}
@@ -27,7 +28,7 @@ use Rattle.layout.specs.Ordering.{Rising, key-in, ord-leaf}
 use Rattle.layout.specs.Puts.{desc-key, desc-locate, desc-update, desc-gap, desc-pins}
 use Rattle.layout.specs.Room.{Sizes}
 use Rattle.layout.specs.Asked.{set-same}
-use Rattle.layout.specs.DescRows.{Puts, desc-written, desc-put}
+use Rattle.layout.specs.DescRows.{key-has, Puts, desc-written, desc-put}
 
 -- A record with no request in hand names nothing.
 pub idle-fits : (L : Lay) (p : ℕ) (x : Session) → x .stage ≡ 0 → HandFits L p x
@@ -102,9 +103,9 @@ module _ (locate update gap pins : ℕ → ℕ) where
     fits : DescFits s (M-of s) (A .leaf)
     fits = all-right (DescFits s (M-of s)) (leaves-before (A .around)) (A .leaf ∷ leaves-behind (A .around)) (subst (All (DescFits s (M-of s))) (A .was) (descs-fit s t L H)) .0
 
-    puts : Puts s t L H Z k d A D leaf′
+    puts : (w : List ℕ) (whole : length w ≡ 20) (reads : decodeDescriptor w ≡ D) → Puts s t L H Z k d A D w whole reads leaf′
     unfolding A leaf′ D fits
-    puts =
+    puts w whole reads =
         let m = M-of s in
         let at : (j : ℕ) → wordOf s m d j ≡ wordOf s m (A .leaf .num) j = λ j. ap (λ i. wordOf s m i j) (sym (A .num)) in
         record {
@@ -126,21 +127,37 @@ module _ (locate update gap pins : ℕ → ℕ) where
         let n = suc (L .height) in
         hole-has (A .around) (A .leaf) leaf′ (sym (A .num)) refl i j (subst (λ u. Has i j (leaves Leaf Mark n u)) (A .is) x)
 
-    pub left-desc : (p : ℕ) → p ≤ width → Left s t L (putDescriptor s (M-of s) d (changed-words (descriptorAt s (M-of s) d))) (on-desc k changed-desc)
-    unfolding A leaf′ L′ D
-    left-desc p l =
+    -- Words that read as the descriptor changed are written over its record.
+    left-words : (w : List ℕ) → length w ≡ 20 → decodeDescriptor w ≡ D → (p : ℕ) → p ≤ width → Left s t L (putRecord s (M-of s) d w) (on-desc k changed-desc)
+    unfolding A leaf′ L′
+    left-words w whole reads p l =
         let m = M-of s in
         let n = suc (L .height) in
         let x = session-at t p in
-        let s′ = putDescriptor s m d D in
+        let s′ = putRecord s m d w in
         let own : HandFits L′ p x = hand-as L L′ p x swapped (λ e y. hole-marked (x .level) (x .at) (latch-word p) (A .around) (A .leaf) leaf′ (subst (Marked (x .level) (x .at) (latch-word p) n) (A .is) y)) (H .hands p l) in
         record {
           lay = L′;
-          holds = subst (λ z. Holds s′ z L′) (set-same t p) (desc-put s t L H Z k d A D leaf′ puts p x l refl own);
+          holds = subst (λ z. Holds s′ z L′) (set-same t p) (desc-put s t L H Z k d A D w whole reads leaf′ (puts w whole reads) p x l refl own);
           rising = ord-leaf (A .around) (A .leaf) leaf′ refl 0 top (subst (λ u. Ord n 0 top (erase n u)) (A .is) o);
           sizes = record { some = Z .some; entries = Z .entries; least = Z .least; most = Z .most };
           has = swapped;
           is = λ u. means-desc L u k d A changed-desc leaf′ refl;
           among = d ∷ [];
-          written = desc-written s t L H Z k d A D;
+          written = desc-written s t L H Z k d A D w whole reads;
         }
+
+    pub left-desc : (p : ℕ) → p ≤ width → Left s t L (putDescriptor s (M-of s) d (changed-words (descriptorAt s (M-of s) d))) (on-desc k changed-desc)
+    unfolding D
+    left-desc p l = left-words (encodeDescriptor D) (length-encode D) (decode-encode D) p l
+
+-- ---- the pins alone, with the header as it was before
+
+pub left-pins : (pins : ℕ → ℕ) (s : List ℕ) (t : List Session) (L : Lay) → Holds s t L → Sizes L → Rising L → (m : ℕ) → M-of s ≡ m → (k d : ℕ) → Has k d (leaves-in L)
+    → Left s t L (putPins s m d (pins (descriptorAt s m d .pins))) (on-desc k (pin-desc pins))
+unfolding putPins withPins D
+left-pins pins s t L H Z o m e k d h =
+    subst (λ n. Left s t L (putPins s n d (pins (descriptorAt s n d .pins))) (on-desc k (pin-desc pins))) e
+    (let n = pins (descriptorAt s (M-of s) d .pins) in
+    subst (λ z. Left s t L z (on-desc k (pin-desc pins))) (put-word s (M-of s) d 5 n (key-has s t L H Z k d (key-in L o k d h)) (omega arith))
+    (left-words (λ i. i) (λ i. i) (λ i. i) pins s t L H Z o k d h (set (recordAt s (M-of s) d) 5 n) (length-word s (M-of s) d 5 n) (pins-words (recordAt s (M-of s) d) n (length-record s (M-of s) d)) 0 (omega arith)))

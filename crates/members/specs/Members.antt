@@ -9,7 +9,7 @@ use lib.ListN.{length}
 use Rattle.words.specs.Store.{HasRecord, has-kept}
 use Rattle.groups.specs.declared.Descriptor.{Descriptor}
 use Rattle.groups.specs.declared.Membership.{Membership}
-use Rattle.groups.specs.Descriptor.{descriptorAt, putDescriptor, withPins, withHolders, withFirstMember, grantLocate, grantUpdate, grantGap}
+use Rattle.groups.specs.Descriptor.{descriptorAt, putDescriptor, putPins, withHolders, withFirstMember, grantLocate, grantUpdate, grantGap}
 use Rattle.groups.specs.Membership.{membershipAt, putMembership, withNextMember, withMemberBefore}
 use Rattle.locks.specs.Holders.{held-by}
 
@@ -30,10 +30,10 @@ pub record Holdable (s : List ℕ) (m d p : ℕ) : Type 0 where
 
 -- a request pins it, and lets go of it
 unfoldable pub pinAt : List ℕ → ℕ → ℕ → List ℕ
-pinAt s m d = putDescriptor s m d (withPins (descriptorAt s m d) (descriptorAt s m d .pins + 1))
+pinAt s m d = putPins s m d (descriptorAt s m d .pins + 1)
 
 unfoldable pub unpinAt : List ℕ → ℕ → ℕ → List ℕ
-unpinAt s m d = putDescriptor s m d (withPins (descriptorAt s m d) (descriptorAt s m d .pins - 1))
+unpinAt s m d = putPins s m d (descriptorAt s m d .pins - 1)
 
 -- session p comes to hold its key in locate mode
 unfoldable pub locateAt : List ℕ → ℕ → ℕ → ℕ → List ℕ

@@ -14,8 +14,8 @@ pub fn pin_at(store: &mut [u32], m: usize, d: usize)
     requires { ⌜ Pinnable (now store) m d ⌝ }
     ensures { λ _. ⌜ now (store .exit) ≡ pinAt (now (store .entry)) m d ⌝ }
 {
-    let v = groups::load_descriptor(store, m, d);
-    groups::write_descriptor(store, m, d, groups::pin(v));
+    let pins = groups::descriptor_pins(store, m, d);
+    groups::set_pins(store, m, d, pins + 1);
 }
 
 // A request lets go of it.
@@ -23,8 +23,8 @@ pub fn unpin_at(store: &mut [u32], m: usize, d: usize)
     requires { ⌜ Pinned (now store) m d ⌝ }
     ensures { λ _. ⌜ now (store .exit) ≡ unpinAt (now (store .entry)) m d ⌝ }
 {
-    let v = groups::load_descriptor(store, m, d);
-    groups::write_descriptor(store, m, d, groups::unpin(v));
+    let pins = groups::descriptor_pins(store, m, d);
+    groups::set_pins(store, m, d, pins - 1);
 }
 
 // Session p comes to hold its key in locate mode.

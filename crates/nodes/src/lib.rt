@@ -10,10 +10,10 @@
 // Nothing here says what a tree is. It rests on the crates words and kinds.
 ghost use mathlib.Core.Path.{_≡_};
 ghost use Prim.Native.Nat.{_≤_, _<_};
-ghost use lib.ListN.{length, getD};
+ghost use lib.ListN.{length, getD, set};
 ghost use Rattle.words.specs.Store.{HasRecord};
 ghost use Rattle.nodes.specs.Node.{encodeNode, decodeNode, nodeAt, putNode};
-ghost use Rattle.nodes.specs.Ops.{sonFor, loneNode, withLatch};
+ghost use Rattle.nodes.specs.Ops.{sonFor, loneNode, withLatch, latchAt};
 
 // A node; latch is document 01's short lock.
 pub struct Node {
@@ -113,6 +113,24 @@ pub fn write_node(store: &mut [u32], m: usize, i: usize, n: Node)
     let at = words::base(m, i);
     let end = at + 20;
     save_node(&mut store[at..end], n);
+}
+
+// Writes the latch word of the node whose record is lent; its other words stay.
+pub fn save_latch(part: &mut [u32], latch: u32)
+    requires { ⌜ length (now part) ≡ 20 ⌝ }
+    ensures { λ _. ⌜ now (part .exit) ≡ set (now (part .entry)) 0 latch ⌝ }
+{
+    part[0] = latch;
+}
+
+// Node i gets another latch word.
+pub fn set_latch(store: &mut [u32], m: usize, i: usize, latch: u32)
+    requires { ⌜ HasRecord (now store) m i ⌝ }
+    ensures { λ _. ⌜ now (store .exit) ≡ latchAt (now (store .entry)) m i latch ⌝ }
+{
+    let at = words::base(m, i);
+    let end = at + 20;
+    save_latch(&mut store[at..end], latch);
 }
 
 // One word of the node at record i, with the rest unread.

@@ -8,7 +8,7 @@ use Prim.Native.Nat.{ℕ}
 use native.Mathlib.Decide.{ℕ-discrete}
 use native.Mathlib.Omega.{arith}
 use lib.Dec.{eqb}
-use lib.ListN.{length}
+use lib.ListN.{length, getD}
 use borrow.Author.Tests.{eq-eqb, ne-eqb}
 use Rattle.sessions.specs.declared.Session.{Session}
 use Rattle.sessions.specs.Sessions.{session-at}
@@ -24,6 +24,7 @@ use Rattle.machine.specs.Demand.{call-of, Tells, list-after}
 use Rattle.meaning.specs.Reading.{M-of, meaning}
 use Rattle.meaning.specs.Sound.{Sound}
 use Rattle.layout.specs.Asked.{request-in}
+use Rattle.finishing.specs.Finishing.{Elsewhere, elsewhere-same}
 use Rattle.refusals.specs.Refusing.{first-of, begin-list, put-list, step-list, commit-list, abort-list, begin-refused, put-refused, step-refused, commit-refused, abort-refused}
 use Rattle.refusals.specs.Coded.{format-refused}
 use Rattle.promises.specs.Relations.{outcome, stays, list-of, Ended, Answered, Calls, Formats}
@@ -68,6 +69,23 @@ Ends (C.step p l) z = sessionOf p z .hand ≡ none
 Ends (C.commit p) z = Unit {0}
 Ends (C.abort p) z = Unit {0}
 
+-- Every word of the store but the latch and the pins of the request that a step ends.
+abbrev pub Spared : C.Call → List ℕ → List Session → List ℕ → Type 0
+Spared (C.format m) s t s′ = ⊥
+Spared (C.begin p) s t s′ = ⊥
+Spared (C.put p c e f g) s t s′ = ⊥
+Spared (C.step p l) s t s′ = (i : ℕ) → Elsewhere (M-of s) (session-at t p) i → getD s′ i 0 ≡ getD s i 0
+Spared (C.commit p) s t s′ = ⊥
+Spared (C.abort p) s t s′ = ⊥
+
+spared : (c : C.Call) (s : List ℕ) (t : List Session) (s′ : List ℕ) (t′ : List Session) → Ended c s t s′ t′ → Spared c s t s′
+spared (C.format m) s t s′ t′ e = e
+spared (C.begin p) s t s′ t′ e = e
+spared (C.put p c i f g) s t s′ t′ e = e
+spared (C.step p l) s t s′ t′ e = λ i a. ap (λ z. getD z i 0) (e .0) ∙ elsewhere-same s (M-of s) (session-at t p) i a
+spared (C.commit p) s t s′ t′ e = e
+spared (C.abort p) s t s′ t′ e = e
+
 pub record Demand-1 (c : C.Call) (s : List ℕ) (t : List Session) (a : C.Answer) (l′ s′ : List ℕ) (t′ : List Session) : Type 0 where
   -- Refused first: a damaged store or a wrong session table by its number and never for another cause,
   pub damaged : (a ≡ C.refused 2 0) ↔ ¬ Sound s t
@@ -80,8 +98,9 @@ pub record Demand-1 (c : C.Call) (s : List ℕ) (t : List Session) (a : C.Answer
   pub unchanged : Sound s t → (n k : ℕ) → a ≡ C.refused n k → C.ends-request n ≡ false → (l′ ≡ list-of c) × (s′ ≡ s) × (t′ ≡ t)
   -- except that 11 and 12 end the request
   pub ends : Sound s t → (n k : ℕ) → a ≡ C.refused n k → C.ends-request n ≡ true → Ends c (meaning s′ t′)
-  -- and change nothing else.
+  -- and change nothing else: the list, another party's session record, a word but the latch and the pins.
   pub ended : Sound s t → (n k : ℕ) → a ≡ C.refused n k → C.ends-request n ≡ true → (l′ ≡ list-of c) × Ended c s t s′ t′
+  pub spares : Sound s t → (n k : ℕ) → a ≡ C.refused n k → C.ends-request n ≡ true → Spared c s t s′
 
 -- ---- what is told
 
@@ -217,6 +236,7 @@ demand-1 c s t a l′ s′ t′ P = record {
   unchanged = λ S n k e z. let A = P .answers S .0 in let w = A .still (ap stays e ∙ ap not z) in (same-list c s t a l′ s′ t′ S A n k e, w .0, w .1);
   ends = λ S n k e y. ending S n k e y (ℕ-discrete (refusal-of c s t) 0);
   ended = λ S n k e y. let A = P .answers S .0 in (same-list c s t a l′ s′ t′ S A n k e, A .ended n k e y);
+  spares = λ S n k e y. spared c s t s′ t′ (P .answers S .0 .ended n k e y);
 }
   where
     taken-then : Sound s t → refusal-of c s t ≡ 0 → Accepts c a

@@ -148,144 +148,6 @@ pub stage-early : (s l : List ℕ) (m r p : ℕ) (x : Session) {s′ : List ℕ}
 unfolding stageStep stageWritten
 stage-early s l m r p x e h = rw (ne-eqb (x .stage) 5 e) (h .0, h .1, refl)
 
--- ---- a wait changes nothing
-
-abbrev pub Still : List ℕ → Session → Stepped → Type 0
-Still s x z = stays (said (z .answer)) ≡ true → (z .words ≡ s) × (z .session ≡ x)
-
-module _ (s : List ℕ) (x : Session) where
-  P : Stepped → Type 0
-  P = Still s x
-
-  never : (z : Stepped) → stays (said (z .answer)) ≡ false → P z
-  unfolding P
-  never z e = λ q. absurd (true≢false q e)
-
-  still : (z : Stepped) → z .words ≡ s → z .session ≡ x → P z
-  unfolding P
-  still z a b = λ q. (a, b)
-
-  read-still : (p : ℕ) → P (readStep s p x)
-  unfolding readStep readDone unlessHeld waits
-  read-still p = let q = entryBlocker s (x .entry) 0 p in either P (eqb q 0) (readDone s p x) (waits s x q) (never (readDone s p x) refl) (still (waits s x q) refl refl)
-
-  write-still : (m p : ℕ) → P (writeStep s m p x)
-  unfolding writeStep writeFree writeDone unlessHeld waits refuses
-  write-still m p =
-      let q = entryBlocker s (x .entry) 1 p in
-      either P (eqb q 0) (writeFree s m p x) (waits s x q)
-      (either P (eqb (headerWord s freePlace) 0) (refuses s x) (writeDone s m p x) (never (refuses s x) refl) (never (writeDone s m p x) refl)) (still (waits s x q) refl refl)
-
-  entry-still : (p : ℕ) → P (entryStep s p x)
-  unfolding entryStep entryDone unlessHeld waits
-  entry-still p = let q = entryBlocker s (x .entry) 1 p in either P (eqb q 0) (entryDone s p x) (waits s x q) (never (entryDone s p x) refl) (still (waits s x q) refl refl)
-
-  first-still : (m p : ℕ) → P (firstStep s m p x)
-  unfolding firstStep tidiedNone
-  first-still m p =
-      either P (eqb (x .code) 1) (readStep s p x) (cond (eqb (x .code) 2) (writeStep s m p x) (cond (leb (x .code) 4) (entryStep s p x) (tidiedNone s x))) (read-still p)
-      (either P (eqb (x .code) 2) (writeStep s m p x) (cond (leb (x .code) 4) (entryStep s p x) (tidiedNone s x)) (write-still m p)
-      (either P (leb (x .code) 4) (entryStep s p x) (tidiedNone s x) (entry-still p) (never (tidiedNone s x) refl)))
-
-  enter-still : (m p : ℕ) → P (enterStep s m p x)
-  unfolding enterStep enterFree enterFull rootWaits rootRefused enterHalves halvesAt enterWhole wholeAt
-  enter-still m p =
-      let q = rootInWay s m p in
-      let u = droppedWords s m in
-      either P (eqb q 0) (enterFree s m p x) (rootWaits s x q)
-      (either P (splitsRoot s m p) (enterFull s m p x) (enterWhole u m p x)
-      (either P (hasTwo s m) (enterHalves u m p x) (rootRefused s m x) (never (enterHalves u m p x) refl) (never (rootRefused s m x) refl)) (never (enterWhole u m p x) refl)) (still (rootWaits s x q) refl refl)
-
-  mend-still : (m p i : ℕ) (first : Bool) (other down : ℕ) → P (mendBy s m p x i first other down)
-  mend-still m p i first other down =
-      either P (leb other 5) (joinStep s m p x i down) (cond first (W.leftStep s m p x i down) (rightStep s m p x i down)) (never (joinStep s m p x i down) refl)
-      (either P first (W.leftStep s m p x i down) (rightStep s m p x i down) (never (W.leftStep s m p x i down) refl) (never (rightStep s m p x i down) refl))
-
-  pair-still : (m p : ℕ) → P (pairStep s m p x)
-  unfolding pairStep mendStep
-  pair-still m p =
-      let n = nodeAt s m (x .at) in
-      let i = pairPlace n (x .target) in
-      let first = eqb (sonFor n (x .target)) 0 in
-      let b = firstInWay p (nodeAt s m (sonAt s m (x .at) i) .latch) (nodeAt s m (sonAt s m (x .at) (i + 1)) .latch) in
-      either P (eqb b 0) (mendStep s m p x) (waitsFor s x b)
-      (mend-still m p i first (otherCount s m (x .at) i first) (downBound s m (x .level - 1) (x .at) i)) (still (waitsFor s x b) refl refl)
-
-  alone-still : (m p : ℕ) → P (aloneStep s m p x)
-  unfolding aloneStep downStep splitStep plainStep
-  alone-still m p =
-      let a = nodeAt s m (sonToward s m (x .at) (x .target)) in
-      let b = inWay p (a .latch) in
-      either P (eqb b 0) (downStep s m p x) (waitsFor s x b)
-      (either P (not (eqb p 0) && eqb (a .count) 8) (splitStep s m p x) (plainStep s m p x)
-      (either P (hasFree s m 1) (halvedStep s m p x) (refusedFull s m x) (never (halvedStep s m p x) refl) (never (refusedFull s m x) refl)) (never (plainStep s m p x) refl)) (still (waitsFor s x b) refl refl)
-
-  level-still : (m p : ℕ) → P (levelStep s m p x)
-  unfolding levelStep
-  level-still m p = either P (eqb p 0 && eqb (nodeAt s m (sonToward s m (x .at) (x .target)) .count) 3) (pairStep s m p x) (aloneStep s m p x) (pair-still m p) (alone-still m p)
-
-  tidy-still : (m r : ℕ) → P (tidyStep s m r x)
-  unfolding tidyStep goneStep leftStep
-  tidy-still m r =
-      let b = predOf s m r (x .target) in
-      let d = sonToward s m (x .at) (x .target) in
-      either P (removable (descriptorAt s m d) (descriptorAt s m b .gap)) (goneStep s m b d x) (leftStep s m x) (never (goneStep s m b d x) refl) (never (leftStep s m x) refl)
-
-  session-still : (m r : ℕ) → P (sessionStep s m r x)
-  unfolding sessionStep pinStep makeStep fullStep madeStep
-  session-still m r =
-      either P (eqb (wordOf s m (sonToward s m (x .at) (x .target)) 1) (x .target)) (pinStep s m x) (makeStep s m r x) (never (pinStep s m x) refl)
-      (either P (eqb (headerWord s freePlace) 0) (fullStep s m x) (madeStep s m r x) (never (fullStep s m x) refl) (never (madeStep s m r x) refl))
-
-  low-still : (m r p : ℕ) → P (lowestStep s m r p x)
-  unfolding lowestStep
-  low-still m r p = either P (eqb p 0) (tidyStep s m r x) (sessionStep s m r x) (tidy-still m r) (session-still m r)
-
-  code-still : (m p d i : ℕ) → P (codeStep s m p x d i)
-  unfolding codeStep insertStep roomStep addStep refuseStep keepStep removeStep G.takeStep
-  code-still m p d i =
-      either P (eqb (x .code) 3) (insertStep s m p x d i) (removeStep s m p x d i)
-      (either P (eqb i 0) (roomStep s m p x d) (keepStep s m p x d)
-      (either P (G.hasTwo s m) (addStep s m p x d) (refuseStep s m x d) (never (addStep s m p x d) refl) (never (refuseStep s m x d) refl)) (never (keepStep s m p x d) refl))
-      (either P (eqb i 0) (keepStep s m p x d) (G.takeStep s m p x d i) (never (keepStep s m p x d) refl) (never (G.takeStep s m p x d i) refl))
-
-  change-still : (m r p : ℕ) → P (changeStep s m r p x)
-  unfolding changeStep changeAt G.waitStep
-  change-still m r p =
-      let d = x .low in
-      let q : ℕ = changeBlocker s m d p in
-      let i = memberOf s m r (descriptorAt s m d .first) (x .entry) in
-      either P (eqb q 0) (codeStep s m p x d i) (G.waitStep s x q) (code-still m p d i) (still (G.waitStep s x q) refl refl)
-
-  take-still : (m r n p : ℕ) → P (takeStep s m r n p x)
-  unfolding takeStep K.waitStep freeStep passStep lastStep doneStep shortStep
-  take-still m r n p =
-      let d = nextTaken s m r x in
-      let q = inWayOf s m d p in
-      let f = foundIn s m r x in
-      either P (eqb q 0) (freeStep s m r n d p x) (K.waitStep s q x)
-      (either P (ltb (wordOf s m d 1) (x .second)) (passStep s m d p x) (lastStep s m r n d p x) (never (passStep s m d p x) refl)
-      (either P (leb (2 * f) n) (doneStep s m d p x f) (shortStep s m x f) (never (doneStep s m d p x f) refl) (never (shortStep s m x f) refl))) (still (K.waitStep s q x) refl refl)
-
-  node-still : (m r p : ℕ) → P (nodeStep s m r p x)
-  unfolding nodeStep
-  node-still m r p = either P (eqb (x .level) 1) (lowestStep s m r p x) (levelStep s m p x) (low-still m r p) (level-still m p)
-
-  early-still : (m r p : ℕ) → P (earlyStep s m r p x)
-  unfolding earlyStep
-  early-still m r p =
-      either P (eqb (x .stage) 1) (firstStep s m p x) (cond (eqb (x .stage) 2) (enterStep s m p x) (cond (eqb (x .stage) 3) (nodeStep s m r p x) (changeStep s m r p x))) (first-still m p)
-      (either P (eqb (x .stage) 2) (enterStep s m p x) (cond (eqb (x .stage) 3) (nodeStep s m r p x) (changeStep s m r p x)) (enter-still m p)
-      (either P (eqb (x .stage) 3) (nodeStep s m r p x) (changeStep s m r p x) (node-still m r p) (change-still m r p)))
-
-  all-still : (m r n p : ℕ) → P (stageStep s m r n p x)
-  unfolding stageStep
-  all-still m r n p = either P (eqb (x .stage) 5) (takeStep s m r n p x) (earlyStep s m r p x) (take-still m r n p) (early-still m r p)
-
-  pub stage-still : (m r n p : ℕ) → Still s x (stageStep s m r n p x)
-  unfolding P
-  stage-still m r n p = all-still m r n p
-
 -- ---- only a step that takes writes
 
 abbrev Blank : Outcome → Type 0
@@ -389,25 +251,31 @@ marked-least k n w (suc h) u (inr g) = sons (u .sons) (λ v q. marked-least k n 
     sons (e ∷ es) f (inl g) = f (e .0) g
     sons (e ∷ es) f (inr g) = sons es f g
 
--- ---- 11 and 12 end the request and write nothing else
+-- ---- a wait changes nothing; 11 and 12 end the request and write nothing else
 
-abbrev pub Closes : List ℕ → ℕ → Session → Stepped → Type 0
-Closes s m x z = (n k : ℕ) → said (z .answer) ≡ C.refused n k → C.ends-request n ≡ true → (z .words ≡ endRequest s m x) × (z .session ≡ idled x)
+pub record Careful (s : List ℕ) (m : ℕ) (x : Session) (z : Stepped) : Type 0 where
+  pub still : stays (said (z .answer)) ≡ true → (z .words ≡ s) × (z .session ≡ x)
+  pub closes : (n k : ℕ) → said (z .answer) ≡ C.refused n k → C.ends-request n ≡ true → (z .words ≡ endRequest s m x) × (z .session ≡ idled x)
 
 only-4 : (k : ℕ) → ¬ (k ≡ 0) → k ≤ 5 → ¬ (k ≡ 1) → ¬ (k ≡ 2) → ¬ (k ≡ 3) → ¬ (k ≡ 5) → k ≡ 4
 only-4 k n l a b c e = five-ways (k ≡ 4) k n l (λ q. absurd (a q)) (λ q. absurd (b q)) (λ q. absurd (c q)) (λ q. q) (λ q. absurd (e q))
 
 module _ (s : List ℕ) (m : ℕ) (x : Session) where
   E : Stepped → Type 0
-  E = Closes s m x
+  E = Careful s m x
 
-  goes : (z : Stepped) → is-refused (said (z .answer)) ≡ false → E z
+  -- A step that goes on or is done, one that waits, one that is refused.
+  goes : (z : Stepped) → stays (said (z .answer)) ≡ false → is-refused (said (z .answer)) ≡ false → E z
   unfolding E
-  goes z e = no-refusal (said (z .answer)) e
+  goes z e f = record { still = λ q. absurd (true≢false q e); closes = no-refusal (said (z .answer)) f }
 
-  ends : (z : Stepped) → z .words ≡ endRequest s m x → z .session ≡ idled x → E z
+  rests : (z : Stepped) → is-refused (said (z .answer)) ≡ false → z .words ≡ s → z .session ≡ x → E z
   unfolding E
-  ends z a b = λ n k e y. (a, b)
+  rests z f a b = record { still = λ q. (a, b); closes = no-refusal (said (z .answer)) f }
+
+  ends : (z : Stepped) → stays (said (z .answer)) ≡ false → z .words ≡ endRequest s m x → z .session ≡ idled x → E z
+  unfolding E
+  ends z e a b = record { still = λ q. absurd (true≢false q e); closes = λ n k f y. (a, b) }
 
   by-test : (b : Bool) (y z : Stepped) → (b ≡ true → E y) → (b ≡ false → E z) → E (cond b y z)
   by-test true y z f g = f refl
@@ -428,130 +296,130 @@ module _ (s : List ℕ) (m : ℕ) (x : Session) where
       let d : ¬ (x .stage ≡ 5) = λ z. omega (arith, z, e) in
       end-run s m x (latch-none s m x a) (sym (low-some s m x (first-pins x (pinned-4 x e) refl))) (high-none (unpinAt s m (x .low)) m x d)
 
-  read-closes : (p : ℕ) → E (readStep s p x)
+  read-careful : (p : ℕ) → E (readStep s p x)
   unfolding readStep readDone unlessHeld waits
-  read-closes p = let q = entryBlocker s (x .entry) 0 p in either E (eqb q 0) (readDone s p x) (waits s x q) (goes (readDone s p x) refl) (goes (waits s x q) refl)
+  read-careful p = let q = entryBlocker s (x .entry) 0 p in either E (eqb q 0) (readDone s p x) (waits s x q) (goes (readDone s p x) refl refl) (rests (waits s x q) refl refl refl)
 
-  write-closes : x .stage ≡ 1 → ¬ (x .code ≡ 5) → (p : ℕ) → E (writeStep s m p x)
+  write-careful : x .stage ≡ 1 → ¬ (x .code ≡ 5) → (p : ℕ) → E (writeStep s m p x)
   unfolding writeStep writeFree writeDone unlessHeld waits refuses
-  write-closes e c p =
+  write-careful e c p =
       let q = entryBlocker s (x .entry) 1 p in
       either E (eqb q 0) (writeFree s m p x) (waits s x q)
-      (either E (eqb (headerWord s freePlace) 0) (refuses s x) (writeDone s m p x) (ends (refuses s x) (none-1 e c) refl) (goes (writeDone s m p x) refl)) (goes (waits s x q) refl)
+      (either E (eqb (headerWord s freePlace) 0) (refuses s x) (writeDone s m p x) (ends (refuses s x) refl (none-1 e c) refl) (goes (writeDone s m p x) refl refl)) (rests (waits s x q) refl refl refl)
 
-  entry-closes : (p : ℕ) → E (entryStep s p x)
+  entry-careful : (p : ℕ) → E (entryStep s p x)
   unfolding entryStep entryDone unlessHeld waits
-  entry-closes p = let q = entryBlocker s (x .entry) 1 p in either E (eqb q 0) (entryDone s p x) (waits s x q) (goes (entryDone s p x) refl) (goes (waits s x q) refl)
+  entry-careful p = let q = entryBlocker s (x .entry) 1 p in either E (eqb q 0) (entryDone s p x) (waits s x q) (goes (entryDone s p x) refl refl) (rests (waits s x q) refl refl refl)
 
-  first-closes : x .stage ≡ 1 → (p : ℕ) → E (firstStep s m p x)
+  first-careful : x .stage ≡ 1 → (p : ℕ) → E (firstStep s m p x)
   unfolding firstStep tidiedNone
-  first-closes e p =
-      either E (eqb (x .code) 1) (readStep s p x) (cond (eqb (x .code) 2) (writeStep s m p x) (cond (leb (x .code) 4) (entryStep s p x) (tidiedNone s x))) (read-closes p)
+  first-careful e p =
+      either E (eqb (x .code) 1) (readStep s p x) (cond (eqb (x .code) 2) (writeStep s m p x) (cond (leb (x .code) 4) (entryStep s p x) (tidiedNone s x))) (read-careful p)
       (by-test (eqb (x .code) 2) (writeStep s m p x) (cond (leb (x .code) 4) (entryStep s p x) (tidiedNone s x))
-      (λ q. write-closes e (λ z. omega (arith, z, eqb-is (x .code) 2 q)) p)
-      (λ q. either E (leb (x .code) 4) (entryStep s p x) (tidiedNone s x) (entry-closes p) (goes (tidiedNone s x) refl)))
+      (λ q. write-careful e (λ z. omega (arith, z, eqb-is (x .code) 2 q)) p)
+      (λ q. either E (leb (x .code) 4) (entryStep s p x) (tidiedNone s x) (entry-careful p) (goes (tidiedNone s x) refl refl)))
 
-  enter-closes : (p : ℕ) → E (enterStep s m p x)
+  enter-careful : (p : ℕ) → E (enterStep s m p x)
   unfolding enterStep enterFree enterFull rootWaits rootRefused enterHalves halvesAt enterWhole wholeAt
-  enter-closes p =
+  enter-careful p =
       let q = rootInWay s m p in
       let u = droppedWords s m in
       either E (eqb q 0) (enterFree s m p x) (rootWaits s x q)
       (either E (splitsRoot s m p) (enterFull s m p x) (enterWhole u m p x)
-      (either E (hasTwo s m) (enterHalves u m p x) (rootRefused s m x) (goes (enterHalves u m p x) refl) (ends (rootRefused s m x) refl refl)) (goes (enterWhole u m p x) refl)) (goes (rootWaits s x q) refl)
+      (either E (hasTwo s m) (enterHalves u m p x) (rootRefused s m x) (goes (enterHalves u m p x) refl refl) (ends (rootRefused s m x) refl refl refl)) (goes (enterWhole u m p x) refl refl)) (rests (rootWaits s x q) refl refl refl)
 
-  mend-closes : (p i : ℕ) (first : Bool) (other down : ℕ) → E (mendBy s m p x i first other down)
-  mend-closes p i first other down =
-      either E (leb other 5) (joinStep s m p x i down) (cond first (W.leftStep s m p x i down) (rightStep s m p x i down)) (goes (joinStep s m p x i down) refl)
-      (either E first (W.leftStep s m p x i down) (rightStep s m p x i down) (goes (W.leftStep s m p x i down) refl) (goes (rightStep s m p x i down) refl))
+  mend-careful : (p i : ℕ) (first : Bool) (other down : ℕ) → E (mendBy s m p x i first other down)
+  mend-careful p i first other down =
+      either E (leb other 5) (joinStep s m p x i down) (cond first (W.leftStep s m p x i down) (rightStep s m p x i down)) (goes (joinStep s m p x i down) refl refl)
+      (either E first (W.leftStep s m p x i down) (rightStep s m p x i down) (goes (W.leftStep s m p x i down) refl refl) (goes (rightStep s m p x i down) refl refl))
 
-  pair-closes : (p : ℕ) → E (pairStep s m p x)
+  pair-careful : (p : ℕ) → E (pairStep s m p x)
   unfolding pairStep mendStep
-  pair-closes p =
+  pair-careful p =
       let n = nodeAt s m (x .at) in
       let i = pairPlace n (x .target) in
       let first = eqb (sonFor n (x .target)) 0 in
       let b = firstInWay p (nodeAt s m (sonAt s m (x .at) i) .latch) (nodeAt s m (sonAt s m (x .at) (i + 1)) .latch) in
       either E (eqb b 0) (mendStep s m p x) (waitsFor s x b)
-      (mend-closes p i first (otherCount s m (x .at) i first) (downBound s m (x .level - 1) (x .at) i)) (goes (waitsFor s x b) refl)
+      (mend-careful p i first (otherCount s m (x .at) i first) (downBound s m (x .level - 1) (x .at) i)) (rests (waitsFor s x b) refl refl refl)
 
-  alone-closes : (p : ℕ) → E (aloneStep s m p x)
+  alone-careful : (p : ℕ) → E (aloneStep s m p x)
   unfolding aloneStep downStep splitStep plainStep
-  alone-closes p =
+  alone-careful p =
       let a = nodeAt s m (sonToward s m (x .at) (x .target)) in
       let b = inWay p (a .latch) in
       either E (eqb b 0) (downStep s m p x) (waitsFor s x b)
       (either E (not (eqb p 0) && eqb (a .count) 8) (splitStep s m p x) (plainStep s m p x)
-      (either E (hasFree s m 1) (halvedStep s m p x) (refusedFull s m x) (goes (halvedStep s m p x) refl) (ends (refusedFull s m x) refl refl)) (goes (plainStep s m p x) refl)) (goes (waitsFor s x b) refl)
+      (either E (hasFree s m 1) (halvedStep s m p x) (refusedFull s m x) (goes (halvedStep s m p x) refl refl) (ends (refusedFull s m x) refl refl refl)) (goes (plainStep s m p x) refl refl)) (rests (waitsFor s x b) refl refl refl)
 
-  level-closes : (p : ℕ) → E (levelStep s m p x)
+  level-careful : (p : ℕ) → E (levelStep s m p x)
   unfolding levelStep
-  level-closes p = either E (eqb p 0 && eqb (nodeAt s m (sonToward s m (x .at) (x .target)) .count) 3) (pairStep s m p x) (aloneStep s m p x) (pair-closes p) (alone-closes p)
+  level-careful p = either E (eqb p 0 && eqb (nodeAt s m (sonToward s m (x .at) (x .target)) .count) 3) (pairStep s m p x) (aloneStep s m p x) (pair-careful p) (alone-careful p)
 
-  tidy-closes : (r : ℕ) → E (tidyStep s m r x)
+  tidy-careful : (r : ℕ) → E (tidyStep s m r x)
   unfolding tidyStep goneStep leftStep
-  tidy-closes r =
+  tidy-careful r =
       let b = predOf s m r (x .target) in
       let d = sonToward s m (x .at) (x .target) in
-      either E (removable (descriptorAt s m d) (descriptorAt s m b .gap)) (goneStep s m b d x) (leftStep s m x) (goes (goneStep s m b d x) refl) (goes (leftStep s m x) refl)
+      either E (removable (descriptorAt s m d) (descriptorAt s m b .gap)) (goneStep s m b d x) (leftStep s m x) (goes (goneStep s m b d x) refl refl) (goes (leftStep s m x) refl refl)
 
-  session-closes : (r : ℕ) → E (sessionStep s m r x)
+  session-careful : (r : ℕ) → E (sessionStep s m r x)
   unfolding sessionStep pinStep makeStep fullStep madeStep
-  session-closes r =
-      either E (eqb (wordOf s m (sonToward s m (x .at) (x .target)) 1) (x .target)) (pinStep s m x) (makeStep s m r x) (goes (pinStep s m x) refl)
-      (either E (eqb (headerWord s freePlace) 0) (fullStep s m x) (madeStep s m r x) (ends (fullStep s m x) refl refl) (goes (madeStep s m r x) refl))
+  session-careful r =
+      either E (eqb (wordOf s m (sonToward s m (x .at) (x .target)) 1) (x .target)) (pinStep s m x) (makeStep s m r x) (goes (pinStep s m x) refl refl)
+      (either E (eqb (headerWord s freePlace) 0) (fullStep s m x) (madeStep s m r x) (ends (fullStep s m x) refl refl refl) (goes (madeStep s m r x) refl refl))
 
-  low-closes : (r p : ℕ) → E (lowestStep s m r p x)
+  low-careful : (r p : ℕ) → E (lowestStep s m r p x)
   unfolding lowestStep
-  low-closes r p = either E (eqb p 0) (tidyStep s m r x) (sessionStep s m r x) (tidy-closes r) (session-closes r)
+  low-careful r p = either E (eqb p 0) (tidyStep s m r x) (sessionStep s m r x) (tidy-careful r) (session-careful r)
 
-  code-closes : x .stage ≡ 4 → (p i : ℕ) → E (codeStep s m p x (x .low) i)
+  code-careful : x .stage ≡ 4 → (p i : ℕ) → E (codeStep s m p x (x .low) i)
   unfolding codeStep insertStep roomStep addStep refuseStep keepStep removeStep G.takeStep
-  code-closes e p i =
+  code-careful e p i =
       let d = x .low in
       either E (eqb (x .code) 3) (insertStep s m p x d i) (removeStep s m p x d i)
       (either E (eqb i 0) (roomStep s m p x d) (keepStep s m p x d)
-      (either E (G.hasTwo s m) (addStep s m p x d) (refuseStep s m x d) (goes (addStep s m p x d) refl) (ends (refuseStep s m x d) (pin-4 e) refl)) (goes (keepStep s m p x d) refl))
-      (either E (eqb i 0) (keepStep s m p x d) (G.takeStep s m p x d i) (goes (keepStep s m p x d) refl) (goes (G.takeStep s m p x d i) refl))
+      (either E (G.hasTwo s m) (addStep s m p x d) (refuseStep s m x d) (goes (addStep s m p x d) refl refl) (ends (refuseStep s m x d) refl (pin-4 e) refl)) (goes (keepStep s m p x d) refl refl))
+      (either E (eqb i 0) (keepStep s m p x d) (G.takeStep s m p x d i) (goes (keepStep s m p x d) refl refl) (goes (G.takeStep s m p x d i) refl refl))
 
-  change-closes : x .stage ≡ 4 → (r p : ℕ) → E (changeStep s m r p x)
+  change-careful : x .stage ≡ 4 → (r p : ℕ) → E (changeStep s m r p x)
   unfolding changeStep changeAt G.waitStep
-  change-closes e r p =
+  change-careful e r p =
       let d = x .low in
       let q : ℕ = changeBlocker s m d p in
       let i = memberOf s m r (descriptorAt s m d .first) (x .entry) in
-      either E (eqb q 0) (codeStep s m p x d i) (G.waitStep s x q) (code-closes e p i) (goes (G.waitStep s x q) refl)
+      either E (eqb q 0) (codeStep s m p x d i) (G.waitStep s x q) (code-careful e p i) (rests (G.waitStep s x q) refl refl refl)
 
-  take-closes : (r n p : ℕ) → E (takeStep s m r n p x)
+  take-careful : (r n p : ℕ) → E (takeStep s m r n p x)
   unfolding takeStep K.waitStep freeStep passStep lastStep doneStep shortStep
-  take-closes r n p =
+  take-careful r n p =
       let d = nextTaken s m r x in
       let q = inWayOf s m d p in
       let f = foundIn s m r x in
       either E (eqb q 0) (freeStep s m r n d p x) (K.waitStep s q x)
-      (either E (ltb (wordOf s m d 1) (x .second)) (passStep s m d p x) (lastStep s m r n d p x) (goes (passStep s m d p x) refl)
-      (either E (leb (2 * f) n) (doneStep s m d p x f) (shortStep s m x f) (goes (doneStep s m d p x f) refl) (ends (shortStep s m x f) refl refl))) (goes (K.waitStep s q x) refl)
+      (either E (ltb (wordOf s m d 1) (x .second)) (passStep s m d p x) (lastStep s m r n d p x) (goes (passStep s m d p x) refl refl)
+      (either E (leb (2 * f) n) (doneStep s m d p x f) (shortStep s m x f) (goes (doneStep s m d p x f) refl refl) (ends (shortStep s m x f) refl refl refl))) (rests (K.waitStep s q x) refl refl refl)
 
-  node-closes : (r p : ℕ) → E (nodeStep s m r p x)
+  node-careful : (r p : ℕ) → E (nodeStep s m r p x)
   unfolding nodeStep
-  node-closes r p = either E (eqb (x .level) 1) (lowestStep s m r p x) (levelStep s m p x) (low-closes r p) (level-closes p)
+  node-careful r p = either E (eqb (x .level) 1) (lowestStep s m r p x) (levelStep s m p x) (low-careful r p) (level-careful p)
 
-  early-closes : ¬ (x .stage ≡ 0) → x .stage ≤ 5 → ¬ (x .stage ≡ 5) → (r p : ℕ) → E (earlyStep s m r p x)
+  early-careful : ¬ (x .stage ≡ 0) → x .stage ≤ 5 → ¬ (x .stage ≡ 5) → (r p : ℕ) → E (earlyStep s m r p x)
   unfolding earlyStep
-  early-closes a l b r p =
-      by-test (eqb (x .stage) 1) (firstStep s m p x) (cond (eqb (x .stage) 2) (enterStep s m p x) (cond (eqb (x .stage) 3) (nodeStep s m r p x) (changeStep s m r p x))) (λ e. first-closes (eqb-is (x .stage) 1 e) p)
-      (λ c. by-test (eqb (x .stage) 2) (enterStep s m p x) (cond (eqb (x .stage) 3) (nodeStep s m r p x) (changeStep s m r p x)) (λ e. enter-closes p)
-      (λ d. by-test (eqb (x .stage) 3) (nodeStep s m r p x) (changeStep s m r p x) (λ e. node-closes r p)
-      (λ e. change-closes (only-4 (x .stage) a l (eqb-not (x .stage) 1 c) (eqb-not (x .stage) 2 d) (eqb-not (x .stage) 3 e) b) r p)))
+  early-careful a l b r p =
+      by-test (eqb (x .stage) 1) (firstStep s m p x) (cond (eqb (x .stage) 2) (enterStep s m p x) (cond (eqb (x .stage) 3) (nodeStep s m r p x) (changeStep s m r p x))) (λ e. first-careful (eqb-is (x .stage) 1 e) p)
+      (λ c. by-test (eqb (x .stage) 2) (enterStep s m p x) (cond (eqb (x .stage) 3) (nodeStep s m r p x) (changeStep s m r p x)) (λ e. enter-careful p)
+      (λ d. by-test (eqb (x .stage) 3) (nodeStep s m r p x) (changeStep s m r p x) (λ e. node-careful r p)
+      (λ e. change-careful (only-4 (x .stage) a l (eqb-not (x .stage) 1 c) (eqb-not (x .stage) 2 d) (eqb-not (x .stage) 3 e) b) r p)))
 
-  all-close : ¬ (x .stage ≡ 0) → x .stage ≤ 5 → (r n p : ℕ) → E (stageStep s m r n p x)
+  all-careful : ¬ (x .stage ≡ 0) → x .stage ≤ 5 → (r n p : ℕ) → E (stageStep s m r n p x)
   unfolding stageStep
-  all-close a l r n p =
-      by-test (eqb (x .stage) 5) (takeStep s m r n p x) (earlyStep s m r p x) (λ e. take-closes r n p) (λ e. early-closes a l (eqb-not (x .stage) 5 e) r p)
+  all-careful a l r n p =
+      by-test (eqb (x .stage) 5) (takeStep s m r n p x) (earlyStep s m r p x) (λ e. take-careful r n p) (λ e. early-careful a l (eqb-not (x .stage) 5 e) r p)
 
-  pub stage-closes : ¬ (x .stage ≡ 0) → x .stage ≤ 5 → (r n p : ℕ) → Closes s m x (stageStep s m r n p x)
+  pub stage-careful : ¬ (x .stage ≡ 0) → x .stage ≤ 5 → (r n p : ℕ) → Careful s m x (stageStep s m r n p x)
   unfolding E
-  stage-closes a l r n p = all-close a l r n p
+  stage-careful a l r n p = all-careful a l r n p
 
 -- ---- the step is the machine's
 

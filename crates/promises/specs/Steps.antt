@@ -30,7 +30,7 @@ use Rattle.refusals.specs.Refusing.{first-of, begun-in, hand-in, step-list, ste
 use Rattle.promises.specs.Relations.{outcome}
 use Rattle.promises.specs.Assembling.{first-not-ending, stands-means, answered-by, set-others}
 use Rattle.promises.specs.Ways.{Serves, none-true, any-party, serve-refused}
-use Rattle.promises.specs.Stepping.{stageStep, stageWritten, StageReady, LeavesBoth, stage-still, stage-closes, stage-moves, stage-list, stage-ready}
+use Rattle.promises.specs.Stepping.{stageStep, stageWritten, StageReady, LeavesBoth, Careful, stage-careful, stage-moves, stage-list, stage-ready}
 
 pub step-refuses : (s : List ℕ) (t : List Session) (p : ℕ) (l : List ℕ) (n : ℕ) → Sound s t → n ≡ first-of (step-list t p) → ¬ (n ≡ 0) → Serves (C.step p l) s t (C.refused n 0) l s t
 unfolding call
@@ -83,12 +83,15 @@ module _ (s : List ℕ) (t : List Session) (p : ℕ) (l : List ℕ) (A : Sound s
       let n = first-of (step-list t p) in
       step-refused s t A p o ∙ ap (λ q. cond q o (answer (refused n 0) σ)) (eq-eqb n 0 z) ∙ ap (λ h. steps p (length l) h σ) hand-is
 
+  careful : Careful s (M-of s) x done-step
+  careful = stage-careful s (M-of s) x (has-hand t p z) (B .holds .hands p party .stage) (R-of s) (length l) p
+
   pub step-done : Serves (C.step p l) s t (said (done-step .answer)) (over (stageWritten s (M-of s) (R-of s) (length l) p x) l) (done-step .words) (set t p (done-step .session))
   step-done =
       answered-by (C.step p l) s t A (over-state (meaning s t)) outcome-is (said (done-step .answer)) (over (stageWritten s (M-of s) (R-of s) (length l) p x) l) (done-step .words) (set t p (done-step .session))
       (moves .tells) written-is (moves .becomes)
-      (λ q. let e = stage-still s x (M-of s) (R-of s) (length l) p q in (e .0, ap (set t p) (e .1) ∙ set-same t p))
-      (λ i k q y. let e = stage-closes s (M-of s) x (has-hand t p z) (B .holds .hands p party .stage) (R-of s) (length l) p i k q y in (e .0, ap (set t p) (e .1)))
+      (λ q. let e = careful .still q in (e .0, ap (set t p) (e .1) ∙ set-same t p))
+      (λ i k q y. let e = careful .closes i k q y in (e .0, ap (set t p) (e .1)))
       (set-others t p (done-step .session)) tt
 
 -- ---- the run of the code, as equations

@@ -32,7 +32,8 @@ use Rattle.layout.specs.Puts.{node-latch}
 use Rattle.layout.specs.Room.{Sizes, sizes-of}
 use Rattle.layout.specs.Asked.{request-in, wait-moves}
 use Rattle.nodes.specs.Paths.{sonAt}
-use Rattle.descents.specs.Descents.{latchAt, hasFree, firstInWay}
+use Rattle.nodes.specs.Ops.{latchAt}
+use Rattle.descents.specs.Descents.{hasFree, firstInWay}
 use Rattle.splits.specs.Splits.{splitRoot, splitRootHalf, dropRoot}
 use Rattle.finishing.specs.Ended.{refused-moves}
 use Rattle.walking.specs.Holes.{fits-usable}
@@ -189,7 +190,7 @@ module _ (s : List ℕ) (t : List Session) (p : ℕ) (l : p ≤ width) (st : ses
     kept-two = ap (λ b. cond b (hasFree s m 1) (hasFree s m 2)) kept ∙ two-free s m (L .free) (H .fits .free)
 
     kept-whole : Free p (L .tree .latch .word) → Steps (enterWhole (droppedWords s m) m p x) (goes-on p r (at k) (whole-root p (means L t)))
-    unfolding wholeAt latchAt goes-on
+    unfolding wholeAt goes-on
     kept-whole fr =
         subst (λ z. Steps z (goes-on p r (at k) (whole-root p (means L t))))
         (sym (ap (λ z. enterWhole z m p x) kept-words ∙ whole-as s m p x (L .tree .latch .num) (suc (L .height)) (root-is s t L H) (H .fits .height)))
@@ -309,7 +310,7 @@ module _ (s : List ℕ) (t : List Session) (p : ℕ) (l : p ≤ width) (st : ses
 
       module _ (fa : Free p (a .latch .word)) where
         dropped-whole : Steps (enterWhole (droppedWords s m) m p x) (goes-on p r (at k) (whole-root p (means Lw t)))
-        unfolding wholeAt latchAt goes-on
+        unfolding wholeAt goes-on
         dropped-whole =
             let D = drop-topped s t L₀ h v a b f H Zw in
             subst (λ z. Steps z (goes-on p r (at k) (whole-root p (means Lw t))))

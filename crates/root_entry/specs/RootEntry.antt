@@ -12,7 +12,8 @@ use Rattle.sessions.specs.declared.Session.{Session}
 use Rattle.outcomes.specs.declared.Answer.the-variants.{More, Wait, Refused}
 use Rattle.outcomes.specs.Said.{Stepped}
 use Rattle.nodes.specs.Paths.{sonAt}
-use Rattle.descents.specs.Descents.{latchAt, hasFree, firstInWay}
+use Rattle.nodes.specs.Ops.{latchAt}
+use Rattle.descents.specs.Descents.{hasFree, firstInWay}
 use Rattle.splits.specs.Splits.{splitRoot, splitRootHalf, CanSplitRoot, dropRoot}
 use Rattle.endings.specs.Table.{idled}
 use Rattle.finishing.specs.Finishing.{endRequest, Endable}

@@ -17,7 +17,8 @@ use Rattle.outcomes.specs.declared.Moved.{Moved}
 use Rattle.outcomes.specs.Said.{Stepped, moved}
 use Rattle.machine.specs.Logic.{leb-yes, leb-no}
 use Rattle.nodes.specs.Paths.{sonAt}
-use Rattle.descents.specs.Descents.{latchAt, hasFree, firstInWay}
+use Rattle.nodes.specs.Ops.{latchAt}
+use Rattle.descents.specs.Descents.{hasFree, firstInWay}
 use Rattle.splits.specs.Splits.{CanSplitRoot, CanDropRoot, dropRoot, splitRoot, splitRootHalf}
 use Rattle.endings.specs.Table.{idled}
 use Rattle.finishing.specs.Finishing.{endRequest}

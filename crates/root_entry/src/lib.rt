@@ -118,7 +118,7 @@ fn enter_whole(store: &mut [u32], m: usize, p: u32, x: Session) -> Moved
 {
     let root = words::root(store);
     let height = words::height(store);
-    descents::set_latch(store, m, root as usize, p + 1);
+    nodes::set_latch(store, m, root as usize, p + 1);
     Moved {
         answer: Answer::More,
         session: at_node(x, root, height),

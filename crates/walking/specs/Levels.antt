@@ -7,12 +7,12 @@ use Prim.Native.Nat.{ℕ, zero, suc, _+_, _-_, _≤_, _<_}
 use native.Mathlib.Omega.{arith}
 use lib.Dec.{leb}
 use lib.ListN.{length, set, getD, take, drop, length-append}
-use Rattle.words.specs.Store.{HasRecord, recordAt, wordOf}
+use Rattle.words.specs.Store.{HasRecord, wordOf, has-kept}
 use Rattle.words.specs.Header.{headerWord, freePlace}
 use Rattle.nodes.specs.declared.Node.{Node}
 use Rattle.reshaping.specs.declared.Neighbours.{Neighbours}
-use Rattle.nodes.specs.Node.{nodeAt, putNode, Sized, sized-decode, node-other}
-use Rattle.nodes.specs.Ops.{sonFor, withLatch}
+use Rattle.nodes.specs.Node.{nodeAt, putNode, decodeNode, Sized}
+use Rattle.nodes.specs.Ops.{sonFor, withLatch, latchAt, latch-same, latch-length, latch-other}
 use Rattle.reshaping.specs.Ops.{splitNode, insertBehind}
 use Rattle.nodes.specs.Live.{Usable}
 use Rattle.reshaping.specs.Live.{left-usable, right-usable, insert-usable}
@@ -21,7 +21,7 @@ use Rattle.nodes.specs.Entries.{latch-entries, entries-length, place-in, find-h
 use Rattle.reshaping.specs.Entries.{behind-entries, split-left, split-up, split-right}
 use Rattle.chain.specs.Free.{popFree}
 use Rattle.nodes.specs.Paths.{sonToward}
-use Rattle.descents.specs.Descents.{Toward, latchAt, plainSon}
+use Rattle.descents.specs.Descents.{Toward, plainSon}
 use Rattle.splits.specs.Splits.{putHalves, splitSon, splitSonHalf}
 use Rattle.sessions.specs.declared.Session.{Session}
 use Rattle.sessions.specs.Sessions.{session-at}
@@ -44,7 +44,7 @@ use Rattle.layout.specs.Places.{Erased}
 use Rattle.layout.specs.Puts.{node-latch, node-count, node-fits}
 use Rattle.layout.specs.Room.{Sizes}
 use Rattle.layout.specs.Asked.{request-in}
-use Rattle.walking.specs.Traces.{Trace, trace-none, trace-node, trace-pop, trace-has, two-first, two-second, three-first, three-second, three-third}
+use Rattle.walking.specs.Traces.{Trace, trace-none, trace-node, trace-latch, trace-pop, trace-has, three-first, three-second, three-third}
 use Rattle.walking.specs.Holes.{fits-usable, Ours, hole-most, ours-has, ours-in, part-keep, sons-keep, hole-fits, hole-row}
 use Rattle.walking.specs.Hands.{nd, standing-at, own-hand, some-mid, some-right, some-cut, marked-into, marked-below, marked-under, marked-self, node-times, flat-times, one-self, means-level, becomes-at}
 
@@ -227,18 +227,12 @@ module _ (s : List ℕ) (t : List Session) (L : Lay) (H : Holds s t L) (Z : Size
   -- ---- plain
 
   module _ (w : ℕ) where
-    abbrev n₀ : Node
-    n₀ = withLatch (nodeAt s m here) 0
-
     abbrev s₁ : List ℕ
-    s₁ = putNode s m here n₀
-
-    abbrev n₁ : Node
-    n₁ = withLatch (nodeAt s₁ m son) w
+    s₁ = latchAt s m here 0
 
     -- The words, the son and the node after.
     abbrev pub plain-words : List ℕ
-    plain-words = putNode s₁ m son n₁
+    plain-words = latchAt s₁ m son w
 
     abbrev pub plain-son : Numbered (suc k)
     plain-son = nd (record { num = son; word = w }) (a .sons)
@@ -251,10 +245,10 @@ module _ (s : List ℕ) (t : List Session) (L : Lay) (H : Holds s t L) (Z : Size
         let f = headerWord s freePlace in
         let has = ours-has s t L H c U is Z in
         let l = ours-in s t L H c U is Z in
-        trace-node s s₁ (here ∷ []) f (trace-node s s [] f (trace-none s) here n₀ (has here here-ours) (l here here-ours)) son n₁ (has son son-ours) (l son son-ours)
+        trace-latch s s₁ (here ∷ []) f (trace-latch s s [] f (trace-none s) here 0 (has here here-ours) (l here here-ours)) son w (has son son-ours) (l son son-ours)
 
     son-same : nodeAt s₁ m son ≡ nodeAt s m son
-    son-same = node-other s m here n₀ son (ours-has s t L H c U is Z here here-ours) (ours-has s t L H c U is Z son son-ours .first) apart-son
+    son-same = ap decodeNode (latch-other s m here 0 (ours-has s t L H c U is Z here here-ours) son (ours-has s t L H c U is Z son son-ours .first) apart-son)
 
     plain-fits : TreeFits plain-words m (suc (suc k)) hi plain-node
     unfolding TreeFits num-of
@@ -265,10 +259,10 @@ module _ (s : List ℕ) (t : List Session) (L : Lay) (H : Holds s t L) (Z : Size
         let O = opened in
         let x = here-missing in
         let y = son-missing in
-        let z : Sized (nodeAt s m here) = sized-decode (recordAt s m here) in
-        let z₁ : Sized (nodeAt s₁ m son) = sized-decode (recordAt s₁ m son) in
-        let i = two-first s m here son n₀ n₁ (has here here-ours) (has son son-ours) apart-son (sized-latch (nodeAt s m here) 0 z) in
-        let j = two-second s m here son n₀ n₁ (has here here-ours) (has son son-ours) apart-son (sized-latch (nodeAt s₁ m son) w z₁) in
+        let hh = has here here-ours in
+        let hs : HasRecord s₁ m son = has-kept (has son son-ours) (latch-length s m here 0 hh) in
+        let i : nodeAt plain-words m here ≡ withLatch (nodeAt s m here) 0 = ap decodeNode (latch-other s₁ m son w hs here (hh .first) (λ e. apart-son (sym e))) ∙ latch-same s m here 0 hh in
+        let j = latch-same s₁ m son w hs in
         let few : nodeAt s m here .count ≤ 8 = subst (λ n. n ≤ 8) (sym (node-count s m here)) (O .parent .few) in
         let few₁ : nodeAt s₁ m son .count ≤ 8 = subst (λ n. n .count ≤ 8) (sym son-same) (subst (λ n. n ≤ 8) (sym (node-count s m son)) (O .node-a .few)) in (
           latch-fits plain-words m here hi (nodeAt s m here) 0 (mapE (num-of (suc k)) (pre ++ (plain-son, b) ∷ post)) i few (O .parent .sons ∙ sym (mapE-mid (num-of (suc k)) pre plain-son b post)),
@@ -659,7 +653,7 @@ module _ (s : List ℕ) (t : List Session) (L : Lay) (H : Holds s t L) (Z : Size
     }
 
     pub plain-words-is : (w : ℕ) → plainSon s m here x w ≡ plain-words w
-    unfolding plainSon latchAt
+    unfolding plainSon
     plain-words-is w = ap (λ i. latchAt (latchAt s m here 0) m i w) toward-is
 
     module _ (w fresh : ℕ) (f′ : List ℕ) (fr : L .free ≡ fresh ∷ f′) (full : length (a .sons) ≡ 8) (room : length (pre ++ (a, b) ∷ post) ≤ 7) where

@@ -13,7 +13,7 @@ use Rattle.words.specs.Frames.{header-same, header-other, header-record}
 use Rattle.nodes.specs.declared.Node.{Node}
 use Rattle.reshaping.specs.declared.Neighbours.{Neighbours}
 use Rattle.nodes.specs.Node.{nodeAt, putNode, decodeNode}
-use Rattle.nodes.specs.Ops.{withLatch, loneNode}
+use Rattle.nodes.specs.Ops.{withLatch, latchAt, loneNode}
 use Rattle.reshaping.specs.Ops.{splitNode, insertBehind, insertSon}
 use Rattle.nodes.specs.Live.{Usable}
 use Rattle.reshaping.specs.Live.{left-usable, right-usable, insert-usable}
@@ -97,7 +97,7 @@ module _ (s : List ℕ) (t : List Session) (L : Lay) (H : Holds s t L) (Z : Size
   entered-tree = relatched (L .height) (latch-word p) (L .tree)
 
   abbrev pub entered-words : List ℕ
-  entered-words = putNode s (M-of s) (L .tree .latch .num) (withLatch (nodeAt s (M-of s) (L .tree .latch .num)) (latch-word p))
+  entered-words = latchAt s (M-of s) (L .tree .latch .num) (latch-word p)
 
   pub entered-written : Written s entered-words (L .tree .latch .num ∷ [])
   entered-written = latch-written s t L H here (L .tree) refl Z (latch-word p)

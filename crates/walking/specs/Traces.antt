@@ -3,11 +3,12 @@ use mathlib.Core.Path.{_≡_, refl, sym, ap, subst, _∙_}
 use mathlib.Core.List.{List, [], _∷_, _++_}
 use Prim.Native.Nat.{ℕ, _≤_, _<_}
 use lib.Dec.{lit<}
-use lib.ListN.{length}
-use Rattle.words.specs.Store.{HasRecord, putRecord, wordOf, has-kept, length-putRecord}
+use lib.ListN.{length, set}
+use Rattle.words.specs.Store.{HasRecord, recordAt, putRecord, length-word, wordOf, has-kept, length-putRecord}
 use Rattle.words.specs.Header.{headerWord, freePlace}
 use Rattle.nodes.specs.declared.Node.{Node}
 use Rattle.nodes.specs.Node.{nodeAt, putNode, encodeNode, length-encode, Sized, node-same, node-other}
+use Rattle.nodes.specs.Ops.{latchAt, latch-record}
 use Rattle.chain.specs.Free.{popFree, pushFree}
 use Rattle.meaning.specs.Reading.{M-of, R-of}
 use Rattle.layout.specs.Written.{Written, SameEntries, written-none, written-then, entries-then, put-head, put-written, put-entries, pop-written, pop-entries, pop-free, pop-head, push-written, push-entries, push-head, push-free}
@@ -46,6 +47,10 @@ module _ (s s₁ : List ℕ) (W : List ℕ) (f : ℕ) (T : Trace s s₁ W f) whe
 
   pub trace-node : (i : ℕ) (n : Node) → HasRecord s (M-of s) i → i ≤ R-of s → Trace s (putNode s₁ (M-of s) i n) (W ++ (i ∷ [])) f
   trace-node i n has l = trace-put i (encodeNode n) has (length-encode n) l
+
+  pub trace-latch : (i w : ℕ) → HasRecord s (M-of s) i → i ≤ R-of s → Trace s (latchAt s₁ (M-of s) i w) (W ++ (i ∷ [])) f
+  trace-latch i w has l =
+      subst (λ z. Trace s z (W ++ (i ∷ [])) f) (latch-record s₁ (M-of s) i w (trace-has has)) (trace-put i (set (recordAt s₁ (M-of s) i) 0 w) has (length-word s₁ (M-of s) i 0 w) l)
 
   -- A record is taken off the free chain.
   pub trace-pop : 16 ≤ length s → ¬ (f ≡ 0) → Trace s (popFree s₁ (M-of s)) (W ++ []) (wordOf s₁ (M-of s) f 0)

@@ -1,14 +1,14 @@
 -- The records of a store of m entries: 16 header words, `entryWords` words an entry, then records of 20 words, numbered from 1.
-use mathlib.Core.Path.{_≡_, refl}
+use mathlib.Core.Path.{_≡_, refl, ap, _∙_}
 use mathlib.Core.List.{List}
 use mathlib.Core.Logic.{_⊎_, inl, inr, ⊎-elim}
 use native.Mathlib.Nat.{eq-or-lt-of-le}
 use Rattle.words.specs.Cases.{order}
-use lib.ListN.{take, drop, length, getD}
+use lib.ListN.{take, drop, length, getD, set, length-set}
 use borrow.Rule.Slice.PartMut.{putMid}
 use Prim.Native.Nat.{ℕ, _+_, _-_, _*_, _≤_, _<_}
 use native.Mathlib.Omega.{arith}
-use Rattle.words.specs.Window.{wordsAt, putAt, length-put, words-put, words-put-before, words-put-after, words-get, words-part, length-words}
+use Rattle.words.specs.Window.{wordsAt, putAt, length-put, words-put, words-put-before, words-put-after, words-get, words-part, length-words, put-set}
 
 -- how many words an entry has
 abbrev pub entryWords : ℕ
@@ -34,6 +34,10 @@ putRecord s m i w = putAt s (baseOf m i) 20 w
 -- word k of record i
 abbrev pub wordOf : List ℕ → ℕ → ℕ → ℕ → ℕ
 wordOf s m i k = getD (recordAt s m i) k 0
+
+-- the store with another word in place of word k of record i
+abbrev pub putWord : List ℕ → ℕ → ℕ → ℕ → ℕ → List ℕ
+putWord s m i k w = set s (baseOf m i + k) w
 
 -- the words beyond r records
 abbrev pub beyond : List ℕ → ℕ → ℕ → List ℕ
@@ -79,6 +83,17 @@ pub length-record : (s : List ℕ) (m i : ℕ) → length (recordAt s m i) ≡ 2
 unfolding recordAt
 length-record s m i = length-words s (baseOf m i) 20
 
+-- ---- one word of a record
+
+module _ (s : List ℕ) (m i k w : ℕ) where
+  pub length-word : length (set (recordAt s m i) k w) ≡ 20
+  length-word = length-set (recordAt s m i) k w ∙ length-record s m i
+
+  -- the record is written with that word replaced
+  pub put-word : HasRecord s m i → k < 20 → putRecord s m i (set (recordAt s m i) k w) ≡ putWord s m i k w
+  unfolding putRecord recordAt
+  put-word has h = put-set s (baseOf m i) 20 k w (has .inside) h
+
 -- a part of 20 words that was lent at record i and has come back, as the borrow checker says it
 pub lent-back : (s : List ℕ) (m i : ℕ) {w w′ : List ℕ} {at : ℕ} → at ≡ baseOf m i → w ≡ w′ → putMid at (at + 20 - at) s w ≡ putRecord s m i w′
 unfolding putRecord putAt
@@ -88,3 +103,8 @@ lent-back s m i {w} {w′} {at} e q = rw (add-sub-left at 20, q, e) refl
 pub lent-part : {s : List ℕ} {m i at : ℕ} → at ≡ baseOf m i → HasRecord s m i → take (at + 20 - at) (drop at s) ≡ recordAt s m i
 unfolding recordAt
 lent-part {s} {m} {i} {at} e has = rw (add-sub-left at 20, e) (words-part s (baseOf m i) 20 (has .inside))
+
+-- word k of the part is written while it is lent
+pub word-lent : (s : List ℕ) {p : List ℕ} (m i k w : ℕ) {at : ℕ} → k < 20 → HasRecord s m i → at ≡ baseOf m i → p ≡ set (take (at + 20 - at) (drop at s)) k w
+    → putMid at (at + 20 - at) s p ≡ putWord s m i k w
+word-lent s m i k w h has e l = lent-back s m i e (l ∙ ap (λ r. set r k w) (lent-part e has)) ∙ put-word s m i k w has h

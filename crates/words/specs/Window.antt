@@ -5,8 +5,9 @@ use mathlib.Core.Logic.{_⊎_, inl, inr}
 use Prim.Native.Nat.{ℕ, zero, suc, _+_, _-_, _≤_, _<_}
 use native.Mathlib.Omega.{arith}
 use native.Mathlib.Nat.{add-zero}
-use lib.ListN.{length, take, drop, getD, set, length-append, length-take, length-drop, List·getD-append}
-use lib.Seq.{drop-cons, getD-take, getD-drop, getD-append-add, getD-set-other, ext-getD, length-take-le, take-all}
+use native.Mathlib.Decide.{ℕ-discrete}
+use lib.ListN.{length, take, drop, getD, set, length-set, length-append, length-take, length-drop, List·getD-append}
+use lib.Seq.{drop-cons, getD-take, getD-drop, getD-append-add, getD-set-other, ext-getD, length-take-le, take-all, getD-set-same}
 use Rattle.words.specs.Cases.{order}
 
 -- the k words from index a, 0 past the list's end
@@ -109,3 +110,30 @@ words-set s at v b n h = words-same (set s at v) s b b n (λ j p. getD-set-other
     apart : (j : ℕ) → j < n → (at < b) ⊎ (b + n ≤ at) → b + j ≡ at → ⊥
     apart j p (inl q) e = omega arith
     apart j p (inr q) e = omega arith
+
+-- a window written with one word replaced is the list with that word replaced
+pub put-set : (s : List ℕ) (at k j v : ℕ) → at + k ≤ length s → j < k → putAt s at k (set (wordsAt s at k) j v) ≡ set s (at + j) v
+put-set s at k j v fits h = ext-getD 0 (putAt s at k w) (set s (at + j) v) (length-put s at k w fits whole ∙ sym (length-set s (at + j) v)) (λ i p. each i (order i at))
+  where
+    w : List ℕ
+    w = set (wordsAt s at k) j v
+
+    whole : length w ≡ k
+    whole = length-set (wordsAt s at k) j v ∙ length-words s at k
+
+    inside : (i : ℕ) → i < k → Dec (i ≡ j) → getD w i 0 ≡ getD (set s (at + j) v) (at + i) 0
+    inside i p (yes e) =
+        ap (λ n. getD w n 0) e ∙ getD-set-same (wordsAt s at k) j v 0 (omega (arith, length-words s at k)) ∙ sym (getD-set-same s (at + j) v 0 (omega arith))
+        ∙ ap (λ n. getD (set s (at + j) v) (at + n) 0) (sym e)
+    inside i p (no n) =
+        getD-set-other (wordsAt s at k) j i v 0 n ∙ words-get s at k i p ∙ sym (getD-set-other s (at + j) (at + i) v 0 (λ e. n (omega (arith, e))))
+
+    from : (i : ℕ) → (i < at + k) ⊎ (at + k ≤ i) → at ≤ i → getD (putAt s at k w) i 0 ≡ getD (set s (at + j) v) i 0
+    from i (inl p) q =
+        ap (λ n. getD (putAt s at k w) n 0) (omega (arith, q)) ∙ put-in s at k w fits whole (i - at) (omega (arith, q)) ∙ inside (i - at) (omega (arith, q)) (ℕ-discrete (i - at) j)
+        ∙ ap (λ n. getD (set s (at + j) v) n 0) (omega (arith, q))
+    from i (inr p) q = put-after s at k w fits whole i p ∙ sym (getD-set-other s (at + j) i v 0 (λ e. omega (arith, e)))
+
+    each : (i : ℕ) → (i < at) ⊎ (at ≤ i) → getD (putAt s at k w) i 0 ≡ getD (set s (at + j) v) i 0
+    each i (inl p) = put-before s at k w fits whole i p ∙ sym (getD-set-other s (at + j) i v 0 (λ e. omega (arith, e)))
+    each i (inr p) = from i (order i (at + k)) p
