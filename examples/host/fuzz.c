@@ -8,19 +8,15 @@
 // pattern, which must stay. Before each call all three are copied, and after it they are compared.
 //
 // The facts (each is a function below, and prints its name where it fails):
-//   - the bits of an answer are those that the header names: word, number, value, and how many numbers there
-//   are
+//   - the bits of an answer are those that the header names: word, number, value, how many numbers there are
 //   - which words each call may answer, and refusals 1 to 12 only
 //   - a call is refused exactly by the first check that fails, in the order of the scope paper; 11 and 12
-//   only in a
-//     step; and it is refused with 2 exactly if entry_store_fault names a part
+//     only in a step; and it is refused with 2 exactly if entry_store_fault names a part
 //   - a refusal but 11 and 12, and a wait, change nothing; 11 and 12 change the party's own record, and in
-//   the store
-//     at most one short lock and two seize counts
+//     the store at most one short lock and two seize counts
 //   - a wait names a party that has begun, never the caller
 //   - done ends the request in hand, more leaves it; a read answers the entry's value; a locate's pairs rise,
-//   lie in
-//     its range and are as many as it says; nothing else writes the list
+//     lie in its range and are as many as it says; nothing else writes the list
 //   - only the caller's record of the table changes; begin and put leave the store
 //   - after every accepted call store and table are sound, M and R and the words beyond the records as before
 //

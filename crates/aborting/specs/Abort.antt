@@ -20,7 +20,7 @@ use Rattle.machine.specs.Ending.{ended-sound}
 use Rattle.meaning.specs.Reading.{M-of, R-of}
 use Rattle.meaning.specs.Frame.{leaf-records}
 use Rattle.layout.specs.Layout.{Undone, leaves-in, Holds, means, session-in}
-use Rattle.layout.specs.Row.{Stands, Becomes}
+use Rattle.layout.specs.Row.{Stands, Becomes, becomes-then}
 use Rattle.layout.specs.Written.{Written, written-then}
 use Rattle.layout.specs.Keep.{table-here}
 use Rattle.layout.specs.Places.{session-means}
@@ -191,17 +191,6 @@ module _ (s : List ℕ) (t : List Session) (A : Stands s t) (q : ℕ) (high : su
   undos-ready = W .ready
 
 -- ---- the whole
-
-becomes-then : (s s′ s″ : List ℕ) (t′ t″ : List Session) (a b : State) → Becomes s s′ t′ a → Becomes s′ s″ t″ b → Becomes s s″ t″ b
-becomes-then s s′ s″ t′ t″ a b A B = record {
-  lay = B .lay;
-  holds = B .holds;
-  means-next = B .means-next;
-  long = B .long ∙ A .long;
-  entries = B .entries ∙ A .entries;
-  records = B .records ∙ A .records;
-  rest = subst (λ m. beyond s″ m (R-of s) ≡ beyond s′ m (R-of s)) (A .entries) (subst (λ r. beyond s″ (M-of s′) r ≡ beyond s′ (M-of s′) r) (A .records) (B .rest)) ∙ A .rest;
-}
 
 module _ (s : List ℕ) (t : List Session) (A : Stands s t) (q : ℕ) (high : suc q ≤ width) where
   abbrev n : ℕ

@@ -70,7 +70,7 @@ pub fn commit(store: &mut [u32], t: [Session; PARTIES], p: u32) -> Served
     let undo = x.undo as usize;
     leaving::commit_words(store, m, r, p, undo);
     let y = endings::ended_session(x);
-    let after = refusals::settle(t, p, y);
+    let after = refusals::settle(t, p, y); // committed
     Served {
         table: after,
         answer: Answer::Ok,
@@ -112,7 +112,7 @@ pub fn format(store: &mut [u32], t: [Session; PARTIES], m: u32) -> Served
     endings::fresh_store(store, entries, r);
     let after = fresh_table();
     Served {
-        table: after,
+        table: after, // cleared
         answer: Answer::Ok,
     }
 }

@@ -31,12 +31,10 @@ pub const KEYS: usize = 7;
 
 pub const RANGE: usize = 8;
 
-// How many calls the round has, and at every how many store and model are compared whole and the checker is asked.
+// How many calls the round has, and at every how many the checker is asked.
 pub const TURNS: usize = 9;
 
-pub const EVERY: usize = 10;
-
-pub const ASKED: usize = 11;
+pub const ASKED: usize = 10;
 
 // What the sessions are mostly at, and the last key of a rising row.
 pub const PHASE: usize = 12;

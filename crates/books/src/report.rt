@@ -194,7 +194,7 @@ fn tell_compared(b: &Book) {
  aborts on copies for these
  stores sound to the checker
  copies with a word changed sound to both judges
- copies with a word changed refused by both
+ copies with a word changed refused by both, by 2
  levels of nodes at most
  descriptors at most
 ",

@@ -15,27 +15,8 @@ use Rattle.outcomes.specs.declared.Answer.the-variants.{Wait, Done, Refused}
 use Rattle.outcomes.specs.Said.{Stepped}
 use Rattle.members.specs.Members.{Pinned, Holdable, Puttable, Takeable, putMember, takeMember, updateAt, unpinAt}
 use Rattle.undo_log.specs.Undoing.{Loggable, logAdded, logTaken}
-use Rattle.endings.specs.Table.{idled}
+use Rattle.endings.specs.Table.{loggedBy, idled}
 use Rattle.scans.specs.Scans.{memberOf}
-
--- No request in hand, and record i the newest undo record.
-unfoldable pub loggedBy : Session → ℕ → Session
-loggedBy x i =
-    record {
-      begun = x .begun;
-      code = x .code;
-      entry = x .entry;
-      first = x .first;
-      second = x .second;
-      stage = 0;
-      target = x .target;
-      at = x .at;
-      level = x .level;
-      low = x .low;
-      high = x .high;
-      last = x .last;
-      undo = i;
-    }
 
 -- Session p holds the key of descriptor d in update mode, and its request pins d no more.
 unfoldable pub holdAndEnd : List ℕ → ℕ → ℕ → ℕ → List ℕ

@@ -36,7 +36,8 @@ use Rattle.members.specs.Members.{Pinned, updateAt, putMember, takeMember, Putt
 use Rattle.undo_log.specs.Undoing.{logAdded, logTaken, Loggable}
 use Rattle.scans.specs.Scans.{memberOf}
 use Rattle.grouping.specs.GroupWords.{Within, first-in}
-use Rattle.changing.specs.Changing.{addedWords, takenWords, loggedBy, Ends, AddsReady, TakesReady, RoomReady, CodeReady, ChangeReady}
+use Rattle.endings.specs.Table.{loggedBy}
+use Rattle.changing.specs.Changing.{addedWords, takenWords, Ends, AddsReady, TakesReady, RoomReady, CodeReady, ChangeReady}
 use Rattle.changing.specs.Naming.{split-at}
 use Rattle.changing.specs.Logged.{own-within, within-free}
 use Rattle.changing.specs.Adding.{puttable, loggable, added-long, added-pins}

@@ -41,11 +41,11 @@ use Rattle.layout.specs.Room.{Sizes, sizes-of}
 use Rattle.layout.specs.Short.{members-short}
 use Rattle.members.specs.Members.{putMember, takeMember, unpinAt}
 use Rattle.undo_log.specs.Undoing.{logAdded, logTaken}
-use Rattle.endings.specs.Table.{idled}
+use Rattle.endings.specs.Table.{loggedBy, idled}
 use Rattle.scans.specs.Scans.{memberOf}
 use Rattle.long_locks.specs.LongLocks.{NarrowDesc, lowest-in, lowest-none, lowest-some, key-narrow}
 use Rattle.grouping.specs.GroupWords.{Within}
-use Rattle.changing.specs.Changing.{loggedBy, holdAndEnd, changeBlocker, keepStep, addedWords, addStep, takenWords, takeStep, refuseStep, waitStep, hasTwo, roomStep, insertStep, removeStep, codeStep, changeAt, changeStep}
+use Rattle.changing.specs.Changing.{holdAndEnd, changeBlocker, keepStep, addedWords, addStep, takenWords, takeStep, refuseStep, waitStep, hasTwo, roomStep, insertStep, removeStep, codeStep, changeAt, changeStep}
 use Rattle.changing.specs.Logs.{key-desc}
 use Rattle.changing.specs.Naming.{undo-entry, others-entries, member-walk, split-at, found-elem, lost-elem, has-mid}
 use Rattle.changing.specs.Logged.{group-was, desc-was, within-members}

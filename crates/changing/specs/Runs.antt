@@ -18,9 +18,9 @@ use Rattle.outcomes.specs.declared.Moved.{Moved}
 use Rattle.outcomes.specs.Said.{Stepped, moved}
 use Rattle.members.specs.Members.{Pinned, Puttable, putMember, takeMember, updateAt, unpinAt}
 use Rattle.undo_log.specs.Undoing.{Loggable, logAdded, logTaken}
-use Rattle.endings.specs.Table.{idled}
+use Rattle.endings.specs.Table.{loggedBy, idled}
 use Rattle.scans.specs.Scans.{memberOf}
-use Rattle.changing.specs.Changing.{loggedBy, holdAndEnd, changeBlocker, keepStep, addedWords, addStep, takenWords, takeStep, refuseStep, waitStep, hasTwo, roomStep, insertStep, removeStep, codeStep, changeAt, changeStep, Ends, CodeReady}
+use Rattle.changing.specs.Changing.{holdAndEnd, changeBlocker, keepStep, addedWords, addStep, takenWords, takeStep, refuseStep, waitStep, hasTwo, roomStep, insertStep, removeStep, codeStep, changeAt, changeStep, Ends, CodeReady}
 
 -- The words t and the session record and answer r are those of z.
 abbrev pub Leaves : List ℕ → Moved → Stepped → Type 0

@@ -12,7 +12,7 @@ ghost use Rattle.words.specs.Header.{headerWord, freePlace};
 ghost use Rattle.chain.specs.Free.{Poppable, popFree};
 ghost use Rattle.outcomes.specs.Said.{moved};
 ghost use Rattle.members.specs.Members.{Pinned, Takeable, putMember};
-ghost use Rattle.changing.specs.Changing.{loggedBy, holdAndEnd, changeBlocker, addedWords, takenWords, keepStep, addStep, takeStep, refuseStep, hasTwo, roomStep, insertStep, removeStep, codeStep, changeStep, Ends, AddReady, AddsReady, TakesReady, RoomReady, InsertReady, RemoveReady, CodeReady, ChangeReady, BlockerReady};
+ghost use Rattle.changing.specs.Changing.{holdAndEnd, changeBlocker, addedWords, takenWords, keepStep, addStep, takeStep, refuseStep, hasTwo, roomStep, insertStep, removeStep, codeStep, changeStep, Ends, AddReady, AddsReady, TakesReady, RoomReady, InsertReady, RemoveReady, CodeReady, ChangeReady, BlockerReady};
 use outcomes::Answer;
 use outcomes::Moved;
 use sessions::Session;
@@ -35,15 +35,6 @@ fn hold_and_end(store: &mut [u32], m: usize, d: usize, p: u32)
 {
     members::hold_update(store, m, d, p);
     members::unpin_at(store, m, d);
-}
-
-// The request is finished, and record i is the newest undo record.
-fn logged_session(mut x: Session, i: u32) -> Session
-    ensures { λ r. ⌜ r ≡ loggedBy x i ⌝ }
-{
-    x.stage = 0;
-    x.undo = i;
-    x
 }
 
 // ---- the changes
@@ -103,7 +94,7 @@ fn add_step(store: &mut [u32], m: usize, p: u32, x: Session, d: usize) -> Moved
     hold_and_end(store, m, d, p);
     Moved {
         answer: Answer::Done(1),
-        session: logged_session(x, b as u32),
+        session: endings::logged_session(x, b as u32),
     }
 }
 
@@ -115,7 +106,7 @@ fn take_step(store: &mut [u32], m: usize, p: u32, x: Session, d: usize, i: usize
     hold_and_end(store, m, d, p);
     Moved {
         answer: Answer::Done(1),
-        session: logged_session(x, i as u32),
+        session: endings::logged_session(x, i as u32),
     }
 }
 

@@ -1,4 +1,5 @@
-// Checker: a second judge of soundness, written from document 01's paragraph "Sound means" alone, a function for each clause in its order.
+// Checker: a second judge of soundness, written from document 01's paragraph "Sound means" and readings 15 and 16 of docs/DECISIONS.md, a function for each
+// clause in its order.
 //
 // It is slow on purpose: it lists every record as it is reached and then looks through that list again and again. It has no definition and
 // shares no code with the store's own test, so that the two can be held against each other. It takes any words and any session records, and

@@ -38,11 +38,11 @@ fn whole_key(b: &mut Book) -> u32 {
     with_word(round, below(b, range))
 }
 
-// driver × 1,048,576 + minute
+// A key packed of a high and a low part, as document 01's planner packs driver and minute.
 fn packed_key(b: &mut Book) -> u32 {
-    let driver = 1 + below(b, 6) % 6;
+    let high = 1 + below(b, 6) % 6;
     let range = get(b, RANGE);
-    sum(driver << 20, below(b, range))
+    sum(high << 20, below(b, range))
 }
 
 // A key a little above the last one.

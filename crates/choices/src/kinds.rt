@@ -7,7 +7,6 @@ use books::book::ASKED;
 use books::book::Book;
 use books::book::CALL;
 use books::book::ENTRIES;
-use books::book::EVERY;
 use books::book::IS_STOPPED;
 use books::book::KEYS;
 use books::book::PHASE;
@@ -35,7 +34,7 @@ use schedules::words::sum;
 // How many kinds of rounds there are.
 const KINDS: u32 = 10;
 
-// Sessions, entries and records of a kind; which keys and how many of them; how many calls; the intervals of whole comparisons and of the checker.
+// Sessions, entries and records of a kind; which keys and how many of them; how many calls; the interval of the checker.
 struct Kind {
     sessions: u32,
     entries: u32,
@@ -43,7 +42,6 @@ struct Kind {
     keys: u32,
     range: u32,
     turns: u32,
-    every: u32,
     asked: u32,
 }
 
@@ -56,7 +54,6 @@ fn sized(sessions: u32, entries: u32, records: u32, keys: u32, range: u32) -> Ki
             keys: keys,
             range: range,
             turns: 6000,
-            every: 1,
             asked: 2,
         };
     }
@@ -66,8 +63,7 @@ fn sized(sessions: u32, entries: u32, records: u32, keys: u32, range: u32) -> Ki
         records: records,
         keys: keys,
         range: range,
-        turns: 14000,
-        every: 1 + records / 64,
+        turns: 10000,
         asked: 1 + records / 8,
     }
 }
@@ -104,7 +100,6 @@ fn set_kind(b: &mut Book, k: Kind) {
     put(b, KEYS, k.keys);
     put(b, RANGE, k.range);
     put(b, TURNS, k.turns);
-    put(b, EVERY, k.every);
     put(b, ASKED, k.asked);
     let fit = 16 + 3 * (k.entries % 64) + 20 * (k.records % 1024);
     let words = sum(fit, below(b, 20));

@@ -1,9 +1,10 @@
 // Compare: a second model beside the store on long random schedules of 6 and of 16 sessions and the housekeeper.
 //
 // Every call is made on the store (crate calls) and on a model of plain arrays that was written from document 01 alone (crate naive). Answers and
-// lists are compared at every call; entries, the holders and members of keys, free count and tree at every call of a small round and at every few of
-// a large one. Each committed session runs whole on the logical model, in order of commit, and each aborted one on a copy; the store, with all that
-// are unfinished aborted, is compared with the logical content. The checker judges the store throughout. Random and fixed: each run is the same.
+// lists are compared at every call, and all words where none may change; entries, the holders and members of keys, free count and tree at every call
+// that may change a word. Each committed session runs whole on the logical model, in order of commit, and each aborted one on a copy; at every commit
+// and at the end the store, with all that are unfinished aborted, is compared with the logical content. The checker judges the store throughout.
+// Random and fixed: each run is the same.
 mod make;
 mod rounds;
 

@@ -1,7 +1,6 @@
 // Make: a call made on both, and all that is compared after it.
 use books::book::ASKED;
 use books::book::Book;
-use books::book::EVERY;
 use books::book::Model;
 use books::book::is_due;
 use books::call::Call;
@@ -16,15 +15,13 @@ use schedules::logs::Logs;
 use schedules::words::SIDE;
 use schedules::words::Side;
 use schedules::words::copy;
+use turns::answers::is_still;
 use turns::answers::see_call;
 use turns::hands::after;
 use turns::model::on_model;
 
-// What is compared whole, at every so many calls.
-fn see_due(s: &Side, a: &Model, b: &mut Book) {
-    if is_due(b, EVERY) {
-        see(s, a, b);
-    }
+// The checker is asked, at every so many calls.
+fn judge_due(s: &Side, b: &mut Book) {
     if is_due(b, ASKED) {
         judge(s, b);
     }
@@ -47,5 +44,8 @@ pub fn make(
     if after(lists, b, l, content, c, x) {
         see_copy(s, b, content);
     }
-    see_due(s, a, b);
+    if !is_still(x) {
+        see(s, a, b);
+    }
+    judge_due(s, b);
 }

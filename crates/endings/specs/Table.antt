@@ -21,6 +21,25 @@ idled x =
       undo = x .undo;
     }
 
+-- no request in hand, and record i the newest undo record
+unfoldable pub loggedBy : Session → ℕ → Session
+loggedBy x i =
+    record {
+      begun = x .begun;
+      code = x .code;
+      entry = x .entry;
+      first = x .first;
+      second = x .second;
+      stage = 0;
+      target = x .target;
+      at = x .at;
+      level = x .level;
+      low = x .low;
+      high = x .high;
+      last = x .last;
+      undo = i;
+    }
+
 -- as begun says, with no request in hand and no undo record
 abbrev pub marked : ℕ → Session → Session
 marked begun x =

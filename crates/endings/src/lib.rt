@@ -13,7 +13,7 @@ ghost use Rattle.sessions.specs.Sessions.{idle-session};
 ghost use Rattle.chain.specs.Walk.{Walk};
 ghost use Rattle.endings.specs.Leave.{IsSession, HasEntries, leaveEntry, leaveEntries, leftDescriptor, leaveGroup, leaveGroups};
 ghost use Rattle.endings.specs.Fresh.{Roomy, freshHeader, freshEntry, freshEntries, zeroDescriptor, freshFree, freshStore};
-ghost use Rattle.endings.specs.Table.{idled, unbegun, newlyBegun, requested};
+ghost use Rattle.endings.specs.Table.{loggedBy, idled, unbegun, newlyBegun, requested};
 use groups::Descriptor;
 use sessions::Session;
 
@@ -180,6 +180,15 @@ pub fn idle_session(mut x: Session) -> Session
     ensures { λ r. ⌜ r ≡ idled x ⌝ }
 {
     x.stage = 0;
+    x
+}
+
+// The request ends, and record i is the newest undo record.
+pub fn logged_session(mut x: Session, i: u32) -> Session
+    ensures { λ r. ⌜ r ≡ loggedBy x i ⌝ }
+{
+    x.stage = 0;
+    x.undo = i;
     x
 }
 

@@ -3,6 +3,7 @@ use mathlib.Core.Path.{_≡_, refl, sym, ap, subst, _∙_}
 use mathlib.Core.Bool.{true}
 use mathlib.Core.List.{List, [], _∷_, map}
 use Prim.Native.Nat.{ℕ, _<_}
+use native.Mathlib.Decide.{ℕ-discrete}
 use lib.Dec.{T, ltb, ltb→lt}
 use lib.ListN.{length}
 use Rattle.sessions.specs.declared.Session.{Session}
@@ -11,11 +12,13 @@ use Rattle.serial.specs.Calls.{Turn, nothing, told, Demand-3}
 use Rattle.serial.specs.Calls as C
 use Rattle.serial.specs.Serial.{true≢false}
 use Rattle.outcomes.specs.declared.Answer.{Answer}
+use Rattle.outcomes.specs.declared.Answer.the-variants.{Refused}
 use Rattle.outcomes.specs.Said.{said}
+use Rattle.promises.specs.Relations.{Calls}
 use Rattle.promises.specs.Demands.{Lending, words}
 use Rattle.store.specs.declared.Ask.{Ask}
 use Rattle.store.specs.Lent.{Formatted, Begun, Put, Committed, Aborted}
-use Rattle.store.specs.Turns.{turn, Lends, formats, begins, puts, steps, commits, aborts, Lendings, Sound-lent, sound-long, lends-sound, format-sound, lent-demand-3}
+use Rattle.store.specs.Turns.{lending, turn, Lends, formats, begins, puts, steps, commits, aborts, TurnedAway, Lendings, lent-demand-3}
 use Rattle.store.specs.Turns as L
 use Rattle.entry_store.specs.Packed.{unpacked, unpacked-packed, Small, Worded, Packs}
 use Rattle.entry_store.specs.Brief.{brief, calls-brief, formats-brief}
@@ -69,13 +72,15 @@ Exported x (C.step p w) r l y = Stepped (x .store) (x .table) w p r (y .store) (
 Exported x (C.commit p) r l y = Told Committed (x .store) (x .table) p r (y .store) (y .table)
 Exported x (C.abort p) r l y = Told Aborted (x .store) (x .table) p r (y .store) (y .table)
 
--- A list of calls.
+-- A list of calls: the host lends its store and its table as the call before left them; or its store with another table u, is turned away, and keeps its own.
 pub data Exchanges : Lending → List Exchange → Lending → Type 0 where
   over : {x : Lending} → Exchanges x [] x
   then : {x y z : Lending} {k : Exchange} {ks : List Exchange} → Exported x (k .call) (k .number) (k .list) y → Exchanges y ks z → Exchanges x (k ∷ ks) z
+  wrong : {x z : Lending} {k : Exchange} {ks : List Exchange} (y : Lending) (u : List Session) → TurnedAway (unpacked (k .number))
+      → Exported (lending (x .store) u) (k .call) (k .number) (k .list) y → Exchanges (lending (y .store) (x .table)) ks z → Exchanges x (k ∷ ks) z
 
 -- It is a return of the store's function (store, specs/Turns), with the answer read off the number.
-module _ (x y : Lending) (r : ℕ) (n : length (x .table) ≡ parties) where
+module _ (x y : Lending) (r : ℕ) where
   abbrev s : List ℕ
   s = x .store
 
@@ -88,25 +93,37 @@ module _ (x y : Lending) (r : ℕ) (n : length (x .table) ≡ parties) where
   abbrev t′ : List Session
   t′ = y .table
 
+  -- Whatever the table's length, the answer fits the number.
+  fits : (a : Answer) → (length t ≡ parties → brief (said a) ≡ true) → (¬ (length t ≡ parties) → a ≡ Refused 1 0) → brief (said a) ≡ true
+  fits a f g = go (ℕ-discrete (length t) parties)
+    where
+      go : Dec (length t ≡ parties) → brief (said a) ≡ true
+      go (yes n) = f n
+      go (no z) = ap (λ b. brief (said b)) (g z)
+
   read-off : (c : C.Call) (a : Answer) (l : List ℕ) → Packs (said a) r → brief (said a) ≡ true → Lends x (turn c a l) y → Lends x (record { call = c; answer = unpacked r; list = l }) y
   read-off c a l P e h = subst (λ z. Lends x (record { call = c; answer = z; list = l }) y) (sym (reads (said a) r P e)) h
 
+  fits-call : (c : C.Call) (a : Answer) (l : List ℕ) → (length t ≡ parties → Calls c s t (said a) l s′ t′) → (¬ (length t ≡ parties) → a ≡ Refused 1 0) → brief (said a) ≡ true
+  fits-call c a l f g = fits a (λ n. calls-brief c s t (said a) l s′ t′ (f n)) g
+
   lends : (c : C.Call) (l : List ℕ) → Exported x c r l y → Lends x (record { call = c; answer = unpacked r; list = list-told c l }) y
-  lends (C.format m) l h = let a = h .answer in read-off (C.format m) a [] (h .packs) (formats-brief m s t (said a) s′ t′ (h .does .0 n)) (formats {a = a} (h .does))
-  lends (C.begin p) l h = let a = h .answer in read-off (C.begin p) a [] (h .packs) (calls-brief (C.begin p) s t (said a) [] s′ t′ (h .does .0 n)) (begins {a = a} (h .does))
+  lends (C.format m) l h =
+      let a = h .answer in
+      read-off (C.format m) a [] (h .packs) (fits a (λ n. formats-brief m s t (said a) s′ t′ (h .does .0 n)) (λ z. h .does .1 z .0)) (formats {a = a} (h .does))
+  lends (C.begin p) l h = let a = h .answer in read-off (C.begin p) a [] (h .packs) (fits-call (C.begin p) a [] (h .does .0) (λ z. h .does .1 z .0)) (begins {a = a} (h .does))
   lends (C.put p c e f g) l h =
       let a = h .answer in
       let k : Ask = record { party = p; code = c; entry = e; first = f; second = g } in
-      read-off (C.put p c e f g) a [] (h .packs) (calls-brief (C.put p c e f g) s t (said a) [] s′ t′ (h .does .0 n)) (puts {k = k} {a = a} (h .does))
-  lends (C.step p w) l h = let a = h .answer in read-off (C.step p w) a l (h .packs) (calls-brief (C.step p w) s t (said a) l s′ t′ (h .does .0 n)) (steps {a = a} (h .does))
-  lends (C.commit p) l h = let a = h .answer in read-off (C.commit p) a [] (h .packs) (calls-brief (C.commit p) s t (said a) [] s′ t′ (h .does .0 n)) (commits {a = a} (h .does))
-  lends (C.abort p) l h = let a = h .answer in read-off (C.abort p) a [] (h .packs) (calls-brief (C.abort p) s t (said a) [] s′ t′ (h .does .0 n)) (aborts {a = a} (h .does))
+      read-off (C.put p c e f g) a [] (h .packs) (fits-call (C.put p c e f g) a [] (h .does .0) (λ z. h .does .1 z .0)) (puts {k = k} {a = a} (h .does))
+  lends (C.step p w) l h = let a = h .answer in read-off (C.step p w) a l (h .packs) (fits-call (C.step p w) a l (h .does .0) (λ z. h .does .1 z .0)) (steps {a = a} (h .does))
+  lends (C.commit p) l h = let a = h .answer in read-off (C.commit p) a [] (h .packs) (fits-call (C.commit p) a [] (h .does .0) (λ z. h .does .1 z .0)) (commits {a = a} (h .does))
+  lends (C.abort p) l h = let a = h .answer in read-off (C.abort p) a [] (h .packs) (fits-call (C.abort p) a [] (h .does .0) (λ z. h .does .1 z .0)) (aborts {a = a} (h .does))
 
-lendings : {x y : Lending} {ks : List Exchange} → Sound-lent x → Exchanges x ks y → Lendings x (map turn-of ks) y
-lendings S over = L.over
-lendings S (then {x} {y} {z} {k} {ks} d r) =
-    let h = lends x y (k .number) (sound-long x S) (k .call) (k .list) d in
-    L.then h (lendings (lends-sound S h) r)
+lendings : {x y : Lending} {ks : List Exchange} → Exchanges x ks y → Lendings x (map turn-of ks) y
+lendings over = L.over
+lendings (then {x} {y} {z} {k} {ks} d r) = L.then (lends x y (k .number) (k .call) (k .list) d) (lendings r)
+lendings (wrong {x} {z} {k} {ks} y u v d r) = L.wrong v (lends (lending (x .store) u) y (k .number) (k .call) (k .list) d) (lendings r)
 
 -- A format that returned 0, ok, on a table of 17 records; then any list of calls, by any parties: it keeps demand 3.
 pub exported-demand-3 : (m : ℕ) (x x′ : Lending) → length (x .table) ≡ parties → Told Formatted (x .store) (x .table) m 0 (x′ .store) (x′ .table)
@@ -116,4 +133,4 @@ exported-demand-3 m x x′ n h ks y r =
     let a = h .answer in
     let e = reads (said a) 0 (h .packs) (formats-brief m (x .store) (x .table) (said a) (x′ .store) (x′ .table) (h .does .0 n)) in
     let ok = sym e in
-    lent-demand-3 m a x x′ (h .does) ok (map turn-of ks) y (lendings (format-sound m a x x′ (h .does) ok) r)
+    lent-demand-3 m a x x′ (h .does) ok (map turn-of ks) y (lendings r)

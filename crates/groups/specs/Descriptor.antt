@@ -76,8 +76,15 @@ putPins s m i pins = putWord s m i 5 pins
 pub pins-words : (l : List ℕ) (n : ℕ) → length l ≡ 20 → decodeDescriptor (set l 5 n) ≡ withPins (decodeDescriptor l) n
 unfolding decodeDescriptor withPins
 pins-words l n e =
-    rw (getD-set-other l 5 0 n 0 (λ q. omega (arith, q)), getD-set-other l 5 1 n 0 (λ q. omega (arith, q)), getD-set-other l 5 2 n 0 (λ q. omega (arith, q)),
-    getD-set-other l 5 3 n 0 (λ q. omega (arith, q)), getD-set-other l 5 4 n 0 (λ q. omega (arith, q)), getD-set-same l 5 n 0 (omega (arith, e)), getD-set-other l 5 6 n 0 (λ q. omega (arith, q))) refl
+    rw (
+      getD-set-other l 5 0 n 0 (λ q. omega (arith, q)),
+      getD-set-other l 5 1 n 0 (λ q. omega (arith, q)),
+      getD-set-other l 5 2 n 0 (λ q. omega (arith, q)),
+      getD-set-other l 5 3 n 0 (λ q. omega (arith, q)),
+      getD-set-other l 5 4 n 0 (λ q. omega (arith, q)),
+      getD-set-same l 5 n 0 (omega (arith, e)),
+      getD-set-other l 5 6 n 0 (λ q. omega (arith, q)),
+    ) refl
 
 -- the three words of holders replaced
 unfoldable pub withHolders : Descriptor → ℕ → ℕ → ℕ → Descriptor

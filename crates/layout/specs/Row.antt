@@ -1,6 +1,6 @@
 -- What is proved of a row of the step tables on words: from words that hold a layout which means a sound state, the words after hold a layout that means the
 -- machine's next state; and then they are sound and mean it.
-use mathlib.Core.Path.{_≡_}
+use mathlib.Core.Path.{_≡_, subst, _∙_}
 use mathlib.Core.List.{List}
 use Prim.Native.Nat.{ℕ}
 use lib.ListN.{length, set}
@@ -28,6 +28,18 @@ pub record Becomes (s s′ : List ℕ) (t′ : List Session) (next : State) : Ty
   pub entries : M-of s′ ≡ M-of s
   pub records : R-of s′ ≡ R-of s
   pub rest : beyond s′ (M-of s) (R-of s) ≡ beyond s (M-of s) (R-of s)
+
+-- One change after another.
+pub becomes-then : (s s′ s″ : List ℕ) (t′ t″ : List Session) (a b : State) → Becomes s s′ t′ a → Becomes s′ s″ t″ b → Becomes s s″ t″ b
+becomes-then s s′ s″ t′ t″ a b A B = record {
+  lay = B .lay;
+  holds = B .holds;
+  means-next = B .means-next;
+  long = B .long ∙ A .long;
+  entries = B .entries ∙ A .entries;
+  records = B .records ∙ A .records;
+  rest = subst (λ m. beyond s″ m (R-of s) ≡ beyond s′ m (R-of s)) (A .entries) (subst (λ r. beyond s″ (M-of s′) r ≡ beyond s′ (M-of s′) r) (A .records) (B .rest)) ∙ A .rest;
+}
 
 -- A step of party p: the words s′, its session record x′ and the answer a are the machine's outcome o.
 pub record Moves (s : List ℕ) (t : List Session) (p : ℕ) (s′ : List ℕ) (x′ : Session) (a : C.Answer) (o : Outcome) : Type 0 where

@@ -64,6 +64,20 @@ Tells (wait ps) a = (p : ℕ) × (elem p ps ≡ true) × (a ≡ C.wait p)
 Tells (done ns) a = a ≡ C.done ns
 Tells (refused n k) a = a ≡ C.refused n k
 
+pub told-done : (a : Answer) (ns : List ℕ) → Tells a (C.done ns) → a ≡ done ns
+told-done ok ns e = cc
+told-done more ns e = cc
+told-done (wait ps) ns e = let q = e .2 in cc
+told-done (done ms) ns e = cc
+told-done (refused n b) ns e = cc
+
+pub told-refused : (a : Answer) (n k : ℕ) → Tells a (C.refused n k) → a ≡ refused n k
+told-refused ok n k e = cc
+told-refused more n k e = cc
+told-refused (wait ps) n k e = let q = e .2 in cc
+told-refused (done ms) n k e = cc
+told-refused (refused i j) n k e = cc
+
 -- The list at exit: the pairs written at its start, later words as they were. Calls but step have none.
 abbrev pub list-after : C.Call → List (ℕ × ℕ) → List ℕ
 list-after (C.format m) w = []

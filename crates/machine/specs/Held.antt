@@ -36,7 +36,7 @@ use Rattle.machine.specs.Safety.{safe-of}
 use Rattle.machine.specs.Ledger.{Ledger, no-locks, keys, step-grants, granted, is-ok, ends-at, ended-by, next-ledger, ledger-after}
 use Rattle.machine.specs.Grows.{GrowsBy, alike-grows, ready-grows, tidy-grows, refused-grants}
 use Rattle.machine.specs.Answers.{req-locate}
-use Rattle.machine.specs.Demand.{Lent, as-put, hand-put, call-of, Tells, Performs, machine, fresh-formatted}
+use Rattle.machine.specs.Demand.{Lent, as-put, hand-put, call-of, Tells, told-done, Performs, machine, fresh-formatted}
 use Rattle.machine.specs.Demand3.{machine-laws}
 
 -- ---- the other calls
@@ -159,13 +159,6 @@ turn-is k x y p d =
 run-cut : (ks js : List Turn) {x z : Lent} → Run machine x (ks ++ js) z → (y : Lent) × Run machine x ks y × Run machine y js z
 run-cut [] js {x} {z} r = (x, C.stop, r)
 run-cut (k ∷ ks) js (C.next d r) = let q = run-cut ks js r in (q .0, C.next d (q .1), q .2)
-
-told-done : (a : Answer) (ns : List ℕ) → Tells a (C.done ns) → a ≡ done ns
-told-done ok ns e = cc
-told-done more ns e = cc
-told-done (wait ps) ns e = let q = e .2 in cc
-told-done (done ms) ns e = cc
-told-done (refused n b) ns e = cc
 
 -- ---- the theorem
 

@@ -39,7 +39,7 @@ waiting (wait ps) = true
 waiting (done ns) = false
 waiting (refused n b) = false
 
--- With nobody in the way an outcome is no wait; else it is the wait for them, and the state ws it was.
+-- With nobody in the way an outcome is no wait; else it is the wait for them, and the state is as it was.
 abbrev pub WaitsFor : State → List ℕ → Outcome → Type 0
 WaitsFor s [] o = waiting (o .answer) ≡ false
 WaitsFor s (b ∷ bs) o = o ≡ answer (wait (b ∷ bs)) s

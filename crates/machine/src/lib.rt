@@ -2,8 +2,9 @@
 //
 // Definitions, to be read in this order: Holders (words of holders, who is in the way), Tree, State, Descent (splits, joins, moves), Steps (one definition
 // for each step), Calls (refusals in order, the six calls), Sound ("Sound means", of a state).
-// Promises: Keeping.keeps (every call from a sound state leaves a sound state), Answers and Held (demand 2: answers, long locks), Waits and Forward (demand 2: a
-// step waits exactly if a lock is in its way, and otherwise goes forward), Demand3 (demand 3 for every list of calls), Cases and Directed (worked examples).
+// Promises: Keeping.keeps (every call from a sound state leaves a sound state), Answers and Held (demand 2: answers, long locks), Waits, Needs and Forward (demand 2:
+// a step waits exactly if a lock is in its way, is refused 11 or 12 exactly if document 01 says so, and otherwise goes forward), Demand3 (demand 3 for every list
+// of calls), Cases and Directed (worked examples).
 // Rests on: `serial` for the logical model and the serial-run theorem, `locks` for the bits of holders words.
 ghost use mathlib.Core.Path.{_≡_};
 ghost use Rattle.machine.specs.Holders.{width};

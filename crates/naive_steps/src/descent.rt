@@ -1,4 +1,4 @@
-// Descent: the walk of a party from the root to the lowest node of its key, a step a level.
+// Descent: the way of a party from the root to the lowest node of its key, a step a level.
 use super::party::AT;
 use super::party::CHANGE;
 use super::party::ENTER;

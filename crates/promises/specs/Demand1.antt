@@ -20,7 +20,7 @@ use Rattle.machine.specs.Calls.{Call, call, steps, begins, commits, aborts, acc
 use Rattle.machine.specs.Sound.{of-hand}
 use Rattle.machine.specs.Hands.{Handed, Own, step-handed}
 use Rattle.machine.specs.Answers.{may-write, written-only}
-use Rattle.machine.specs.Demand.{call-of, Tells, list-after}
+use Rattle.machine.specs.Demand.{call-of, Tells, told-refused, list-after}
 use Rattle.meaning.specs.Reading.{M-of, meaning}
 use Rattle.meaning.specs.Sound.{Sound}
 use Rattle.layout.specs.Asked.{request-in}
@@ -102,34 +102,25 @@ pub record Demand-1 (c : C.Call) (s : List ℕ) (t : List Session) (a : C.Answer
   pub ended : Sound s t → (n k : ℕ) → a ≡ C.refused n k → C.ends-request n ≡ true → (l′ ≡ list-of c) × Ended c s t s′ t′
   pub spares : Sound s t → (n k : ℕ) → a ≡ C.refused n k → C.ends-request n ≡ true → Spared c s t s′
 
--- ---- what is told
-
-pub told-refused : (z : Answer) (n k : ℕ) → Tells z (C.refused n k) → z ≡ refused n k
-told-refused ok n k e = absurd (true≢false {b = true} refl (ap is-refused e))
-told-refused more n k e = absurd (true≢false {b = true} refl (ap is-refused e))
-told-refused (wait ps) n k e = absurd (true≢false {b = true} refl (ap is-refused (e .2)))
-told-refused (done ns) n k e = absurd (true≢false {b = true} refl (ap is-refused e))
-told-refused (refused i j) n k e = cc
-
 -- ---- the first refusal
 
--- None of the checks has number 2, 11 or 12.
+-- None of the checks has number 1, 2, 11 or 12.
 abbrev Early : ℕ → Type 0
-Early n = ¬ (n ≡ 2) × (C.ends-request n ≡ false)
+Early n = ¬ (n ≡ 1) × ¬ (n ≡ 2) × (C.ends-request n ≡ false)
 
 early : (c : C.Call) (s : List ℕ) (t : List Session) → Early (refusal-of c s t)
-early c s t = first-is Early (checks-of c s t) (out 0 (λ e. omega (arith, e)) refl) (all c)
+early c s t = first-is Early (checks-of c s t) (out 0 (λ e. omega (arith, e)) (λ e. omega (arith, e)) refl) (all c)
   where
-    out : (n : ℕ) → ¬ (n ≡ 2) → C.ends-request n ≡ false → Early n
-    out n a b = (a, b)
+    out : (n : ℕ) → ¬ (n ≡ 1) → ¬ (n ≡ 2) → C.ends-request n ≡ false → Early n
+    out n a b c = (a, b, c)
 
     all : (c : C.Call) → Each Early (checks-of c s t)
-    all (C.format m) = (((λ e. omega (arith, e)), refl), tt)
-    all (C.begin p) = (((λ e. omega (arith, e)), refl), (((λ e. omega (arith, e)), refl), tt))
-    all (C.put p c e f g) = (((λ e. omega (arith, e)), refl), (((λ e. omega (arith, e)), refl), (((λ e. omega (arith, e)), refl), (((λ e. omega (arith, e)), refl), (((λ e. omega (arith, e)), refl), (((λ e. omega (arith, e)), refl), (((λ e. omega (arith, e)), refl), tt)))))))
-    all (C.step p l) = (((λ e. omega (arith, e)), refl), (((λ e. omega (arith, e)), refl), (((λ e. omega (arith, e)), refl), tt)))
-    all (C.commit p) = (((λ e. omega (arith, e)), refl), (((λ e. omega (arith, e)), refl), (((λ e. omega (arith, e)), refl), tt)))
-    all (C.abort p) = (((λ e. omega (arith, e)), refl), (((λ e. omega (arith, e)), refl), tt))
+    all (C.format m) = (((λ e. omega (arith, e)), (λ e. omega (arith, e)), refl), tt)
+    all (C.begin p) = (((λ e. omega (arith, e)), (λ e. omega (arith, e)), refl), (((λ e. omega (arith, e)), (λ e. omega (arith, e)), refl), tt))
+    all (C.put p c e f g) = (((λ e. omega (arith, e)), (λ e. omega (arith, e)), refl), (((λ e. omega (arith, e)), (λ e. omega (arith, e)), refl), (((λ e. omega (arith, e)), (λ e. omega (arith, e)), refl), (((λ e. omega (arith, e)), (λ e. omega (arith, e)), refl), (((λ e. omega (arith, e)), (λ e. omega (arith, e)), refl), (((λ e. omega (arith, e)), (λ e. omega (arith, e)), refl), (((λ e. omega (arith, e)), (λ e. omega (arith, e)), refl), tt)))))))
+    all (C.step p l) = (((λ e. omega (arith, e)), (λ e. omega (arith, e)), refl), (((λ e. omega (arith, e)), (λ e. omega (arith, e)), refl), (((λ e. omega (arith, e)), (λ e. omega (arith, e)), refl), tt)))
+    all (C.commit p) = (((λ e. omega (arith, e)), (λ e. omega (arith, e)), refl), (((λ e. omega (arith, e)), (λ e. omega (arith, e)), refl), (((λ e. omega (arith, e)), (λ e. omega (arith, e)), refl), tt)))
+    all (C.abort p) = (((λ e. omega (arith, e)), (λ e. omega (arith, e)), refl), (((λ e. omega (arith, e)), (λ e. omega (arith, e)), refl), tt))
 
 -- ---- a call on sound words
 
@@ -244,19 +235,50 @@ demand-1 c s t a l′ s′ t′ P = record {
 
     only : Sound s t → Dec (refusal-of c s t ≡ 0) → a ≡ C.refused 2 0 → ⊥
     only S (yes z) e = not-2 c a (taken-then S z) e
-    only S (no n) e = early c s t .0 (ap number-of (sym (refused-by c s t a l′ s′ t′ S (P .answers S .0) n) ∙ e))
+    only S (no n) e = early c s t .1 (ap number-of (sym (refused-by c s t a l′ s′ t′ S (P .answers S .0) n) ∙ e))
 
     ending : Sound s t → (n k : ℕ) → a ≡ C.refused n k → C.ends-request n ≡ true → Dec (refusal-of c s t ≡ 0) → Ends c (meaning s′ t′)
     ending S n k e y (yes z) =
         let A = P .answers S .0 in
         subst (Ends c) (sym (A .means)) (ended-by c s t S z n k (told-refused (outcome c s t .answer) n k (subst (Tells (outcome c s t .answer)) e (A .tells))))
-    ending S n k e y (no i) = absurd (true≢false y (ap C.ends-request (sym (ap number-of (sym (refused-by c s t a l′ s′ t′ S (P .answers S .0) i) ∙ e))) ∙ early c s t .1))
+    ending S n k e y (no i) = absurd (true≢false y (ap C.ends-request (sym (ap number-of (sym (refused-by c s t a l′ s′ t′ S (P .answers S .0) i) ∙ e))) ∙ early c s t .2))
 
 -- Format: refused 3 by its sizes alone, for words and tables of every kind, and never 2.
 pub format-1 : (m : ℕ) (s : List ℕ) (t : List Session) (a : C.Answer) (s′ : List ℕ) (t′ : List Session) → Formats m s t a s′ t′ → let n = refusal-of (C.format m) s t in
     (¬ (n ≡ 0) → (a ≡ C.refused n 0) × (s′ ≡ s) × (t′ ≡ t)) × (n ≡ 0 → a ≡ C.ok)
 unfolding call
-format-1 m s t a s′ t′ F = ((λ n. let e = told (ne-eqb (refusal-of (C.format m) s t) 0 n) in let w = F .refuses (ap stays e ∙ ap not (early (C.format m) s t .1)) in (e, w .0, w .1)), λ z. told (eq-eqb (refusal-of (C.format m) s t) 0 z))
+format-1 m s t a s′ t′ F = ((λ n. let e = told (ne-eqb (refusal-of (C.format m) s t) 0 n) in let w = F .refuses (ap stays e ∙ ap not (early (C.format m) s t .2)) in (e, w .0, w .1)), λ z. told (eq-eqb (refusal-of (C.format m) s t) 0 z))
   where
     told : {b : Bool} → eqb (refusal-of (C.format m) s t) 0 ≡ b → Tells (cond b (unrefused (C.format m) s t) (answer (refused (refusal-of (C.format m) s t) 0) (meaning s t)) .answer) a
     told e = subst (λ o. Tells (o .answer) a) (format-refused m (length s) (meaning s t) (unrefused (C.format m) s t) ∙ ap (λ b. cond b (unrefused (C.format m) s t) (answer (refused (refusal-of (C.format m) s t) 0) (meaning s t))) e) (F .tells)
+
+-- ---- refusal 1 is of the table's length alone
+
+accepts-not-1 : (c : C.Call) (a : C.Answer) (k : ℕ) → Accepts c a → a ≡ C.refused 1 k → ⊥
+accepts-not-1 (C.format m) a k h e = true≢false {b = true} refl (ap is-refused (sym e ∙ h))
+accepts-not-1 (C.begin p) a k h e = true≢false {b = true} refl (ap is-refused (sym e ∙ h))
+accepts-not-1 (C.put p c i f g) a k h e = true≢false {b = true} refl (ap is-refused (sym e ∙ h))
+accepts-not-1 (C.step p l) a k h e = true≢false (sym (ap steps-with e) ∙ h) refl
+accepts-not-1 (C.commit p) a k h e = true≢false {b = true} refl (ap is-refused (sym e ∙ h))
+accepts-not-1 (C.abort p) a k h e = true≢false {b = true} refl (ap is-refused (sym e ∙ h))
+
+-- No call by value is refused 1.
+pub calls-not-1 : (c : C.Call) (s : List ℕ) (t : List Session) (a : C.Answer) (l′ s′ : List ℕ) (t′ : List Session) → Calls c s t a l′ s′ t′ → (k : ℕ) → ¬ (a ≡ C.refused 1 k)
+calls-not-1 c s t a l′ s′ t′ P k e = unsound (λ S. by S (ℕ-discrete (refusal-of c s t) 0))
+  where
+    D : Demand-1 c s t a l′ s′ t′
+    D = demand-1 c s t a l′ s′ t′ P
+
+    by : Sound s t → Dec (refusal-of c s t ≡ 0) → ⊥
+    by S (yes z) = accepts-not-1 c a k (D .accepted-then S z) e
+    by S (no n) = early c s t .0 (ap number-of (sym (D .refused-first S n) ∙ e))
+
+    unsound : ¬ Sound s t → ⊥
+    unsound n = omega (arith, ap number-of (sym (D .damaged .1 n) ∙ e))
+
+pub format-not-1 : (m : ℕ) (s : List ℕ) (t : List Session) (a : C.Answer) (s′ : List ℕ) (t′ : List Session) → Formats m s t a s′ t′ → (k : ℕ) → ¬ (a ≡ C.refused 1 k)
+format-not-1 m s t a s′ t′ F k e = by (ℕ-discrete (refusal-of (C.format m) s t) 0)
+  where
+    by : Dec (refusal-of (C.format m) s t ≡ 0) → ⊥
+    by (yes z) = accepts-not-1 (C.format m) a k (format-1 m s t a s′ t′ F .1 z) e
+    by (no n) = early (C.format m) s t .0 (ap number-of (sym (format-1 m s t a s′ t′ F .0 n .0) ∙ e))

@@ -23,7 +23,7 @@ use Rattle.machine.specs.Held.{ledger-step, descents-keep, unseen-step}
 use Rattle.machine.specs.Waits.{WaitsFor, step-blockers, step-waits, waiting}
 use Rattle.machine.specs.Forward.{Ahead, Onward, step-forward}
 use Rattle.machine.specs.Needs.{step-needs, step-11, AtSecond, step-12}
-use Rattle.machine.specs.Demand.{call-of, Tells}
+use Rattle.machine.specs.Demand.{call-of, Tells, told-done, told-refused}
 use Rattle.meaning.specs.Reading.{meaning}
 use Rattle.meaning.specs.Sound.{Sound}
 use Rattle.promises.specs.Relations.{outcome, Answered, Calls}
@@ -32,7 +32,7 @@ use Rattle.machine.specs.State.{in-stage}
 use Rattle.sessions.specs.Sessions.{session-at}
 use Rattle.layout.specs.Asked.{request-in}
 use Rattle.promises.specs.Steps.{hand-is, outcome-is, party}
-use Rattle.promises.specs.Demand1.{refusal-of, told-refused}
+use Rattle.promises.specs.Demand1.{refusal-of}
 
 -- A request that is done: it answers, writes and leaves what the logical model does with it.
 pub record Modelled (q : Req) (s : List ℕ) (t : List Session) (l ns l′ s′ : List ℕ) (t′ : List Session) : Type 0 where
@@ -76,13 +76,6 @@ holders-2 c s t a l′ s′ t′ P S =
     }
 
 -- ---- a step
-
-told-done : (z : Answer) (ns : List ℕ) → Tells z (C.done ns) → z ≡ done ns
-told-done ok ns e = cc
-told-done more ns e = cc
-told-done (wait ps) ns e = let q = e .2 in cc
-told-done (done ms) ns e = cc
-told-done (refused n b) ns e = cc
 
 told-more : (z : Answer) → Tells z C.more → z ≡ more
 told-more ok e = cc

@@ -38,11 +38,16 @@ words = record {
 }
 
 -- As the machine sees it.
-abbrev lent : Lending → Lent
+abbrev pub lent : Lending → Lent
 lent x = record { state = meaning (x .store) (x .table); words = length (x .store) }
 
-performs : (k : Turn) (x y : Lending) → Answered (k .call) (x .store) (x .table) (k .answer) (k .list) (y .store) (y .table) → Performs (lent x) k (lent y)
+pub performs : (k : Turn) (x y : Lending) → Answered (k .call) (x .store) (x .table) (k .answer) (k .list) (y .store) (y .table) → Performs (lent x) k (lent y)
 performs k x y A = record { tells = A .tells; list-is = A .list-is; state-is = A .means; words-same = A .long }
+
+pub runs-performed : {x y : Lending} {ks : List Turn} → Sound (x .store) (x .table) → Run words x ks y → Run machine (lent x) ks (lent y)
+unfolding Returns
+runs-performed S C.stop = C.stop
+runs-performed S (C.next {x} {y} {z} {k} {ks} d r) = let A = d S in C.next (performs k x y A) (runs-performed (A .sound) r)
 
 known : (t : Told) (x : Lending) → Knows words t x → Knows machine t (lent x)
 known t x w = record { sound = w .sound .state; hand-told = w .hand-told; begun-told = w .begun-told }

@@ -9,3 +9,4 @@ pub mod Words
 pub mod Promised
 pub mod Demand1
 pub mod Demand2
+pub mod Holding

@@ -15,7 +15,7 @@ use Rattle.outcomes.specs.declared.Answer.the-variants.{More, Wait, Done, Tidie
 use Rattle.outcomes.specs.declared.Moved.{Moved}
 use Rattle.outcomes.specs.Said.{Stepped}
 use Rattle.undo_log.specs.Undoing.{Loggable, logValue}
-use Rattle.endings.specs.Table.{idled}
+use Rattle.endings.specs.Table.{loggedBy, idled}
 
 -- ---- what every first step shares
 
@@ -49,31 +49,12 @@ readStep s p x = unlessHeld (entryBlocker s (x .entry) 0 p) s x (readDone s p x)
 unfoldable pub excludedWords : List ℕ → ℕ → ℕ → List ℕ
 excludedWords s p e = putEntryWord s e 2 (held-by p (entryWord s e 2))
 
--- The request is finished, and record i is the newest undo record.
-unfoldable pub logged : Session → ℕ → Session
-logged x i =
-    record {
-      begun = x .begun;
-      code = x .code;
-      entry = x .entry;
-      first = x .first;
-      second = x .second;
-      stage = 0;
-      target = x .target;
-      at = x .at;
-      level = x .level;
-      low = x .low;
-      high = x .high;
-      last = x .last;
-      undo = i;
-    }
-
 -- The old value is logged in the first free record; the entry has the new one and the lock.
 unfoldable pub writtenWords : List ℕ → ℕ → ℕ → Session → List ℕ
 writtenWords s m p x = excludedWords (putEntryWord (logValue s m (x .entry) (entryWord s (x .entry) 0) (x .undo)) (x .entry) 0 (x .first)) p (x .entry)
 
 unfoldable pub writeDone : List ℕ → ℕ → ℕ → Session → Stepped
-writeDone s m p x = record { words = writtenWords s m p x; session = logged x (headerWord s freePlace); answer = Done 0 }
+writeDone s m p x = record { words = writtenWords s m p x; session = loggedBy x (headerWord s freePlace); answer = Done 0 }
 
 unfoldable pub writeFree : List ℕ → ℕ → ℕ → Session → Stepped
 writeFree s m p x = cond (eqb (headerWord s freePlace) 0) (refuses s x) (writeDone s m p x)

@@ -41,26 +41,27 @@ use Rattle.layout.specs.Room.{Sizes, sizes-of, owned-in, owned-has}
 use Rattle.layout.specs.Left.{idle-fits}
 use Rattle.layout.specs.Asked.{request-in}
 use Rattle.undo_log.specs.Undoing.{logValue}
-use Rattle.starting.specs.Starting.{entryBlocker, refuses, excludedWords, logged, writtenWords, writeDone, writeFree, writeStep}
+use Rattle.endings.specs.Table.{loggedBy}
+use Rattle.starting.specs.Starting.{entryBlocker, refuses, excludedWords, writtenWords, writeDone, writeFree, writeStep}
 use Rattle.starting.specs.Start.{Steps, start-finished, start-stage, entry-words, OnEntry, entry-means, is-session, entry-least, entry-most, entry-there, blocker-none, blocker-some, guard-moves, refused-start}
 use Rattle.starting.specs.Logged.{log-means}
 
 -- ---- session records
 
-logged-stage : (x : Session) (i : ℕ) → logged x i .stage ≡ 0
-unfolding logged
+logged-stage : (x : Session) (i : ℕ) → loggedBy x i .stage ≡ 0
+unfolding loggedBy
 logged-stage x i = refl
 
-logged-undo : (x : Session) (i : ℕ) → logged x i .undo ≡ i
-unfolding logged
+logged-undo : (x : Session) (i : ℕ) → loggedBy x i .undo ≡ i
+unfolding loggedBy
 logged-undo x i = refl
 
-logged-begun : (x : Session) (i : ℕ) → logged x i .begun ≡ x .begun
-unfolding logged
+logged-begun : (x : Session) (i : ℕ) → loggedBy x i .begun ≡ x .begun
+unfolding loggedBy
 logged-begun x i = refl
 
-logged-hand : (x : Session) (i : ℕ) → hand-of (logged x i) ≡ none
-unfolding logged
+logged-hand : (x : Session) (i : ℕ) → hand-of (loggedBy x i) ≡ none
+unfolding loggedBy
 logged-hand x i = refl
 
 -- ---- the words of an undo record
@@ -293,7 +294,7 @@ module _ (s : List ℕ) (t : List Session) (A : Stands s t) (p : ℕ) (party : p
           go (no z) = subst (λ us. Named (leaves-in L) us (lists-in L)) (sym (put-there p (old ∷ L .undos p) (L .undos) q z)) (at q a b)
 
       abbrev x′ : Session
-      x′ = logged own first
+      x′ = loggedBy own first
 
       abbrev E : List Entry
       E = entries-of s′ 1 (M-of s)

@@ -9,7 +9,7 @@
 ghost use mathlib.Core.Path.{_≡_};
 ghost use Prim.Native.Nat.{_<_};
 ghost use Rattle.outcomes.specs.Said.{moved};
-ghost use Rattle.starting.specs.Starting.{entryBlocker, sharedWords, readDone, readStep, excludedWords, logged, writeDone, writeFree, writeStep, toFirst, entryDone, entryStep, noneChosen, firstStep, EntryReady, LogReady, WriteReady, FirstReady};
+ghost use Rattle.starting.specs.Starting.{entryBlocker, sharedWords, readDone, readStep, excludedWords, writeDone, writeFree, writeStep, toFirst, entryDone, entryStep, noneChosen, firstStep, EntryReady, LogReady, WriteReady, FirstReady};
 use outcomes::Answer;
 use outcomes::Moved;
 use sessions::Session;
@@ -75,15 +75,6 @@ pub fn read_step(store: &mut [u32], p: u32, x: Session) -> Moved
 
 // ---- write
 
-// The request is finished, and record i is the newest undo record.
-fn logged_session(mut x: Session, i: u32) -> Session
-    ensures { λ r. ⌜ r ≡ logged x i ⌝ }
-{
-    x.stage = 0;
-    x.undo = i;
-    x
-}
-
 fn write_done(store: &mut [u32], m: usize, p: u32, x: Session) -> Moved
     requires { ⌜ LogReady (now store) m p (x .entry) ⌝ }
     ensures { λ r. ⌜ (now (store .exit) ≡ writeDone (now (store .entry)) m p x .words) × (r ≡ moved (writeDone (now (store .entry)) m p x)) ⌝ }
@@ -95,7 +86,7 @@ fn write_done(store: &mut [u32], m: usize, p: u32, x: Session) -> Moved
     exclude_entry(store, e, p);
     Moved {
         answer: Answer::Done(0),
-        session: logged_session(x, i as u32),
+        session: endings::logged_session(x, i as u32),
     }
 }
 

@@ -76,7 +76,7 @@ fn see_lists(b: &mut Book, lists: &Lists) {
 }
 
 // A wait changes no word, and neither does a refusal but 11 and 12.
-fn is_still(x: Said) -> bool {
+pub fn is_still(x: Said) -> bool {
     if x.word == call::WAIT {
         return true;
     }

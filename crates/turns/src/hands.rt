@@ -2,7 +2,6 @@
 use books::book::Book;
 use books::book::COMMIT;
 use books::book::COMMITTED;
-use books::book::EVERY;
 use books::book::OTHER;
 use books::book::REQUESTS;
 use books::book::UNFINISHED;
@@ -23,7 +22,6 @@ use schedules::logs::Logs;
 use schedules::logs::add;
 use schedules::logs::forget;
 use schedules::logs::replay;
-use schedules::random::chance;
 use schedules::words::count;
 use schedules::words::get;
 use schedules::words::wide;
@@ -100,16 +98,14 @@ fn after_step(lists: &Lists, b: &mut Book, l: &mut Logs, p: u32, x: Said) {
     set_hand(b, p, WAITED, 0);
 }
 
-// Session p is committed: it runs on the content. Is the content to be held against the store? At every commit of a small round.
-fn after_commit(b: &mut Book, l: &mut Logs, c: &mut Content, p: u32) -> bool {
+// Session p is committed: it runs on the content.
+fn after_commit(b: &mut Book, l: &mut Logs, c: &mut Content, p: u32) {
     count(b, COMMITTED);
     let wrong = replay(l, c, p);
     if wrong != 0 {
         differ(b, COMMIT, p, wrong);
     }
     forget(l, p);
-    let every = get(b, EVERY);
-    chance(b, 1, every)
 }
 
 // Session p is aborted: it ran on a copy of its own.
@@ -125,7 +121,7 @@ fn after_abort(b: &mut Book, l: &mut Logs, c: &Content, p: u32) {
     drop_hand(b, p);
 }
 
-// The lists are those that the call left. Is the content to be held against the store?
+// The lists are those that the call left. Is the content to be held against the store? At every commit.
 pub fn after(
     lists: &Lists,
     b: &mut Book,
@@ -148,7 +144,8 @@ pub fn after(
         return false;
     }
     if kind == call::COMMIT {
-        return after_commit(b, l, content, p);
+        after_commit(b, l, content, p);
+        return true;
     }
     if kind == call::ABORT {
         after_abort(b, l, content, p);

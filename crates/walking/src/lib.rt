@@ -3,7 +3,7 @@
 // The son on the path to the key is latched as it is; a session splits it if it is full; the housekeeper joins it with a neighbour if it has
 // 3 sons, or takes a son from that one. Before that stands who is in the way, and whether a record is free. It promises that the words a step
 // leaves, its party's session record and the answer EQUAL a definition of specs/Walking; specs/PairMoves (level-moves) says that this is the
-// machine's step, where the words hold a layout of a sound state, and specs/Ready that such words meet what the functions ask for. The rest of
+// machine's step, where the words hold a layout of a sound state, and specs/Readies that such words meet what the functions ask for (specs/Ready). The rest of
 // specs is the proof of that: Traces (runs of writes), Holes (a part of the tree replaced), Levels and Pairs (what each way down leaves),
 // Roots and Enters (the same for the root), Sites (where a party stands). It rests on descents, splits and joins for nodes, on finishing for requests that end.
 ghost use mathlib.Core.Path.{_≡_};
@@ -110,7 +110,7 @@ fn plain_step(store: &mut [u32], m: usize, p: u32, x: Session) -> Moved
 {
     let at = x.at as usize;
     let son = descents::enter_son(store, m, at, x.target, p + 1);
-    stands(x, son)
+    stands(x, son) // plain
 }
 
 fn halved_step(store: &mut [u32], m: usize, p: u32, x: Session) -> Moved
