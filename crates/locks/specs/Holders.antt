@@ -2,17 +2,13 @@
 use mathlib.Core.Bool.{Bool, false, cond, not, _&&_, _||_}
 use mathlib.Core.List.{List, [], _∷_}
 use Prim.Native.Nat.{ℕ, zero, suc, _+_, _*_, _/_, _%_}
-use lib.Dec.{eqb, leb}
+use lib.Dec.{eqb}
 use lib.Bits.{bitOr}
 use Rattle.locks.specs.Rule.{agreesOf}
 
 -- How many sessions there are.
 abbrev pub width : ℕ
 width = 16
-
--- A party is a session from 1 to that number; 0 is the housekeeper.
-abbrev pub is-session : ℕ → Bool
-is-session p = not (eqb p 0) && leb p width
 
 -- How many bits a word has.
 abbrev pub word-bits : ℕ

@@ -9,20 +9,7 @@ ghost use mathlib.Core.Bool.{cond};
 ghost use Prim.Native.Nat.{_≤_, _<_};
 ghost use lib.ListN.{length};
 ghost use Rattle.locks.specs.Rule.{agreesOf};
-ghost use Rattle.locks.specs.Holders.{is-session, word-bits, holds, held-by, left-by, holders, conflicts, blockers, first-of, padded};
-
-// How many sessions there are.
-pub const SESSIONS: u32 = 16;
-
-// Whether a party is a session.
-pub fn is_session(p: u32) -> bool
-    ensures { λ r. ⌜ r ≡ is-session p ⌝ }
-{
-    if p == 0 {
-        return false;
-    }
-    p <= SESSIONS
-}
+ghost use Rattle.locks.specs.Holders.{word-bits, holds, held-by, left-by, holders, conflicts, blockers, first-of, padded};
 
 // The lock rule by kind (entries, groups), the mode that is held and the mode that is asked: 0 share and locate, 1 exclusive and
 // update.

@@ -64,7 +64,8 @@ pub fn has_request(t: [Session; PARTIES], p: u32) -> bool
 fn not_party(p: u32) -> bool
     ensures { λ b. ⌜ b ≡ no-party p ⌝ }
 {
-    16 < p
+    let at = p as usize;
+    PARTIES <= at
 }
 
 fn not_session(p: u32) -> bool

@@ -7,26 +7,12 @@
 ghost use mathlib.Core.Path.{_≡_};
 ghost use Prim.Native.Nat.{_≤_, _<_};
 ghost use lib.ListN.{length};
-ghost use Rattle.words.specs.Store.{entryWords, baseOf, HasRecord, recordAt, wordOf};
+ghost use Rattle.words.specs.Store.{entryWords, baseOf, HasRecord, wordOf};
 ghost use Rattle.words.specs.Header.{headerWord, putHeaderWord, entriesPlace, recordsPlace, rootPlace, heightPlace, firstPlace, freePlace};
 ghost use Rattle.words.specs.Entries.{HasEntry, entryPlace, entryWord, putEntryWord};
 
 // The words of an entry: value, share holders, exclusive holders.
 pub const ENTRY_WORDS: usize = 3;
-
-// The 20 words of a lent part.
-pub fn load_words(part: &[u32]) -> [u32; 20]
-    requires { ⌜ length (now part) ≡ 20 ⌝ }
-    ensures { λ r. ⌜ r ≡ now (part .entry) ⌝ }
-{
-    let mut w = [0u32; 20];
-    let mut i = 0;
-    while i < 20 {
-        w[i] = part[i];
-        i += 1;
-    }
-    w
-}
 
 // Writes 20 words over a lent part.
 pub fn save_words(part: &mut [u32], w: [u32; 20])
@@ -46,16 +32,6 @@ pub fn base(m: usize, i: usize) -> usize
     ensures { λ r. ⌜ r ≡ baseOf m i ⌝ }
 {
     16 + ENTRY_WORDS * m + 20 * (i - 1)
-}
-
-// The 20 words of record i.
-pub fn load_record(store: &[u32], m: usize, i: usize) -> [u32; 20]
-    requires { ⌜ HasRecord (now store) m i ⌝ }
-    ensures { λ r. ⌜ r ≡ recordAt (now (store .entry)) m i ⌝ }
-{
-    let at = base(m, i);
-    let end = at + 20;
-    load_words(&store[at..end])
 }
 
 // Word k of record i, read where it lies.
