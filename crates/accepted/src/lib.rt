@@ -28,7 +28,7 @@ pub fn begin(store: &[u32], t: [Session; PARTIES], p: u32) -> Served
 {
     let x = refusals::seat(t, p);
     let y = endings::begun_session(x);
-    let after = refusals::settle(t, p, y);
+    let after = refusals::settle(t, p, y); // begun
     Served {
         table: after,
         answer: Answer::Ok,

@@ -38,9 +38,9 @@ use Rattle.store.specs.Lent.{Effect, On17}
 use Rattle.tables.proofs.Row.{R}
 use Rattle.store.proofs.Answers.{AnswerR, answerVal, answer-tell, answer-make}
 use Rattle.store.proofs.Thin.{P, PlainLaws, thinS, thinE, thinC}
-use Rattle.entry_store.specs.Packed.{Packs}
-use Rattle.entry_store.proofs.pack as packs
-use Rattle.entry_store.proofs.pack.Symbol.{name as #entry_store·pack}
+use Rattle.packing.specs.Packed.{Packs}
+use Rattle.packing.proofs.pack as packs
+use Rattle.packing.proofs.pack.Symbol.{name as #packing·pack}
 
 -- the machine value of an answer that is owned is its spelling
 pub answer-spelled : (a : Answer) (v : Val) → Is AnswerR a (v ∷ []) → Is AnswerR a (answerVal a ∷ [])
@@ -101,10 +101,10 @@ module _ {M : Type 1} (𝓤 : URA M) (H : Heap 𝓤) (A : Atoms 𝓤) (mem : Mem
   goes-pack W a g = qed W [] ∵ nothing ! $ owned ! AnswerR (Is AnswerR) (answer-make 𝓤 H A) a _ g $ fjoin ! $ nothing ! $ join ! $ frame ! $ done !
 
 module _ {M : Type 1} {𝓤 : URA M} {H : Heap 𝓤} {A : Atoms 𝓤} {K : Type 0} {W : Given 𝓤 H A} {Γ : List (Item 𝓤)} {E : Env 𝓤 H} {C : Calls 𝓤 H} {Λ : Loops 𝓤 H} {p : Post 𝓤 H} {d : Place} {rest : Body} {ops : List Operand} where
-  pub calls-pack : K → (mem : Memory → SProp 𝓤) (run : Routine → Fun 𝓤) → FmC 𝓤 H (W .laws) C → Triple 𝓤 (C #entry_store·pack) (Pack 𝓤 H A mem run) → (a : Answer) → Is AnswerR a (answerVal a ∷ [])
+  pub calls-pack : K → (mem : Memory → SProp 𝓤) (run : Routine → Fun 𝓤) → FmC 𝓤 H (W .laws) C → Triple 𝓤 (C #packing·pack) (Pack 𝓤 H A mem run) → (a : Answer) → Is AnswerR a (answerVal a ∷ [])
       → Opds K W (raw (Pack 𝓤 H A mem run .pre (to-pack 𝓤 H A mem run a)) ∷ Γ) E ops (answerVal a ∷ [])
       → ((n : ℕ) → Packs (said a) n → Is u64 n (vint w64 n ∷ []) → Seq K W Γ (lands C Λ E d (vint w64 n) rest p))
-      → Seq K W Γ (runs C Λ E (seq (call #entry_store·pack ops d) rest) p)
+      → Seq K W Γ (runs C Λ E (seq (call #packing·pack ops d) rest) p)
   calls-pack t mem run fm known a g os go =
       use0 W (raw (Pack 𝓤 H A mem run .pre (to-pack 𝓤 H A mem run a))) (goes-pack 𝓤 H A mem run W a g) $
       calls-at t fm (Pack 𝓤 H A mem run) known (to-pack 𝓤 H A mem run a) os (λ w.

@@ -43,7 +43,7 @@ use Rattle.store.proofs.Answers.{answer-typed}
 use Rattle.store.proofs.Plains.{Word, wordTy, wordLaws}
 use Rattle.entry_store.specs.Exported.{Told}
 use Rattle.entry_store.proofs.Callees.{Lent, calls-lent, Pack, calls-pack}
-use Rattle.entry_store.proofs.pack.Symbol.{name as #entry_store·pack}
+use Rattle.packing.proofs.pack.Symbol.{name as #packing·pack}
 
 module _ (key : Name) (Φ : Effect ℕ) where
   -- the MIR, at the call's key
@@ -58,7 +58,7 @@ module _ (key : Name) (Φ : Effect ℕ) where
         (seq (assign (place 6 []) (aggregate (copy (place 5 []) ∷ copy (place 1 (field 1 ∷ [])) ∷ [])))
         (seq (assign (place 7 []) (addrOf (place 2 (field 0 ∷ deref S′.mir ∷ []))))
         (seq (assign (place 8 []) (aggregate (copy (place 7 []) ∷ copy (place 2 (field 1 ∷ [])) ∷ [])))
-        (seq (call key (copy (place 6 []) ∷ copy (place 8 []) ∷ copy (place 3 []) ∷ []) (place 4 [])) (seq (call #entry_store·pack (copy (place 4 []) ∷ []) (place 0 [])) return)))));
+        (seq (call key (copy (place 6 []) ∷ copy (place 8 []) ∷ copy (place 3 []) ∷ []) (place 4 [])) (seq (call #packing·pack (copy (place 4 []) ∷ []) (place 0 [])) return)))));
   }
 
   -- the signature and the contract
@@ -101,7 +101,7 @@ module _ (key : Name) (Φ : Effect ℕ) where
         nothing ! $ move ! (4 ∷ 0 ∷ []) $ join ! $ move ! (2 ∷ 0 ∷ []) $ join ! $ frame ! $
         nothing ! $ owned ! u32 (Is u32) (uint-makes 𝓤 H A W w32) k _ (refl, gk) $ fjoin ! $ move ! (2 ∷ 0 ∷ []) $ fjoin ! $ move ! (1 ∷ 0 ∷ []) $ fjoin ! $ frame ! $ owned ! u64 (Is u64) (uint-makes 𝓤 H A W w64) n _ g $ done !
 
-    module _ (C : Calls 𝓤 H) (Λ : Loops 𝓤 H) (fm : FmC 𝓤 H (W .laws) C) (known : Triple 𝓤 (C key) (Lent (Word .Denot) wordTy (Word .written) (Word .reaches) (Word .own) (Word .coded) wordLaws key Φ 𝓤 H A)) (known-pack : Triple 𝓤 (C #entry_store·pack) (Pack 𝓤 H A mem run)) where
+    module _ (C : Calls 𝓤 H) (Λ : Loops 𝓤 H) (fm : FmC 𝓤 H (W .laws) C) (known : Triple 𝓤 (C key) (Lent (Word .Denot) wordTy (Word .written) (Word .reaches) (Word .own) (Word .coded) wordLaws key Φ 𝓤 H A)) (known-pack : Triple 𝓤 (C #packing·pack) (Pack 𝓤 H A mem run)) where
       walk : ent 𝓤 (onEntry 𝓤 H A wrapS (κ₀, (κ₁, tt)) (q₀, (q₁, tt)) x at) (WpFn 𝓤 H C Λ function passed Post)
       walk =
           qed W ((‵ (flft κ₀ q₀) ⊛ ‵ (flft κ₁ q₁) ⊛ ‵ ftrue) ∷ ‵ (owns (MutSlice (named 0) κ₀ u32 ∷ MutSlice (named 1) κ₁ R ∷ u32 ∷ []) x at) ∷ []) ∵
@@ -125,7 +125,7 @@ module _ (key : Name) (Φ : Effect ℕ) where
           by ! (exits n st′ zs e₀ e₁ gn (record { answer = a; packs = is; table-long = e₁; does = does })))))))))))))
 
   module _ {M : Type 1} (𝓤 : URA M) (H : Heap 𝓤) (A : Atoms 𝓤) (W : Given 𝓤 H A) (mem : Memory → SProp 𝓤) (run : Routine → Fun 𝓤) (𝓣 : Tables 𝓤 H)
-      (known : Triple 𝓤 (𝓣 .C key) (Lent (Word .Denot) wordTy (Word .written) (Word .reaches) (Word .own) (Word .coded) wordLaws key Φ 𝓤 H A)) (known-pack : Triple 𝓤 (𝓣 .C #entry_store·pack) (Pack 𝓤 H A mem run)) where
+      (known : Triple 𝓤 (𝓣 .C key) (Lent (Word .Denot) wordTy (Word .written) (Word .reaches) (Word .own) (Word .coded) wordLaws key Φ 𝓤 H A)) (known-pack : Triple 𝓤 (𝓣 .C #packing·pack) (Pack 𝓤 H A mem run)) where
     wrap-walks : Walks 𝓤 H A wrapE stayed (WpFn 𝓤 H (𝓣 .C) (𝓣 .Λ) function) (wrapC 𝓤)
     wrap-walks = walked 𝓤 H A wrapE stayed (wrapC 𝓤) (WpFn 𝓤 H (𝓣 .C) (𝓣 .Λ) function) (λ κs. (slice-vals, (slice-vals, (uint-vals w32, tt)))) (λ κs. (mut-slice-tells (named 0) (κs .0) u32, (mut-slice-tells (named 1) (κs .1 .0) R, (uint-tells w32, tt))))
         (λ κs qs bounds a g are. via 𝓤 _ (fst∗ 𝓤 _ (emp 𝓤))

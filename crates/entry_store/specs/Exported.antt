@@ -16,7 +16,7 @@ use Rattle.soundness.specs.Exactly.{test-sound, sound-test}
 use Rattle.outcomes.specs.declared.Answer.{Answer}
 use Rattle.outcomes.specs.Said.{said}
 use Rattle.store.specs.Lent.{Effect, On17, Stepped17}
-use Rattle.entry_store.specs.Packed.{Packs}
+use Rattle.packing.specs.Packed.{Packs}
 
 -- Store and table as they were, the argument, the number that is returned, store and table as they are left.
 pub record Told {D : Type 0} (E : Effect D) (s : List ℕ) (t : List Session) (k : D) (r : ℕ) (s′ : List ℕ) (t′ : List Session) : Type 0 where

@@ -1,4 +1,3 @@
 pub mod Brief
 pub mod Exported
-pub mod Packed
 pub mod Turns

@@ -20,7 +20,7 @@ use Rattle.store.specs.declared.Ask.{Ask}
 use Rattle.store.specs.Lent.{Formatted, Begun, Put, Committed, Aborted}
 use Rattle.store.specs.Turns.{lending, turn, Lends, formats, begins, puts, steps, commits, aborts, TurnedAway, Lendings, lent-demand-3}
 use Rattle.store.specs.Turns as L
-use Rattle.entry_store.specs.Packed.{unpacked, unpacked-packed, Small, Worded, Packs}
+use Rattle.packing.specs.Packed.{unpacked, unpacked-packed, Small, Worded, Packs}
 use Rattle.entry_store.specs.Brief.{brief, calls-brief, formats-brief}
 use Rattle.entry_store.specs.Exported.{Told, Stepped}
 

@@ -1,54 +1,19 @@
 // Entry store: the six calls, the lock count and the test of soundness, exported for C. include/entry_store.h declares and describes them.
 //
 // A store and a list cross as a pointer and how many words, a session table as a pointer and how many records, each of 13 words in the order of the
-// fields. An answer crosses in one number, which loses nothing (specs/Packed). Each call promises what the store's call of its name promises, of the answer
+// fields. An answer crosses in one number, which loses nothing (crate packing). Each call promises what the store's call of its name promises, of the answer
 // whose packing it returns (specs/Exported); so any list of calls from C, with the answers read off the numbers, keeps demand 3 (specs/Turns). Nothing is
-// asked of the caller but what C's types leave to it. It rests on store for the calls, on locks for the count, on tables and sound for
+// asked of the caller but what C's types leave to it. It rests on store for the calls, on packing for the answers, on locks for the count, on tables and sound for
 // the test.
 ghost use mathlib.Core.Path.{_≡_};
-ghost use Prim.Native.Nat.{_<_};
 ghost use lib.ListN.{length};
 ghost use Rattle.locks.specs.Holders.{holders, word-bits};
-ghost use Rattle.outcomes.specs.Said.{said};
 ghost use Rattle.sound.specs.Sound.{firstFault};
 ghost use Rattle.store.specs.Lent.{Formatted, Begun, Put, Committed, Aborted};
-ghost use Rattle.entry_store.specs.Packed.{box, Packs};
 ghost use Rattle.entry_store.specs.Exported.{Told, Stepped, fault-of};
-use outcomes::Answer;
 use sessions::PARTIES;
 use sessions::Session;
 use store::Ask;
-
-// ---- the answer in one number
-
-fn wide(n: u32) -> u64
-    ensures { λ r. ⌜ r ≡ n ⌝ }
-{
-    n as u64
-}
-
-// How many numbers an answer has, its word, the second number and the value, in one number.
-fn boxed(count: u64, word: u64, number: u32, value: u32) -> u64
-    requires { ⌜ (count < 256) × (word < 256) ⌝ }
-    ensures { λ r. ⌜ (r ≡ box count word number value) × (value < 4294967296) ⌝ }
-{
-    let low = wide(number % 256);
-    let high = (count * 256 + word) * 256 + low;
-    high * 4294967296 + wide(value)
-}
-
-fn pack(a: Answer) -> u64
-    ensures { λ r. ⌜ Packs (said a) r ⌝ }
-{
-    match a {
-        Answer::Ok => boxed(0, 0, 0, 0),
-        Answer::More => boxed(0, 1, 0, 0),
-        Answer::Wait(p) => boxed(1, 2, 0, p),
-        Answer::Done(n) => boxed(1, 3, 0, n),
-        Answer::Tidied(k, b) => boxed(2, 3, b, k),
-        Answer::Refused(n, k) => boxed(2, 4, n, k),
-    }
-}
 
 // ---- the six calls
 
@@ -58,7 +23,7 @@ pub extern "C" fn entry_store_format(store: &mut [u32], table: &mut [Session], e
     ensures { λ r. ⌜ Told Formatted (now (store .entry)) (now (table .entry)) entries r (now (store .exit)) (now (table .exit)) ⌝ }
 {
     let a = store::format(store, table, entries);
-    pack(a)
+    packing::pack(a)
 }
 
 // A session begins.
@@ -67,7 +32,7 @@ pub extern "C" fn entry_store_begin(store: &mut [u32], table: &mut [Session], pa
     ensures { λ r. ⌜ Told Begun (now (store .entry)) (now (table .entry)) party r (now (store .exit)) (now (table .exit)) ⌝ }
 {
     let a = store::begin(store, table, party);
-    pack(a)
+    packing::pack(a)
 }
 
 // A party's request: it is in hand until a step answers done.
@@ -91,7 +56,7 @@ pub extern "C" fn entry_store_put(
         second: second,
     };
     let a = store::put(store, table, k);
-    pack(a)
+    packing::pack(a)
 }
 
 // One step of the request that the party has in hand; a locate's last step writes the list.
@@ -105,7 +70,7 @@ pub extern "C" fn entry_store_step(
     ensures { λ r. ⌜ Stepped (now (store .entry)) (now (table .entry)) (now (list .entry)) party r (now (store .exit)) (now (table .exit)) (now (list .exit)) ⌝ }
 {
     let a = store::step(store, table, list, party);
-    pack(a)
+    packing::pack(a)
 }
 
 // A session ends and keeps what it did.
@@ -114,7 +79,7 @@ pub extern "C" fn entry_store_commit(store: &mut [u32], table: &mut [Session], p
     ensures { λ r. ⌜ Told Committed (now (store .entry)) (now (table .entry)) party r (now (store .exit)) (now (table .exit)) ⌝ }
 {
     let a = store::commit(store, table, party);
-    pack(a)
+    packing::pack(a)
 }
 
 // A session ends and what it did is undone.
@@ -123,7 +88,7 @@ pub extern "C" fn entry_store_abort(store: &mut [u32], table: &mut [Session], pa
     ensures { λ r. ⌜ Told Aborted (now (store .entry)) (now (table .entry)) party r (now (store .exit)) (now (table .exit)) ⌝ }
 {
     let a = store::abort(store, table, party);
-    pack(a)
+    packing::pack(a)
 }
 
 // ---- reading

@@ -23,9 +23,9 @@ use Rattle.outcomes.proofs.Answer.Laws as An′
 use Rattle.outcomes.specs.declared.Served.{Served}
 use Rattle.outcomes.proofs.Served as Se
 use Rattle.outcomes.proofs.Served.Laws as Se′
-use Rattle.store.specs.declared.Seat.{Seat}
-use Rattle.store.proofs.Seat as Sa
-use Rattle.store.proofs.Seat.Laws as Sa′
+use Rattle.seats.specs.declared.Seat.{Seat}
+use Rattle.seats.proofs.Seat as Sa
+use Rattle.seats.proofs.Seat.Laws as Sa′
 use Rattle.tables.proofs.Row.{R, valsOf, tell, R17, valsOf17, spelled17}
 
 abbrev pub AnswerR : RattleType

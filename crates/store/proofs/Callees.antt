@@ -25,8 +25,8 @@ use denote.Triple.Clauses.{ensured, lasts}
 use Rattle.outcomes.specs.declared.Answer.{Answer}
 use Rattle.outcomes.specs.declared.Answer.the-variants.{Refused}
 use Rattle.store.proofs.Answers.{AnswerR, answerVal, answer-tell}
-use Rattle.store.proofs.wrong_table as wrong
-use Rattle.store.proofs.wrong_table.Symbol.{name as #store·wrong-table}
+use Rattle.seats.proofs.wrong_table as wrong
+use Rattle.seats.proofs.wrong_table.Symbol.{name as #seats·wrong-table}
 
 module _ {M : Type 1} (𝓤 : URA M) (H : Heap 𝓤) (A : Atoms 𝓤) (mem : Memory → SProp 𝓤) (run : Routine → Fun 𝓤) where
   abbrev pub Wrong : Contract 𝓤
@@ -41,10 +41,10 @@ module _ {M : Type 1} (𝓤 : URA M) (H : Heap 𝓤) (A : Atoms 𝓤) (mem : Mem
     goes-wrong = qed W [] ∵ nothing ! $ nothing ! $ join ! $ frame ! $ done !
 
 module _ {M : Type 1} {𝓤 : URA M} {H : Heap 𝓤} {A : Atoms 𝓤} {K : Type 0} {W : Given 𝓤 H A} {Γ : List (Item 𝓤)} {E : Env 𝓤 H} {C : Calls 𝓤 H} {Λ : Loops 𝓤 H} {p : Post 𝓤 H} {d : Place} {rest : Body} {ops : List Operand} where
-  pub calls-wrong : K → (mem : Memory → SProp 𝓤) (run : Routine → Fun 𝓤) → FmC 𝓤 H (W .laws) C → Triple 𝓤 (C #store·wrong-table) (Wrong 𝓤 H A mem run)
+  pub calls-wrong : K → (mem : Memory → SProp 𝓤) (run : Routine → Fun 𝓤) → FmC 𝓤 H (W .laws) C → Triple 𝓤 (C #seats·wrong-table) (Wrong 𝓤 H A mem run)
       → Opds K W (raw (Wrong 𝓤 H A mem run .pre (to-wrong 𝓤 H A mem run)) ∷ Γ) E ops []
       → (Is AnswerR (Refused 1 0) (answerVal (Refused 1 0) ∷ []) → Seq K W Γ (lands C Λ E d (answerVal (Refused 1 0)) rest p))
-      → Seq K W Γ (runs C Λ E (seq (call #store·wrong-table ops d) rest) p)
+      → Seq K W Γ (runs C Λ E (seq (call #seats·wrong-table ops d) rest) p)
   calls-wrong t mem run fm known os k =
       use0 W (raw (Wrong 𝓤 H A mem run .pre (to-wrong 𝓤 H A mem run))) (goes-wrong 𝓤 H A mem run W) $
       calls-at t fm (Wrong 𝓤 H A mem run) known (to-wrong 𝓤 H A mem run) os (λ w.

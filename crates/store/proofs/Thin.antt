@@ -45,18 +45,18 @@ use denote.Triple.Walked.{says, Stays, gave-slice, stay-none, walkOf, goes-gave-
 use Rattle.store.specs.Lent.{Effect, On17}
 use Rattle.sessions.specs.declared.Session.{Session}
 use Rattle.store.specs.OneRecord.{seated}
-use Rattle.store.specs.declared.Seat.{Seat}
+use Rattle.seats.specs.declared.Seat.{Seat}
 use Rattle.outcomes.specs.declared.Answer.{Answer}
 use Rattle.outcomes.specs.declared.Answer.the-variants.{Refused}
 use Rattle.sessions.proofs.Session.Laws as S′
-use Rattle.store.proofs.Seat.Laws as Sa′
+use Rattle.seats.proofs.Seat.Laws as Sa′
 use Rattle.outcomes.proofs.Answer.Laws as An′
 use Rattle.tables.proofs.Again.{given-up}
 use Rattle.tables.proofs.Callees.{Load, Store, calls-load, calls-store}
 use Rattle.store.proofs.Callees.{Wrong, calls-wrong}
 use Rattle.tables.proofs.Row.{R, R17, valsOf17, make17, typed, typed17, homes}
 use Rattle.store.proofs.Answers.{AnswerR, answerVal, answer-make, answer-typed, SeatR, seat-tell, seat-typed, seat-party, seat-session, seat-answer}
-use Rattle.store.proofs.wrong_table.Symbol.{name as #store·wrong-table}
+use Rattle.seats.proofs.wrong_table.Symbol.{name as #seats·wrong-table}
 use Rattle.tables.proofs.load_all.Symbol.{name as #tables·load-all}
 use Rattle.tables.proofs.store_session.Symbol.{name as #tables·store-session}
 
@@ -113,7 +113,7 @@ module _ (D : Type 0) (τ : Ty) (wr : Written) (rs : List (Written × List Ty)) 
           ∷ local (tyRef erased mut (pointee (R .written))) valueLocal ∷ local (sliceTy (tyRef erased mut (pointee (R .written)))) valueLocal ∷ [];
       body = seq (assign (place 7 []) (rvOpd (copy (place 2 (field 1 ∷ [])))))
           (seq (assign (place 8 []) (op2 ne (copy (place 7 [])) (int w64 17)))
-          (seq (cond (copy (place 8 [])) (seq (call #store·wrong-table [] (place 0 [])) return) skipᴹ) rest));
+          (seq (cond (copy (place 8 [])) (seq (call #seats·wrong-table [] (place 0 [])) return) skipᴹ) rest));
     }
 
     -- the two signatures and contracts
@@ -179,7 +179,7 @@ module _ (D : Type 0) (τ : Ty) (wr : Written) (rs : List (Written × List Ty)) 
           qed W (‵ (MutSlice (named 0) κ₀ u32 .own (store st) (at .0)) ∷ ‵ (flft κ₀ q₀) ∷ []) ∵ nothing ! $ owned ! P (Is P) (L .make 𝓤 H A W) k _ gk $ fjoin ! $ owned ! R17 (Is R17) (make17 𝓤 H A W) ys _ g $ fjoin ! $ move ! (1 ∷ 0 ∷ []) $ fjoin ! $
           nothing ! $ move ! (2 ∷ 0 ∷ []) $ join ! $ join ! $ frame ! $ done !
 
-      module _ (C : Calls 𝓤 H) (Λ : Loops 𝓤 H) (fm : FmC 𝓤 H (W .laws) C) (known-wrong : Triple 𝓤 (C #store·wrong-table) (Wrong 𝓤 H A mem run)) (known-load : Triple 𝓤 (C #tables·load-all) (Load 𝓤 H A mem run))
+      module _ (C : Calls 𝓤 H) (Λ : Loops 𝓤 H) (fm : FmC 𝓤 H (W .laws) C) (known-wrong : Triple 𝓤 (C #seats·wrong-table) (Wrong 𝓤 H A mem run)) (known-load : Triple 𝓤 (C #tables·load-all) (Load 𝓤 H A mem run))
           (known : Triple 𝓤 (C key) (Core 𝓤 H A)) (known-store : Triple 𝓤 (C #tables·store-session) (Store 𝓤 H A mem run)) where
         walk : ent 𝓤 (onEntry 𝓤 H A thinS (κ₀, (κ₁, tt)) (q₀, (q₁, tt)) x at) (WpFn 𝓤 H C Λ function (sliceVal (b₀, o₀) (length st) ∷ sliceVal (b, o) (length ys) ∷ L .val k ∷ []) Post)
         walk =
@@ -233,7 +233,7 @@ module _ (D : Type 0) (τ : Ty) (wr : Written) (rs : List (Written × List Ty)) 
             move ! (3 ∷ 2 ∷ 0 ∷ 1 ∷ []) $ by ! (exits (r .answer) (zs .0) (seated ys r) e₀ (length-set ys (r .party) (r .session)) (seat-answer r w is) (λ _. e, λ n. absurd (n l17)))))))))))))))))))))))))))
 
     module _ {M : Type 1} (𝓤 : URA M) (H : Heap 𝓤) (A : Atoms 𝓤) (W : Given 𝓤 H A) (mem : Memory → SProp 𝓤) (run : Routine → Fun 𝓤) (𝓣 : Tables 𝓤 H)
-        (known-wrong : Triple 𝓤 (𝓣 .C #store·wrong-table) (Wrong 𝓤 H A mem run)) (known-load : Triple 𝓤 (𝓣 .C #tables·load-all) (Load 𝓤 H A mem run)) (known : Triple 𝓤 (𝓣 .C key) (Core 𝓤 H A)) (known-store : Triple 𝓤 (𝓣 .C #tables·store-session) (Store 𝓤 H A mem run)) where
+        (known-wrong : Triple 𝓤 (𝓣 .C #seats·wrong-table) (Wrong 𝓤 H A mem run)) (known-load : Triple 𝓤 (𝓣 .C #tables·load-all) (Load 𝓤 H A mem run)) (known : Triple 𝓤 (𝓣 .C key) (Core 𝓤 H A)) (known-store : Triple 𝓤 (𝓣 .C #tables·store-session) (Store 𝓤 H A mem run)) where
       thin-walks : Walks 𝓤 H A thinE stayed (WpFn 𝓤 H (𝓣 .C) (𝓣 .Λ) function) (thinC 𝓤)
       thin-walks = walked 𝓤 H A thinE stayed (thinC 𝓤) (WpFn 𝓤 H (𝓣 .C) (𝓣 .Λ) function) (λ κs. (slice-vals, (slice-vals, (λ a. L .val a ∷ [], tt)))) (λ κs. (mut-slice-tells (named 0) (κs .0) u32, (mut-slice-tells (named 1) (κs .1 .0) R, (L .tell, tt))))
           (λ κs qs bounds a g are. via 𝓤 _ (fst∗ 𝓤 _ (emp 𝓤))

@@ -18,7 +18,7 @@ use Rattle.sound.specs.Sound.{isSound}
 use Rattle.soundness.specs.Sounds.{Table}
 use Rattle.soundness.specs.Exactly.{test-sound, sound-test}
 use Rattle.promises.specs.Relations.{Others, Calls}
-use Rattle.store.specs.declared.Seat.{Seat}
+use Rattle.seats.specs.declared.Seat.{Seat}
 
 -- The table t with the one record that a call leaves.
 abbrev pub seated : List Session → Seat → List Session
@@ -56,10 +56,6 @@ module _ (c : C.Call) (p : ℕ) (s : List ℕ) (t : List Session) (a : C.Answer)
       go false e =
           let same = k .refuses (unsound e) .table-same in
           ap (λ v. set t p (session-at v p)) same ∙ set-getD t p idle-session ∙ sym same
-
--- What is kept of a call.
-pub seat-made : (p : ℕ) (a : Answer) {x y : Session} → x ≡ y → _≡_ {A = Seat} (record { party = p; session = x; answer = a }) (record { party = p; session = y; answer = a })
-seat-made p a e = ap (λ (z : Session). record { party = p; session = z; answer = a }) e
 
 -- A call keeps its promise where only its party's record is stored back.
 pub seat-kept : (c : C.Call) (p : ℕ) (s : List ℕ) (t : List Session) (a : Answer) (l s′ : List ℕ) (u : List Session) (r : Seat) → Table t → (Others c t u → Apart p t u) → r ≡ record { party = p; session = session-at u p; answer = a }

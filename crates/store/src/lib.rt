@@ -4,13 +4,12 @@
 // and makes the call on them by value. Of the table that the call gives back begin, put, step, commit and abort store ONE record, their party's: the call
 // leaves the others as they were (specs/OneRecord). Format clears the table and stores all 17. Each promises what the call by value promises, over words,
 // table and list at entry and at exit (specs/Lent); so any list of calls after an accepted format keeps demand 3 (specs/Turns, specs/Demand3). Nothing is
-// asked of the caller. It rests on tables for the lent table, on calls for the calls by value, on refusals for a party's record.
+// asked of the caller. It rests on tables for the lent table, on calls for the calls by value, on seats for what is kept of them.
 ghost use mathlib.Core.Path.{_≡_};
-ghost use Rattle.sessions.specs.Sessions.{session-at};
 ghost use Rattle.store.specs.Lent.{Formatted, Begun, Put, Stepped, Committed, Aborted, On17, Stepped17};
 ghost use Rattle.store.specs.OneRecord.{seated};
 use outcomes::Answer;
-use outcomes::Served;
+use seats::Seat;
 use sessions::PARTIES;
 use sessions::Session;
 
@@ -23,70 +22,41 @@ pub struct Ask {
     pub second: u32,
 }
 
-// What a call leaves: its party, the party's record, and the answer.
-struct Seat {
-    party: u32,
-    session: Session,
-    answer: Answer,
-}
-
-// ---- the lent table
-
-fn wrong_table() -> Answer
-    ensures { λ r. ⌜ r ≡ Answer.Refused 1 0 ⌝ }
-{
-    Answer::Refused(1, 0)
-}
-
 // ---- the calls by value, of whose table only the record of the call's party is kept
-
-// The record of party p out of what a call gave back, with the call's answer.
-fn seat_of(served: Served, p: u32) -> Seat
-    ensures { λ r. ⌜ r ≡ record { party = p; session = session-at (served .table) p; answer = served .answer } ⌝ }
-{
-    let t = served.table;
-    let answer = served.answer;
-    let session = refusals::seat(t, p);
-    Seat {
-        party: p,
-        session: session,
-        answer: answer,
-    }
-}
 
 fn begin_by_value(store: &mut [u32], t: [Session; PARTIES], p: u32) -> Seat
     ensures { λ r. ⌜ Begun (now (store .entry)) t p (r .answer) (now (store .exit)) (seated t r) ⌝ }
 {
     let served = calls::begin(store, t, p);
-    seat_of(served, p)
+    seats::seat_of(served, p)
 }
 
 fn put_by_value(store: &mut [u32], t: [Session; PARTIES], k: Ask) -> Seat
     ensures { λ r. ⌜ Put (now (store .entry)) t k (r .answer) (now (store .exit)) (seated t r) ⌝ }
 {
     let served = calls::put(store, t, k.party, k.code, k.entry, k.first, k.second);
-    seat_of(served, k.party)
+    seats::seat_of(served, k.party)
 }
 
 fn step_by_value(store: &mut [u32], list: &mut [u32], t: [Session; PARTIES], p: u32) -> Seat
     ensures { λ r. ⌜ Stepped (now (store .entry)) t (now (list .entry)) p (r .answer) (now (store .exit)) (seated t r) (now (list .exit)) ⌝ }
 {
     let served = calls::step(store, list, t, p);
-    seat_of(served, p)
+    seats::seat_of(served, p)
 }
 
 fn commit_by_value(store: &mut [u32], t: [Session; PARTIES], p: u32) -> Seat
     ensures { λ r. ⌜ Committed (now (store .entry)) t p (r .answer) (now (store .exit)) (seated t r) ⌝ }
 {
     let served = calls::commit(store, t, p);
-    seat_of(served, p)
+    seats::seat_of(served, p)
 }
 
 fn abort_by_value(store: &mut [u32], t: [Session; PARTIES], p: u32) -> Seat
     ensures { λ r. ⌜ Aborted (now (store .entry)) t p (r .answer) (now (store .exit)) (seated t r) ⌝ }
 {
     let served = calls::abort(store, t, p);
-    seat_of(served, p)
+    seats::seat_of(served, p)
 }
 
 // ---- the six calls
@@ -96,7 +66,7 @@ pub fn format(store: &mut [u32], table: &mut [Session], m: u32) -> Answer
     ensures { λ r. ⌜ On17 Formatted (now (store .entry)) (now (table .entry)) m r (now (store .exit)) (now (table .exit)) ⌝ }
 {
     if table.len() != PARTIES {
-        return wrong_table();
+        return seats::wrong_table();
     }
     let t = tables::load_all(table);
     let served = calls::format(store, t, m);
@@ -110,7 +80,7 @@ pub fn begin(store: &mut [u32], table: &mut [Session], p: u32) -> Answer
     ensures { λ r. ⌜ On17 Begun (now (store .entry)) (now (table .entry)) p r (now (store .exit)) (now (table .exit)) ⌝ }
 {
     if table.len() != PARTIES {
-        return wrong_table();
+        return seats::wrong_table();
     }
     let t = tables::load_all(table);
     let seat = begin_by_value(store, t, p);
@@ -124,7 +94,7 @@ pub fn put(store: &mut [u32], table: &mut [Session], k: Ask) -> Answer
     ensures { λ r. ⌜ On17 Put (now (store .entry)) (now (table .entry)) k r (now (store .exit)) (now (table .exit)) ⌝ }
 {
     if table.len() != PARTIES {
-        return wrong_table();
+        return seats::wrong_table();
     }
     let t = tables::load_all(table);
     let seat = put_by_value(store, t, k);
@@ -138,7 +108,7 @@ pub fn step(store: &mut [u32], table: &mut [Session], list: &mut [u32], p: u32) 
     ensures { λ r. ⌜ Stepped17 (now (store .entry)) (now (table .entry)) (now (list .entry)) p r (now (store .exit)) (now (table .exit)) (now (list .exit)) ⌝ }
 {
     if table.len() != PARTIES {
-        return wrong_table();
+        return seats::wrong_table();
     }
     let t = tables::load_all(table);
     let seat = step_by_value(store, list, t, p);
@@ -152,7 +122,7 @@ pub fn commit(store: &mut [u32], table: &mut [Session], p: u32) -> Answer
     ensures { λ r. ⌜ On17 Committed (now (store .entry)) (now (table .entry)) p r (now (store .exit)) (now (table .exit)) ⌝ }
 {
     if table.len() != PARTIES {
-        return wrong_table();
+        return seats::wrong_table();
     }
     let t = tables::load_all(table);
     let seat = commit_by_value(store, t, p);
@@ -166,7 +136,7 @@ pub fn abort(store: &mut [u32], table: &mut [Session], p: u32) -> Answer
     ensures { λ r. ⌜ On17 Aborted (now (store .entry)) (now (table .entry)) p r (now (store .exit)) (now (table .exit)) ⌝ }
 {
     if table.len() != PARTIES {
-        return wrong_table();
+        return seats::wrong_table();
     }
     let t = tables::load_all(table);
     let seat = abort_by_value(store, t, p);

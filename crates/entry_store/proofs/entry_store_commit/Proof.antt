@@ -9,9 +9,9 @@ use Rattle.store.proofs.commit.Symbol.{name as #store·commit}
 use Rattle.store.proofs.commit.Met as call-thm
 use Rattle.entry_store.proofs.Callees.{Lent, Pack}
 use Rattle.entry_store.proofs.Wrap.{wrap-meets}
-use Rattle.entry_store.proofs.pack.Symbol as pack-def
-use Rattle.entry_store.proofs.pack.Symbol.{name as #entry_store·pack}
-use Rattle.entry_store.proofs.pack.Met as pack-thm
+use Rattle.packing.proofs.pack.Symbol as pack-def
+use Rattle.packing.proofs.pack.Symbol.{name as #packing·pack}
+use Rattle.packing.proofs.pack.Met as pack-thm
 use Rattle.entry_store.proofs.entry_store_commit.Key.{name as key}
 use Rattle.entry_store.proofs.entry_store_commit as fn
 use Rattle.entry_store.proofs.entry_store_commit.Statement as stated
@@ -24,4 +24,4 @@ entry-store-commit-spec 𝓤 H 𝓜 𝓖 𝓡 =
     (tables 𝓤 H 𝓜 𝓡 code.env .C) (tables 𝓤 H 𝓜 𝓡 code.env .Λ) key code.function (code.unfolded 𝓤 H 𝓜 𝓡)
     (wrap-meets #store·commit Committed 𝓤 H (𝓖 .A) (givenOf 𝓤 H 𝓜 𝓖) (𝓜 .mem) (𝓡 .run) (tablesOf 𝓤 H 𝓜 (tables 𝓤 H 𝓜 𝓡 code.env))
     (cited 𝓤 H (Lent (Word .Denot) wordTy (Word .written) (Word .reaches) (Word .own) (Word .coded) wordLaws #store·commit Committed 𝓤 H (𝓖 .A)) 𝓜 𝓡 code.env #store·commit call-def.routine code.calls-store·commit (call-thm.met 𝓤 H 𝓜 𝓖 𝓡))
-    (cited 𝓤 H (Pack 𝓤 H (𝓖 .A) (𝓜 .mem) (𝓡 .run)) 𝓜 𝓡 code.env #entry_store·pack pack-def.routine code.calls-entry-store·pack (pack-thm.met 𝓤 H 𝓜 𝓖 𝓡)))
+    (cited 𝓤 H (Pack 𝓤 H (𝓖 .A) (𝓜 .mem) (𝓡 .run)) 𝓜 𝓡 code.env #packing·pack pack-def.routine code.calls-packing·pack (pack-thm.met 𝓤 H 𝓜 𝓖 𝓡)))

@@ -45,9 +45,9 @@ use Rattle.store.proofs.put.Symbol.{name as #store·put}
 use Rattle.store.proofs.put.Met as call-thm
 use Rattle.entry_store.specs.Exported.{Told}
 use Rattle.entry_store.proofs.Callees.{Lent, calls-lent, Pack, calls-pack}
-use Rattle.entry_store.proofs.pack.Symbol as pack-def
-use Rattle.entry_store.proofs.pack.Symbol.{name as #entry_store·pack}
-use Rattle.entry_store.proofs.pack.Met as pack-thm
+use Rattle.packing.proofs.pack.Symbol as pack-def
+use Rattle.packing.proofs.pack.Symbol.{name as #packing·pack}
+use Rattle.packing.proofs.pack.Met as pack-thm
 use Rattle.entry_store.proofs.entry_store_put.Key.{name as key}
 use Rattle.entry_store.proofs.entry_store_put as fn
 use Rattle.entry_store.proofs.entry_store_put.Statement as stated
@@ -86,7 +86,7 @@ module _ {M : Type 1} (𝓤 : URA M) (H : Heap 𝓤) (A : Atoms 𝓤) (W : Given
       nothing ! $ owned ! u32 (Is u32) (uint-makes 𝓤 H A W w32) second _ (refl, g₅) $ fjoin ! $ owned ! u32 (Is u32) (uint-makes 𝓤 H A W w32) first _ (refl, g₄) $ fjoin ! $ owned ! u32 (Is u32) (uint-makes 𝓤 H A W w32) entry _ (refl, g₃) $ fjoin ! $ owned ! u32 (Is u32) (uint-makes 𝓤 H A W w32) num _ (refl, g₂) $ fjoin ! $ owned ! u32 (Is u32) (uint-makes 𝓤 H A W w32) party _ (refl, g₁) $ fjoin ! $
       move ! (2 ∷ 0 ∷ []) $ fjoin ! $ move ! (1 ∷ 0 ∷ []) $ fjoin ! $ frame ! $ owned ! u64 (Is u64) (uint-makes 𝓤 H A W w64) n _ g $ done !
 
-  module _ (C : Calls 𝓤 H) (Λ : Loops 𝓤 H) (fm : FmC 𝓤 H (W .laws) C) (known : Triple 𝓤 (C #store·put) (Lent (AskR .Denot) askTy (AskR .written) (AskR .reaches) (AskR .own) (AskR .coded) askLaws #store·put Put 𝓤 H A)) (known-pack : Triple 𝓤 (C #entry_store·pack) (Pack 𝓤 H A mem run)) where
+  module _ (C : Calls 𝓤 H) (Λ : Loops 𝓤 H) (fm : FmC 𝓤 H (W .laws) C) (known : Triple 𝓤 (C #store·put) (Lent (AskR .Denot) askTy (AskR .written) (AskR .reaches) (AskR .own) (AskR .coded) askLaws #store·put Put 𝓤 H A)) (known-pack : Triple 𝓤 (C #packing·pack) (Pack 𝓤 H A mem run)) where
     walk : ent 𝓤 (onEntry 𝓤 H A fn.signature (κ₀, (κ₁, tt)) (q₀, (q₁, tt)) x at) (WpFn 𝓤 H C Λ code.function passed Post)
     walk =
         qed W ((‵ (flft κ₀ q₀) ⊛ ‵ (flft κ₁ q₁) ⊛ ‵ ftrue) ∷ ‵ (owns (MutSlice (named 0) κ₀ u32 ∷ MutSlice (named 1) κ₁ R ∷ u32 ∷ u32 ∷ u32 ∷ u32 ∷ u32 ∷ []) x at) ∷ []) ∵
@@ -111,7 +111,7 @@ module _ {M : Type 1} (𝓤 : URA M) (H : Heap 𝓤) (A : Atoms 𝓤) (W : Given
         by ! (exits n st′ zs e₀ e₁ gn (record { answer = a; packs = is; table-long = e₁; does = does }))))))))))))))))))
 
 module _ {M : Type 1} (𝓤 : URA M) (H : Heap 𝓤) (A : Atoms 𝓤) (W : Given 𝓤 H A) (mem : Memory → SProp 𝓤) (run : Routine → Fun 𝓤) (𝓣 : Tables 𝓤 H)
-    (known : Triple 𝓤 (𝓣 .C #store·put) (Lent (AskR .Denot) askTy (AskR .written) (AskR .reaches) (AskR .own) (AskR .coded) askLaws #store·put Put 𝓤 H A)) (known-pack : Triple 𝓤 (𝓣 .C #entry_store·pack) (Pack 𝓤 H A mem run)) where
+    (known : Triple 𝓤 (𝓣 .C #store·put) (Lent (AskR .Denot) askTy (AskR .written) (AskR .reaches) (AskR .own) (AskR .coded) askLaws #store·put Put 𝓤 H A)) (known-pack : Triple 𝓤 (𝓣 .C #packing·pack) (Pack 𝓤 H A mem run)) where
   walks : Walks 𝓤 H A fn.ended five (WpFn 𝓤 H (𝓣 .C) (𝓣 .Λ) code.function) (fn.clauses 𝓤 H A mem run)
   walks = walked 𝓤 H A fn.ended five (fn.clauses 𝓤 H A mem run) (WpFn 𝓤 H (𝓣 .C) (𝓣 .Λ) code.function)
       (λ κs. (slice-vals, (slice-vals, (uint-vals w32, (uint-vals w32, (uint-vals w32, (uint-vals w32, (uint-vals w32, tt))))))))
@@ -132,4 +132,4 @@ entry-store-put-spec 𝓤 H 𝓜 𝓖 𝓡 =
     (tables 𝓤 H 𝓜 𝓡 code.env .C) (tables 𝓤 H 𝓜 𝓡 code.env .Λ) key code.function (code.unfolded 𝓤 H 𝓜 𝓡)
     (meets 𝓤 H (𝓖 .A) (givenOf 𝓤 H 𝓜 𝓖) (𝓜 .mem) (𝓡 .run) (tablesOf 𝓤 H 𝓜 (tables 𝓤 H 𝓜 𝓡 code.env))
     (cited 𝓤 H (Lent (AskR .Denot) askTy (AskR .written) (AskR .reaches) (AskR .own) (AskR .coded) askLaws #store·put Put 𝓤 H (𝓖 .A)) 𝓜 𝓡 code.env #store·put call-def.routine code.calls-store·put (call-thm.met 𝓤 H 𝓜 𝓖 𝓡))
-    (cited 𝓤 H (Pack 𝓤 H (𝓖 .A) (𝓜 .mem) (𝓡 .run)) 𝓜 𝓡 code.env #entry_store·pack pack-def.routine code.calls-entry-store·pack (pack-thm.met 𝓤 H 𝓜 𝓖 𝓡)))
+    (cited 𝓤 H (Pack 𝓤 H (𝓖 .A) (𝓜 .mem) (𝓡 .run)) 𝓜 𝓡 code.env #packing·pack pack-def.routine code.calls-packing·pack (pack-thm.met 𝓤 H 𝓜 𝓖 𝓡)))

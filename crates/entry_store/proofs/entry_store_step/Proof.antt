@@ -46,9 +46,9 @@ use Rattle.store.proofs.step.Symbol.{name as #store·step}
 use Rattle.store.proofs.step.Met as call-thm
 use Rattle.entry_store.specs.Exported.{Stepped}
 use Rattle.entry_store.proofs.Callees.{Pack, calls-pack, answer-spelled}
-use Rattle.entry_store.proofs.pack.Symbol as pack-def
-use Rattle.entry_store.proofs.pack.Symbol.{name as #entry_store·pack}
-use Rattle.entry_store.proofs.pack.Met as pack-thm
+use Rattle.packing.proofs.pack.Symbol as pack-def
+use Rattle.packing.proofs.pack.Symbol.{name as #packing·pack}
+use Rattle.packing.proofs.pack.Met as pack-thm
 use Rattle.entry_store.proofs.entry_store_step.Key.{name as key}
 use Rattle.entry_store.proofs.entry_store_step as fn
 use Rattle.entry_store.proofs.entry_store_step.Statement as stated
@@ -96,7 +96,7 @@ module _ {M : Type 1} (𝓤 : URA M) (H : Heap 𝓤) (A : Atoms 𝓤) (W : Given
       nothing ! $ owned ! u32 (Is u32) (uint-makes 𝓤 H A W w32) k _ (refl, gk) $ fjoin ! $ move ! (5 ∷ 0 ∷ []) $ fjoin ! $ move ! (3 ∷ 0 ∷ []) $ fjoin ! $ move ! (1 ∷ 0 ∷ []) $ fjoin ! $
       nothing ! $ move ! (4 ∷ 0 ∷ []) $ join ! $ move ! (3 ∷ 0 ∷ []) $ join ! $ move ! (2 ∷ 0 ∷ []) $ join ! $ join ! $ frame ! $ done !
 
-  module _ (C : Calls 𝓤 H) (Λ : Loops 𝓤 H) (fm : FmC 𝓤 H (W .laws) C) (known : Triple 𝓤 (C #store·step) (Callee 𝓤 H A mem run)) (known-pack : Triple 𝓤 (C #entry_store·pack) (Pack 𝓤 H A mem run)) where
+  module _ (C : Calls 𝓤 H) (Λ : Loops 𝓤 H) (fm : FmC 𝓤 H (W .laws) C) (known : Triple 𝓤 (C #store·step) (Callee 𝓤 H A mem run)) (known-pack : Triple 𝓤 (C #packing·pack) (Pack 𝓤 H A mem run)) where
     walk : ent 𝓤 (onEntry 𝓤 H A fn.signature (κ₀, (κ₁, (κ₂, tt))) (q₀, (q₁, (q₂, tt))) x at) (WpFn 𝓤 H C Λ code.function passed Post)
     walk =
         qed W ((‵ (flft κ₀ q₀) ⊛ ‵ (flft κ₁ q₁) ⊛ ‵ (flft κ₂ q₂) ⊛ ‵ ftrue) ∷ ‵ (owns (MutSlice (named 0) κ₀ u32 ∷ MutSlice (named 1) κ₁ R ∷ MutSlice (named 2) κ₂ u32 ∷ u32 ∷ []) x at) ∷ []) ∵
@@ -126,7 +126,7 @@ module _ {M : Type 1} (𝓤 : URA M) (H : Heap 𝓤) (A : Atoms 𝓤) (W : Given
         move ! (5 ∷ 2 ∷ 4 ∷ 0 ∷ 3 ∷ 1 ∷ []) $ by ! (exits n (zs .0) (zs .1 .0) (zs .1 .1 .0) e₀ e₁ e₂ gn (record { answer = r; packs = en; table-long = e₁; does = does })))))))))))))))))))))))
 
 module _ {M : Type 1} (𝓤 : URA M) (H : Heap 𝓤) (A : Atoms 𝓤) (W : Given 𝓤 H A) (mem : Memory → SProp 𝓤) (run : Routine → Fun 𝓤) (𝓣 : Tables 𝓤 H)
-    (known : Triple 𝓤 (𝓣 .C #store·step) (Callee 𝓤 H A mem run)) (known-pack : Triple 𝓤 (𝓣 .C #entry_store·pack) (Pack 𝓤 H A mem run)) where
+    (known : Triple 𝓤 (𝓣 .C #store·step) (Callee 𝓤 H A mem run)) (known-pack : Triple 𝓤 (𝓣 .C #packing·pack) (Pack 𝓤 H A mem run)) where
   walks : Walks 𝓤 H A fn.ended stayed (WpFn 𝓤 H (𝓣 .C) (𝓣 .Λ) code.function) (fn.clauses 𝓤 H A mem run)
   walks = walked 𝓤 H A fn.ended stayed (fn.clauses 𝓤 H A mem run) (WpFn 𝓤 H (𝓣 .C) (𝓣 .Λ) code.function) (λ κs. (slice-vals, (slice-vals, (slice-vals, (uint-vals w32, tt))))) (λ κs. (mut-slice-tells (named 0) (κs .0) u32, (mut-slice-tells (named 1) (κs .1 .0) R, (mut-slice-tells (named 2) (κs .1 .1 .0) u32, (uint-tells w32, tt)))))
       (λ κs qs bounds a g are. via 𝓤 _ (fst∗ 𝓤 _ (emp 𝓤))
@@ -144,4 +144,4 @@ entry-store-step-spec 𝓤 H 𝓜 𝓖 𝓡 =
     (tables 𝓤 H 𝓜 𝓡 code.env .C) (tables 𝓤 H 𝓜 𝓡 code.env .Λ) key code.function (code.unfolded 𝓤 H 𝓜 𝓡)
     (meets 𝓤 H (𝓖 .A) (givenOf 𝓤 H 𝓜 𝓖) (𝓜 .mem) (𝓡 .run) (tablesOf 𝓤 H 𝓜 (tables 𝓤 H 𝓜 𝓡 code.env))
     (cited 𝓤 H (Callee 𝓤 H (𝓖 .A) (𝓜 .mem) (𝓡 .run)) 𝓜 𝓡 code.env #store·step call-def.routine code.calls-store·step (call-thm.met 𝓤 H 𝓜 𝓖 𝓡))
-    (cited 𝓤 H (Pack 𝓤 H (𝓖 .A) (𝓜 .mem) (𝓡 .run)) 𝓜 𝓡 code.env #entry_store·pack pack-def.routine code.calls-entry-store·pack (pack-thm.met 𝓤 H 𝓜 𝓖 𝓡)))
+    (cited 𝓤 H (Pack 𝓤 H (𝓖 .A) (𝓜 .mem) (𝓡 .run)) 𝓜 𝓡 code.env #packing·pack pack-def.routine code.calls-packing·pack (pack-thm.met 𝓤 H 𝓜 𝓖 𝓡)))

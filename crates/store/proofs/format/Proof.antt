@@ -47,9 +47,9 @@ use Rattle.store.proofs.Callees.{Wrong, calls-wrong}
 use Rattle.store.proofs.Thin.{is-17, not-17}
 use Rattle.tables.proofs.Row.{R, R17, valsOf17, make17, typed17, long17, homes}
 use Rattle.store.proofs.Answers.{AnswerR, answerVal, answer-make, answer-typed, ServedR, served-tell, served-typed, served-table, served-answer}
-use Rattle.store.proofs.wrong_table.Symbol as wrong-def
-use Rattle.store.proofs.wrong_table.Symbol.{name as #store·wrong-table}
-use Rattle.store.proofs.wrong_table.Met as wrong-thm
+use Rattle.seats.proofs.wrong_table.Symbol as wrong-def
+use Rattle.seats.proofs.wrong_table.Symbol.{name as #seats·wrong-table}
+use Rattle.seats.proofs.wrong_table.Met as wrong-thm
 use Rattle.tables.proofs.load_all.Symbol as load-def
 use Rattle.tables.proofs.load_all.Symbol.{name as #tables·load-all}
 use Rattle.tables.proofs.load_all.Met as load-thm
@@ -108,7 +108,7 @@ module _ {M : Type 1} (𝓤 : URA M) (H : Heap 𝓤) (A : Atoms 𝓤) (W : Given
       qed W (‵ (MutSlice (named 0) κ₀ u32 .own (store st) (at .0)) ∷ ‵ (flft κ₀ q₀) ∷ []) ∵ nothing ! $ owned ! u32 (Is u32) (uint-makes 𝓤 H A W w32) k _ (refl, gk) $ fjoin ! $ owned ! R17 (Is R17) (make17 𝓤 H A W) ys _ g $ fjoin ! $ move ! (1 ∷ 0 ∷ []) $ fjoin ! $
       nothing ! $ move ! (2 ∷ 0 ∷ []) $ join ! $ join ! $ frame ! $ done !
 
-  module _ (C : Calls 𝓤 H) (Λ : Loops 𝓤 H) (fm : FmC 𝓤 H (W .laws) C) (known-wrong : Triple 𝓤 (C #store·wrong-table) (Wrong 𝓤 H A mem run)) (known-load : Triple 𝓤 (C #tables·load-all) (Load 𝓤 H A mem run))
+  module _ (C : Calls 𝓤 H) (Λ : Loops 𝓤 H) (fm : FmC 𝓤 H (W .laws) C) (known-wrong : Triple 𝓤 (C #seats·wrong-table) (Wrong 𝓤 H A mem run)) (known-load : Triple 𝓤 (C #tables·load-all) (Load 𝓤 H A mem run))
       (known : Triple 𝓤 (C #calls·format) (Core 𝓤 H A mem run)) (known-save : Triple 𝓤 (C #tables·save-all) (Save 𝓤 H A mem run)) where
     walk : ent 𝓤 (onEntry 𝓤 H A fn.signature (κ₀, (κ₁, tt)) (q₀, (q₁, tt)) x at) (WpFn 𝓤 H C Λ code.function (sliceVal (b₀, o₀) (length st) ∷ sliceVal (b, o) (length ys) ∷ vint w32 k ∷ []) Post)
     walk =
@@ -162,7 +162,7 @@ module _ {M : Type 1} (𝓤 : URA M) (H : Heap 𝓤) (A : Atoms 𝓤) (W : Given
         move ! (3 ∷ 2 ∷ 0 ∷ 1 ∷ []) $ by ! (exits (r .answer) (zs .0) (r .table) e₀ (long17 (r .table) _ (served-table r w is) ∙ sym l17) (served-answer r w is) (λ _. e, λ n. absurd (n l17)))))))))))))))))))))))))))
 
 module _ {M : Type 1} (𝓤 : URA M) (H : Heap 𝓤) (A : Atoms 𝓤) (W : Given 𝓤 H A) (mem : Memory → SProp 𝓤) (run : Routine → Fun 𝓤) (𝓣 : Tables 𝓤 H)
-    (known-wrong : Triple 𝓤 (𝓣 .C #store·wrong-table) (Wrong 𝓤 H A mem run)) (known-load : Triple 𝓤 (𝓣 .C #tables·load-all) (Load 𝓤 H A mem run)) (known : Triple 𝓤 (𝓣 .C #calls·format) (Core 𝓤 H A mem run)) (known-save : Triple 𝓤 (𝓣 .C #tables·save-all) (Save 𝓤 H A mem run)) where
+    (known-wrong : Triple 𝓤 (𝓣 .C #seats·wrong-table) (Wrong 𝓤 H A mem run)) (known-load : Triple 𝓤 (𝓣 .C #tables·load-all) (Load 𝓤 H A mem run)) (known : Triple 𝓤 (𝓣 .C #calls·format) (Core 𝓤 H A mem run)) (known-save : Triple 𝓤 (𝓣 .C #tables·save-all) (Save 𝓤 H A mem run)) where
   walks : Walks 𝓤 H A fn.ended stayed (WpFn 𝓤 H (𝓣 .C) (𝓣 .Λ) code.function) (fn.clauses 𝓤 H A mem run)
   walks = walked 𝓤 H A fn.ended stayed (fn.clauses 𝓤 H A mem run) (WpFn 𝓤 H (𝓣 .C) (𝓣 .Λ) code.function) (λ κs. (slice-vals, (slice-vals, (uint-vals w32, tt)))) (λ κs. (mut-slice-tells (named 0) (κs .0) u32, (mut-slice-tells (named 1) (κs .1 .0) R, (uint-tells w32, tt))))
       (λ κs qs bounds a g are. via 𝓤 _ (fst∗ 𝓤 _ (emp 𝓤))
@@ -179,7 +179,7 @@ format-spec 𝓤 H 𝓜 𝓖 𝓡 =
     entered 𝓤 H (tripleOf 𝓤 H (𝓖 .A) fn.signature (fn.spec 𝓤 H (𝓖 .A) (𝓜 .mem) (𝓡 .run)))
     (tables 𝓤 H 𝓜 𝓡 code.env .C) (tables 𝓤 H 𝓜 𝓡 code.env .Λ) #store·format code.function (code.unfolded 𝓤 H 𝓜 𝓡)
     (meets 𝓤 H (𝓖 .A) (givenOf 𝓤 H 𝓜 𝓖) (𝓜 .mem) (𝓡 .run) (tablesOf 𝓤 H 𝓜 (tables 𝓤 H 𝓜 𝓡 code.env))
-    (cited 𝓤 H (Wrong 𝓤 H (𝓖 .A) (𝓜 .mem) (𝓡 .run)) 𝓜 𝓡 code.env #store·wrong-table wrong-def.routine code.calls-store·wrong-table (wrong-thm.met 𝓤 H 𝓜 𝓖 𝓡))
+    (cited 𝓤 H (Wrong 𝓤 H (𝓖 .A) (𝓜 .mem) (𝓡 .run)) 𝓜 𝓡 code.env #seats·wrong-table wrong-def.routine code.calls-seats·wrong-table (wrong-thm.met 𝓤 H 𝓜 𝓖 𝓡))
     (cited 𝓤 H (Load 𝓤 H (𝓖 .A) (𝓜 .mem) (𝓡 .run)) 𝓜 𝓡 code.env #tables·load-all load-def.routine code.calls-tables·load-all (load-thm.met 𝓤 H 𝓜 𝓖 𝓡))
     (cited 𝓤 H (Core 𝓤 H (𝓖 .A) (𝓜 .mem) (𝓡 .run)) 𝓜 𝓡 code.env #calls·format core-def.routine code.calls-calls·format (core-thm.met 𝓤 H 𝓜 𝓖 𝓡))
     (cited 𝓤 H (Save 𝓤 H (𝓖 .A) (𝓜 .mem) (𝓡 .run)) 𝓜 𝓡 code.env #tables·save-all save-def.routine code.calls-tables·save-all (save-thm.met 𝓤 H 𝓜 𝓖 𝓡)))

@@ -7,9 +7,9 @@ use Rattle.tables.proofs.Callees.{Load, Store}
 use Rattle.store.proofs.Callees.{Wrong}
 use Rattle.store.proofs.Thin.{Core, thin-meets}
 use Rattle.store.proofs.Plains.{askLaws, AskR, askTy}
-use Rattle.store.proofs.wrong_table.Symbol as wrong-def
-use Rattle.store.proofs.wrong_table.Symbol.{name as #store·wrong-table}
-use Rattle.store.proofs.wrong_table.Met as wrong-thm
+use Rattle.seats.proofs.wrong_table.Symbol as wrong-def
+use Rattle.seats.proofs.wrong_table.Symbol.{name as #seats·wrong-table}
+use Rattle.seats.proofs.wrong_table.Met as wrong-thm
 use Rattle.tables.proofs.load_all.Symbol as load-def
 use Rattle.tables.proofs.load_all.Symbol.{name as #tables·load-all}
 use Rattle.tables.proofs.load_all.Met as load-thm
@@ -30,7 +30,7 @@ put-spec 𝓤 H 𝓜 𝓖 𝓡 =
     entered 𝓤 H (tripleOf 𝓤 H (𝓖 .A) fn.signature (fn.spec 𝓤 H (𝓖 .A) (𝓜 .mem) (𝓡 .run)))
     (tables 𝓤 H 𝓜 𝓡 code.env .C) (tables 𝓤 H 𝓜 𝓡 code.env .Λ) #store·put code.function (code.unfolded 𝓤 H 𝓜 𝓡)
     (thin-meets (AskR .Denot) askTy (AskR .written) (AskR .reaches) (AskR .own) (AskR .coded) askLaws #store·put-by-value Put 𝓤 H (𝓖 .A) (givenOf 𝓤 H 𝓜 𝓖) (𝓜 .mem) (𝓡 .run) (tablesOf 𝓤 H 𝓜 (tables 𝓤 H 𝓜 𝓡 code.env))
-    (cited 𝓤 H (Wrong 𝓤 H (𝓖 .A) (𝓜 .mem) (𝓡 .run)) 𝓜 𝓡 code.env #store·wrong-table wrong-def.routine code.calls-store·wrong-table (wrong-thm.met 𝓤 H 𝓜 𝓖 𝓡))
+    (cited 𝓤 H (Wrong 𝓤 H (𝓖 .A) (𝓜 .mem) (𝓡 .run)) 𝓜 𝓡 code.env #seats·wrong-table wrong-def.routine code.calls-seats·wrong-table (wrong-thm.met 𝓤 H 𝓜 𝓖 𝓡))
     (cited 𝓤 H (Load 𝓤 H (𝓖 .A) (𝓜 .mem) (𝓡 .run)) 𝓜 𝓡 code.env #tables·load-all load-def.routine code.calls-tables·load-all (load-thm.met 𝓤 H 𝓜 𝓖 𝓡))
     (cited 𝓤 H (Core (AskR .Denot) askTy (AskR .written) (AskR .reaches) (AskR .own) (AskR .coded) askLaws #store·put-by-value Put 𝓤 H (𝓖 .A)) 𝓜 𝓡 code.env #store·put-by-value core-def.routine code.calls-store·put-by-value (core-thm.met 𝓤 H 𝓜 𝓖 𝓡))
     (cited 𝓤 H (Store 𝓤 H (𝓖 .A) (𝓜 .mem) (𝓡 .run)) 𝓜 𝓡 code.env #tables·store-session store-def.routine code.calls-tables·store-session (store-thm.met 𝓤 H 𝓜 𝓖 𝓡)))

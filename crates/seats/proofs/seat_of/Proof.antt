@@ -1,7 +1,7 @@
-use Rattle.store.specs.OneRecord.{seat-made}
+use Rattle.seats.specs.Seated.{seat-made}
 use borrow.Author.Needs.{needs}
-use Rattle.store.proofs.seat_of.Statement.{statement}
-use Rattle.store.proofs.seat_of.Tie as tie
+use Rattle.seats.proofs.seat_of.Statement.{statement}
+use Rattle.seats.proofs.seat_of.Tie as tie
 
 seat-requires : tie.Need-seat-requires
 seat-requires c κs = search needs

@@ -3,9 +3,9 @@ use mathlib.Core.Path.{_≡_, sym, subst}
 use borrow.Author.Needs.{needs}
 use Rattle.outcomes.specs.declared.Answer.the-variants.{Ok, More}
 use Rattle.outcomes.specs.Said.{said}
-use Rattle.entry_store.specs.Packed.{Packs}
-use Rattle.entry_store.proofs.pack.Statement.{statement}
-use Rattle.entry_store.proofs.pack.Tie as tie
+use Rattle.packing.specs.Packed.{Packs}
+use Rattle.packing.proofs.pack.Statement.{statement}
+use Rattle.packing.proofs.pack.Tie as tie
 
 enum-told : tie.Need-enum-told
 enum-told c = search needs

@@ -1,0 +1,39 @@
+// Packing: an answer in one number of 64 bits, as it crosses to C.
+//
+// It promises that the number is the packing of the answer, which loses nothing: the answer is read back from it (specs/Packed). It rests on outcomes for
+// answers, on serial for answers as they are told.
+ghost use mathlib.Core.Path.{_≡_};
+ghost use Prim.Native.Nat.{_<_};
+ghost use Rattle.outcomes.specs.Said.{said};
+ghost use Rattle.packing.specs.Packed.{box, Packs};
+use outcomes::Answer;
+
+fn wide(n: u32) -> u64
+    ensures { λ r. ⌜ r ≡ n ⌝ }
+{
+    n as u64
+}
+
+// How many numbers an answer has, its word, the second number and the value, in one number.
+fn boxed(count: u64, word: u64, number: u32, value: u32) -> u64
+    requires { ⌜ (count < 256) × (word < 256) ⌝ }
+    ensures { λ r. ⌜ (r ≡ box count word number value) × (value < 4294967296) ⌝ }
+{
+    let low = wide(number % 256);
+    let high = (count * 256 + word) * 256 + low;
+    high * 4294967296 + wide(value)
+}
+
+// The answer in one number.
+pub fn pack(a: Answer) -> u64
+    ensures { λ r. ⌜ Packs (said a) r ⌝ }
+{
+    match a {
+        Answer::Ok => boxed(0, 0, 0, 0),
+        Answer::More => boxed(0, 1, 0, 0),
+        Answer::Wait(p) => boxed(1, 2, 0, p),
+        Answer::Done(n) => boxed(1, 3, 0, n),
+        Answer::Tidied(k, b) => boxed(2, 3, b, k),
+        Answer::Refused(n, k) => boxed(2, 4, n, k),
+    }
+}

@@ -1,0 +1,37 @@
+// Seats: what a call over a lent table keeps of the call by value, the record of its party with the answer; and the answer where no such call is made.
+//
+// It promises the record as the table has it, an idle one for a number that is no party's. It rests on sessions for the record, on outcomes for
+// answers, on refusals for a party's record.
+ghost use mathlib.Core.Path.{_≡_};
+ghost use Rattle.sessions.specs.Sessions.{session-at};
+use outcomes::Answer;
+use outcomes::Served;
+use sessions::Session;
+
+// What a call leaves: its party, the party's record, and the answer.
+pub struct Seat {
+    pub party: u32,
+    pub session: Session,
+    pub answer: Answer,
+}
+
+// The record of party p out of what a call gave back, with the call's answer.
+pub fn seat_of(served: Served, p: u32) -> Seat
+    ensures { λ r. ⌜ r ≡ record { party = p; session = session-at (served .table) p; answer = served .answer } ⌝ }
+{
+    let t = served.table;
+    let answer = served.answer;
+    let session = refusals::seat(t, p);
+    Seat {
+        party: p,
+        session: session,
+        answer: answer,
+    }
+}
+
+// The answer to a table that is not of 17 records.
+pub fn wrong_table() -> Answer
+    ensures { λ r. ⌜ r ≡ Answer.Refused 1 0 ⌝ }
+{
+    Answer::Refused(1, 0)
+}
