@@ -6,12 +6,3 @@
 // a step waits exactly if a lock is in its way, is refused 11 or 12 exactly if document 01 says so, and otherwise goes forward), Demand3 (demand 3 for every list
 // of calls), Cases and Directed (worked examples).
 // Rests on: `serial` for the logical model and the serial-run theorem, `locks` for the bits of holders words.
-ghost use mathlib.Core.Path.{_≡_};
-ghost use Rattle.machine.specs.Holders.{width};
-
-// How many sessions there are.
-pub fn sessions() -> u32
-    ensures { λ r. ⌜ r ≡ width ⌝ }
-{
-    16
-}
