@@ -1,5 +1,5 @@
 -- The runs of the code, as equations: what its calls come to, in the order of the calls.
-use mathlib.Core.Path.{_≡_, sym, ap, subst, _∙_}
+use mathlib.Core.Path.{_≡_, sym, ap, ap₂, subst, _∙_}
 use mathlib.Core.List.{List}
 use Prim.Native.Nat.{ℕ, _+_, _-_, _≤_}
 use native.Mathlib.Omega.{arith}
@@ -12,6 +12,17 @@ use Rattle.reshaping.specs.declared.Neighbours.{Neighbours}
 use Rattle.reshaping.specs.Ops.{removeBehind, setBound, joinNodes, moveFromLeft, moveFromRight}
 use Rattle.chain.specs.Free.{pushFree}
 use Rattle.joins.specs.Joins.{joinSons, moveRight, moveLeft, lastOfLeft, HasDown, downBound}
+
+-- Nodes l and r are read, as x and y, and then made one, or a son is moved from one to the other.
+module _ (s : List ℕ) (m l r down : ℕ) {x y : Node} (a : x ≡ nodeAt s m l) (b : y ≡ nodeAt s m r) where
+  pub joined-run : {n : Node} → n ≡ joinNodes x down y → n ≡ joinNodes (nodeAt s m l) down (nodeAt s m r)
+  joined-run e = e ∙ ap₂ (λ (u v : Node). joinNodes u down v) a b
+
+  pub moved-right-run : {n : Neighbours} → n ≡ moveFromLeft x down y → n ≡ moveFromLeft (nodeAt s m l) down (nodeAt s m r)
+  moved-right-run e = e ∙ ap₂ (λ (u v : Node). moveFromLeft u down v) a b
+
+  pub moved-left-run : {n : Neighbours} → n ≡ moveFromRight x down y → n ≡ moveFromRight (nodeAt s m l) down (nodeAt s m r)
+  moved-left-run e = e ∙ ap₂ (λ (u v : Node). moveFromRight u down v) a b
 
 pub join-run : (s : List ℕ) {s₁ s₂ s₃ : List ℕ} {p one latched fewer released : Node} {l q : ℕ} (m at i down w : ℕ)
     → p ≡ nodeAt s m at → l ≡ sonAt s m at i → q ≡ sonAt s m at (i + 1) → one ≡ joinNodes (nodeAt s m l) down (nodeAt s m q)

@@ -1,5 +1,5 @@
 -- What put and commit do to the words of a store and to a session record.
-use mathlib.Core.Path.{_≡_, sym, ap, subst, _∙_}
+use mathlib.Core.Path.{_≡_, sym, ap, ap₂, subst, _∙_}
 use mathlib.Core.Bool.{cond}
 use mathlib.Core.List.{List}
 use Prim.Native.Nat.{ℕ, _≤_}
@@ -110,3 +110,23 @@ aim-tidy s m r {code} first {a} e q = simp (ne-eqb code 5 (λ z. omega (arith, e
 pub aim-start : (s : List ℕ) (m r : ℕ) {code : ℕ} (first : ℕ) → ¬ (code ≡ 5) → ¬ (code ≡ 6) → record { stage = 1; target = 0 } ≡ aimOf s m r code first
 unfolding aimOf
 aim-start s m r {code} first a b = simp (ne-eqb code 5 a, ne-eqb code 6 b)
+
+-- what the calls come to, in their order
+
+pub tidy-run : (s : List ℕ) (m r first : ℕ) {i last next : ℕ} {a : Aim} → i ≡ headerWord s firstPlace → last ≡ lastUpto s m r i first → next ≡ wordOf s m last 0 → a ≡ choice s m next
+    → a ≡ tidyAim s m r first
+unfolding tidyAim
+tidy-run s m r first e l n c = c ∙ ap (choice s m) (n ∙ ap (λ j. wordOf s m j 0) (l ∙ ap (λ j. lastUpto s m r j first) e))
+
+pub asked-run : (s : List ℕ) (m r : ℕ) (x : Session) (code entry first second : ℕ) {a : Aim} {y : Session} → a ≡ aimOf s m r code first → y ≡ aimed x code entry first second a
+    → y ≡ asked s m r x code entry first second
+unfolding asked
+asked-run s m r x code entry first second e c = c ∙ ap (aimed x code entry first second) e
+
+pub leave-run : (s : List ℕ) (m r p : ℕ) {i : ℕ} {t u : List ℕ} → i ≡ headerWord s firstPlace → t ≡ leaveEntries s p m → u ≡ leaveGroups t m p r i → u ≡ leaveAll s m r p
+unfolding leaveAll
+leave-run s m r p e a b = b ∙ ap₂ (λ t i. leaveGroups t m p r i) a e
+
+pub commit-run : (s : List ℕ) (m r p i : ℕ) {t u : List ℕ} → t ≡ freeChain s m r i → u ≡ leaveAll t m r p → u ≡ commitWords s m r p i
+unfolding commitWords
+commit-run s m r p i a b = b ∙ ap (λ t. leaveAll t m r p) a

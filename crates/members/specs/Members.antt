@@ -169,6 +169,26 @@ pub take-run : (s : List ℕ) {t u : List ℕ} (m d i : ℕ) {b after : Membersh
 unfolding takeMember
 take-run s {t} {u} m d i {b} eb ea et eu = let k = before-or s t m (b .next) (b .before) in cc
 
+pub pin-run : (s : List ℕ) {t : List ℕ} (m d : ℕ) {n : ℕ} → n ≡ descriptorAt s m d .pins → t ≡ putPins s m d (n + 1) → t ≡ pinAt s m d
+unfolding pinAt
+pin-run s m d en et = et ∙ ap (λ (k : ℕ). putPins s m d (k + 1)) en
+
+pub unpin-run : (s : List ℕ) {t : List ℕ} (m d : ℕ) {n : ℕ} → n ≡ descriptorAt s m d .pins → t ≡ putPins s m d (n - 1) → t ≡ unpinAt s m d
+unfolding unpinAt
+unpin-run s m d en et = et ∙ ap (λ (k : ℕ). putPins s m d (k - 1)) en
+
+pub locate-run : (s : List ℕ) {t : List ℕ} (m d p : ℕ) {v w : Descriptor} {l : ℕ} → v ≡ descriptorAt s m d → l ≡ held-by p (v .locate) → w ≡ grantLocate v l → t ≡ putDescriptor s m d w
+    → t ≡ locateAt s m d p
+unfolding locateAt
+locate-run s m d p {v} ev el ew et =
+    et ∙ ap (λ (x : Descriptor). putDescriptor s m d x) (ew ∙ ap (grantLocate v) el ∙ ap (λ (x : Descriptor). grantLocate x (held-by p (x .locate))) ev)
+
+pub update-run : (s : List ℕ) {t : List ℕ} (m d p : ℕ) {v w : Descriptor} {l : ℕ} → v ≡ descriptorAt s m d → l ≡ held-by p (v .update) → w ≡ grantUpdate v l → t ≡ putDescriptor s m d w
+    → t ≡ updateAt s m d p
+unfolding updateAt
+update-run s m d p {v} ev el ew et =
+    et ∙ ap (λ (x : Descriptor). putDescriptor s m d x) (ew ∙ ap (grantUpdate v) el ∙ ap (λ (x : Descriptor). grantUpdate x (held-by p (x .update))) ev)
+
 both-granted : (v : Descriptor) (l g : ℕ) → grantGap (grantLocate v l) g ≡ withHolders v l (v .update) g
 unfolding withHolders
 both-granted v l g = refl

@@ -1,5 +1,5 @@
 -- Turns of the loops (shifts of an insertion and a removal, copy), and what two changed arrays make.
-use mathlib.Core.Path.{_≡_, refl, sym, ap, _∙_}
+use mathlib.Core.Path.{_≡_, refl, sym, ap, ap₂, _∙_}
 use mathlib.Core.List.{List, [], _∷_, _++_, append-nil}
 use Prim.Native.Nat.{ℕ, suc, _+_, _-_, _≤_, _<_}
 use native.Mathlib.Numerals.{add-one}
@@ -7,7 +7,7 @@ use native.Mathlib.Omega.{arith}
 use lib.ListN.{length, take, drop, getD, set, drop-of-length-le, length-drop}
 use lib.Seq.{drop-cons, take-suc-set, drop-set-lt, append-snoc, take-all, set-split, paste, paste-zero, paste-suc}
 use Rattle.nodes.specs.declared.Node.{Node}
-use Rattle.reshaping.specs.Ops.{insertIn, removeIn, joinNodes}
+use Rattle.reshaping.specs.Ops.{insertIn, removeIn, insertSon, dropSon, joinNodes}
 use Rattle.reshaping.specs.declared.Neighbours.{Neighbours}
 
 -- ---- the insertion: what is left of it, done, gives the whole
@@ -65,6 +65,21 @@ paste-more {d} {at} {s} {i} {l} p hd hs =
 
 pub paste-end : {d : List ℕ} {at : ℕ} {s : List ℕ} {i : ℕ} {l : List ℕ} (n : ℕ) → Pasted d at s i l → i ≡ n → l ≡ paste d at s n
 paste-end {d} {at} {s} n p e = p .is ∙ ap (paste d at s) e
+
+-- ---- a node, from its two changed arrays: a son more, a son less
+node-made : (latch count : ℕ) {b b₁ s s₁ : List ℕ} → b ≡ b₁ → s ≡ s₁
+    → _≡_ {A = Node} (record { latch = latch; count = count; bounds = b; sons = s }) (record { latch = latch; count = count; bounds = b₁; sons = s₁ })
+node-made latch count e q = ap₂ (λ (x y : List ℕ). record { latch = latch; count = count; bounds = x; sons = y }) e q
+
+pub insert-run : (n : Node) (i key j son : ℕ) {b s : List ℕ} → b ≡ insertIn (n .bounds) i key → s ≡ insertIn (n .sons) j son
+    → record { latch = n .latch; count = n .count + 1; bounds = b; sons = s } ≡ insertSon n i key j son
+unfolding insertSon
+insert-run n i key j son e q = node-made (n .latch) (n .count + 1) e q
+
+pub drop-run : (n : Node) (i j : ℕ) {b s : List ℕ} → b ≡ removeIn (n .bounds) i → s ≡ removeIn (n .sons) j
+    → record { latch = n .latch; count = n .count - 1; bounds = b; sons = s } ≡ dropSon n i j
+unfolding dropSon
+drop-run n i j e q = node-made (n .latch) (n .count - 1) e q
 
 -- ---- a join, from its two copies
 pub join-run : (l : Node) (down : ℕ) (r : Node) {b s : List ℕ}

@@ -1,8 +1,8 @@
 -- The runs of the code, as equations: what its calls come to, in the order of the calls.
-use mathlib.Core.Path.{_≡_, sym, subst}
+use mathlib.Core.Path.{_≡_, sym, ap, subst, _∙_}
 use mathlib.Core.List.{List}
 use Prim.Native.Nat.{ℕ, _+_, _-_}
-use Rattle.words.specs.Header.{headerWord, rootPlace, heightPlace, freePlace}
+use Rattle.words.specs.Header.{headerWord, putHeaderWord, rootPlace, heightPlace, freePlace}
 use Rattle.nodes.specs.declared.Node.{Node}
 use Rattle.nodes.specs.Node.{nodeAt, putNode}
 use Rattle.nodes.specs.Ops.{sonFor, loneNode, withLatch}
@@ -11,6 +11,10 @@ use Rattle.reshaping.specs.declared.Neighbours.{Neighbours}
 use Rattle.reshaping.specs.Ops.{insertBehind, splitNode}
 use Rattle.chain.specs.Free.{Poppable, popFree, pushFree}
 use Rattle.splits.specs.Splits.{halfOf, putHalves, splitSon, splitSonHalf, putTop, splitRoot, splitRootHalf, dropRoot}
+
+-- Node i is read and halved, into n.
+pub halved-run : (s : List ℕ) (m i : ℕ) {x : Node} {n : Neighbours} → x ≡ nodeAt s m i → n ≡ splitNode x → n ≡ splitNode (nodeAt s m i)
+halved-run s m i a b = b ∙ ap splitNode a
 
 pub halves-run : (s : List ℕ) {s₁ s₂ : List ℕ} {left right : Node} {lw rw : ℕ} (m l r : ℕ) (n : Neighbours) (key w : ℕ)
     → lw ≡ halfOf key (n .up) w 0 → rw ≡ halfOf key (n .up) 0 w → left ≡ withLatch (n .left) lw → right ≡ withLatch (n .right) rw
@@ -28,6 +32,14 @@ unfolding splitSonHalf splitSon
 split-son-run s m at key w a b c d e f g h i j k = (cc, cc)
 
 -- ---- the root
+
+-- The root is written, then the height.
+pub top-run : (s : List ℕ) (root height : ℕ) {s₁ s₂ : List ℕ} → s₁ ≡ putHeaderWord s rootPlace root → s₂ ≡ putHeaderWord s₁ heightPlace height → s₂ ≡ putTop s root height
+top-run s root height a b = b ∙ ap (λ (x : List ℕ). putHeaderWord x heightPlace height) a
+
+-- A son alone, then another behind it.
+pub over-run : (l up r : ℕ) {x n : Node} → x ≡ loneNode l → n ≡ insertBehind x 0 up r → n ≡ insertBehind (loneNode l) 0 up r
+over-run l up r a b = b ∙ ap (λ (x : Node). insertBehind x 0 up r) a
 
 pub pop-second : (s : List ℕ) {t : List ℕ} {m : ℕ} → t ≡ popFree s m → Poppable (popFree s m) m → Poppable t m
 pop-second s {t} {m} e p = subst (λ (x : List ℕ). Poppable x m) (sym e) p

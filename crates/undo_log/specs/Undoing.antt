@@ -1,5 +1,5 @@
 -- Undo records: a change is logged, one is undone, a chain of them is undone newest first.
-use mathlib.Core.Path.{_≡_, refl, sym, ap, subst, _∙_}
+use mathlib.Core.Path.{_≡_, refl, sym, ap, ap₂, subst, _∙_}
 use mathlib.Core.Bool.{Bool, cond}
 use mathlib.Core.List.{List}
 use Prim.Native.Nat.{ℕ, zero, suc, _-_, _≤_}
@@ -140,6 +140,25 @@ undone-more {whole} {s} {t} {m} {n} {i} {next} u nz ne en et =
           is = sym (ap (λ (b : Bool). cond b s (undoAll (undoOne s m i) m n (wordOf s m i 0))) (ne-eqb i 0 ne)) ∙ q;
           rest = r ne .1;
         })
+
+-- The record a is taken off the free chain, the store t then; u is the undo record written.
+log-run : (s : List ℕ) (m : ℕ) (g : Undo) {a : ℕ} {t w : List ℕ} {u : Undo} → (a ≡ headerWord s freePlace) × (t ≡ popFree s m) → u ≡ g → w ≡ putUndo t m a u
+    → w ≡ putUndo (popFree s m) m (headerWord s freePlace) g
+log-run s m g {a} {t} {w} {u} p e q = q ∙ ap (λ (v : Undo). putUndo t m a v) e ∙ ap₂ (λ (v : List ℕ) (i : ℕ). putUndo v m i g) (p .1) (p .0)
+
+pub log-value-run : (s : List ℕ) (m e v head : ℕ) {a : ℕ} {t w : List ℕ} {u : Undo} → (a ≡ headerWord s freePlace) × (t ≡ popFree s m) → u ≡ undoValue head e v → w ≡ putUndo t m a u
+    → (a ≡ headerWord s freePlace) × (w ≡ logValue s m e v head)
+unfolding logValue
+log-value-run s m e v head p r q = (p .0, log-run s m (undoValue head e v) p r q)
+
+pub log-added-run : (s : List ℕ) (m e i d head : ℕ) {a : ℕ} {t w : List ℕ} {u : Undo} → (a ≡ headerWord s freePlace) × (t ≡ popFree s m) → u ≡ undoAdded head e i d → w ≡ putUndo t m a u
+    → (a ≡ headerWord s freePlace) × (w ≡ logAdded s m e i d head)
+unfolding logAdded
+log-added-run s m e i d head p r q = (p .0, log-run s m (undoAdded head e i d) p r q)
+
+pub log-taken-run : (s : List ℕ) (m i e d head : ℕ) {w : List ℕ} {u : Undo} → u ≡ undoTaken head e d → w ≡ putUndo s m i u → w ≡ logTaken s m i e d head
+unfolding logTaken
+log-taken-run s m i e d head r q = q ∙ ap (λ (v : Undo). putUndo s m i v) r
 
 pub value-run : (s : List ℕ) {t w : List ℕ} (m i : ℕ) {u : Undo} → u ≡ undoAt s m i → t ≡ putEntryWord s (u .entry) 0 (u .saved) → w ≡ pushFree t m i
     → w ≡ valueBack s m i

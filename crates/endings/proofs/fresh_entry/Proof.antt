@@ -1,5 +1,5 @@
 -- The proof of `fresh_entry`.
-use Rattle.endings.specs.Fresh.{freshEntry}
+use Rattle.endings.proofs.Runs.{entry-run}
 use borrow.Author.Needs.{needs}
 use Rattle.endings.proofs.fresh_entry.Statement.{statement}
 use Rattle.endings.proofs.fresh_entry.Tie as tie
@@ -17,8 +17,7 @@ same-length : tie.Need-same-length
 same-length c = search needs
 
 returns : tie.Need-returns
-unfolding freshEntry
-returns c = cc
+returns c = entry-run _ _ (c .before .before .before .before .before .before .before .before .before .before .set-entry-word .ensures) (c .before .before .before .before .before .before .set-entry-word2 .ensures) (c .before .before .set-entry-word3 .ensures)
 
 pub fresh-entry-spec : {M : Type 1} → statement M
 fresh-entry-spec =

@@ -1,5 +1,5 @@
 -- The proof of `fresh_header`.
-use Rattle.endings.specs.Fresh.{freshHeader}
+use Rattle.endings.proofs.Runs.{header-run}
 use borrow.Author.Needs.{needs}
 use Rattle.endings.proofs.fresh_header.Statement.{statement}
 use Rattle.endings.proofs.fresh_header.Tie as tie
@@ -26,8 +26,7 @@ same-length : tie.Need-same-length
 same-length c = search needs
 
 returns : tie.Need-returns
-unfolding freshHeader
-returns c = cc
+returns c = header-run _ _ _ (c .before .before .before .before .before .before .before .before .before .before .before .before .before .before .before .before .before .before .before .before .before .before .set-entries .ensures) (c .before .before .before .before .before .before .before .before .before .before .before .before .before .before .before .before .before .before .set-records .ensures) (c .before .before .before .before .before .before .before .before .before .before .before .before .before .before .set-root .ensures) (c .before .before .before .before .before .before .before .before .before .before .set-height .ensures) (c .before .before .before .before .before .before .set-first .ensures) (c .before .before .set-free .ensures)
 
 pub fresh-header-spec : {M : Type 1} → statement M
 fresh-header-spec =

@@ -1,5 +1,5 @@
 -- The proof of `fresh_store`.
-use Rattle.endings.specs.Fresh.{freshStore}
+use Rattle.endings.proofs.Runs.{fresh-run}
 use borrow.Author.Needs.{needs}
 use Rattle.endings.proofs.fresh_store.Statement.{statement}
 use Rattle.endings.proofs.fresh_store.Tie as tie
@@ -35,8 +35,7 @@ same-length : tie.Need-same-length
 same-length c = search needs
 
 returns : tie.Need-returns
-unfolding freshStore
-returns c = cc
+returns c = fresh-run _ _ _ (c .before .before .before .before .before .before .before .before .before .before .before .before .before .before .before .before .before .before .before .before .fresh-header .ensures) (c .before .before .before .before .before .before .before .before .before .before .before .before .before .before .before .before .fresh-entries .ensures) (c .before .before .before .before .before .before .before .before .before .before .before .before .lone-node .ensures) (c .before .before .before .before .before .before .before .before .before .before .before .write-node .ensures) (c .before .before .before .before .before .before .before .zero-descriptor .ensures) (c .before .before .before .before .before .before .write-descriptor .ensures) (c .before .before .fresh-free .ensures)
 
 pub fresh-store-spec : {M : Type 1} → statement M
 fresh-store-spec =

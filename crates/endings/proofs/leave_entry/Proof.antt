@@ -1,5 +1,5 @@
 -- The proof of `leave_entry`.
-use Rattle.endings.specs.Leave.{leaveEntry}
+use Rattle.endings.proofs.Runs.{leave-run}
 use borrow.Author.Needs.{needs}
 use Rattle.endings.proofs.leave_entry.Statement.{statement}
 use Rattle.endings.proofs.leave_entry.Tie as tie
@@ -26,8 +26,7 @@ same-length : tie.Need-same-length
 same-length c = search needs
 
 returns : tie.Need-returns
-unfolding leaveEntry
-returns c = cc
+returns c = leave-run _ _ _ (c .before .before .before .before .before .before .before .before .before .before .before .before .entry-word .ensures) (c .before .before .before .before .before .before .before .before .before .before .entry-word2 .ensures) (c .before .before .before .before .before .before .before .before .without-session .ensures) (c .before .before .before .before .before .before .before .set-entry-word .ensures) (c .before .before .before .without-session2 .ensures) (c .before .before .set-entry-word2 .ensures)
 
 pub leave-entry-spec : {M : Type 1} → statement M
 leave-entry-spec =

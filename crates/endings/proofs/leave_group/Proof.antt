@@ -1,5 +1,5 @@
 -- The proof of `leave_group`.
-use Rattle.endings.specs.Leave.{leaveGroup}
+use Rattle.endings.proofs.Runs.{group-run}
 use borrow.Author.Needs.{needs}
 use Rattle.endings.proofs.leave_group.Statement.{statement}
 use Rattle.endings.proofs.leave_group.Tie as tie
@@ -17,8 +17,7 @@ same-length : tie.Need-same-length
 same-length c = search needs
 
 returns : tie.Need-returns
-unfolding leaveGroup
-returns c = cc
+returns c = group-run _ _ _ _ (c .before .before .before .before .before .load-descriptor .ensures) (c .before .before .before .left-descriptor .ensures) (c .before .before .write-descriptor .ensures)
 
 pub leave-group-spec : {M : Type 1} → statement M
 leave-group-spec =

@@ -1,5 +1,5 @@
 -- The proof of `left_descriptor`.
-use Rattle.endings.specs.Leave.{leftDescriptor}
+use Rattle.endings.proofs.Runs.{left-run}
 use borrow.Author.Needs.{needs}
 use Rattle.endings.proofs.left_descriptor.Statement.{statement}
 use Rattle.endings.proofs.left_descriptor.Tie as tie
@@ -17,8 +17,7 @@ release-session-requires : tie.Need-release-session-requires
 release-session-requires c κs = search needs
 
 returns : tie.Need-returns
-unfolding leftDescriptor
-returns c = cc
+returns c = left-run _ _ (c .before .before .before .without-session .ensures) (c .before .before .without-session2 .ensures) (c .before .without-session3 .ensures) (c .release-session .ensures)
 
 pub left-descriptor-spec : {M : Type 1} → statement M
 left-descriptor-spec =

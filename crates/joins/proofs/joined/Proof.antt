@@ -1,4 +1,5 @@
 -- The proof of `joined`.
+use Rattle.joins.specs.Runs.{joined-run}
 use borrow.Author.Needs.{needs}
 use Rattle.joins.proofs.joined.Statement.{statement}
 use Rattle.joins.proofs.joined.Tie as tie
@@ -16,7 +17,7 @@ join-nodes-requires c κs =
     rw (c₁ .load-node .ensures, c .load-node2 .ensures) (c₂ .pre .some-left, c₂ .pre .some-right, c₂ .pre .room)
 
 returns : tie.Need-returns
-returns c = cc
+returns c = joined-run _ _ _ _ _ (c .before .before .load-node .ensures) (c .before .load-node2 .ensures) (c .join-nodes .ensures)
 
 pub joined-spec : {M : Type 1} → statement M
 joined-spec =

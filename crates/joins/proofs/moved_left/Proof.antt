@@ -1,4 +1,5 @@
 -- The proof of `moved_left`.
+use Rattle.joins.specs.Runs.{moved-left-run}
 use borrow.Author.Needs.{needs}
 use Rattle.joins.proofs.moved_left.Statement.{statement}
 use Rattle.joins.proofs.moved_left.Tie as tie
@@ -16,7 +17,7 @@ move-from-right-requires c κs =
     rw (c₁ .load-node .ensures, c .load-node2 .ensures) (c₂ .pre .least, c₂ .pre .room, c₂ .pre .some)
 
 returns : tie.Need-returns
-returns c = cc
+returns c = moved-left-run _ _ _ _ _ (c .before .before .load-node .ensures) (c .before .load-node2 .ensures) (c .move-from-right .ensures)
 
 pub moved-left-spec : {M : Type 1} → statement M
 moved-left-spec =

@@ -1,4 +1,5 @@
 -- The proof of `moved_right`.
+use Rattle.joins.specs.Runs.{moved-right-run}
 use borrow.Author.Needs.{needs}
 use Rattle.joins.proofs.moved_right.Statement.{statement}
 use Rattle.joins.proofs.moved_right.Tie as tie
@@ -16,7 +17,7 @@ move-from-left-requires c κs =
     rw (c₁ .load-node .ensures, c .load-node2 .ensures) (c₂ .pre .two, c₂ .pre .most, c₂ .pre .room)
 
 returns : tie.Need-returns
-returns c = cc
+returns c = moved-right-run _ _ _ _ _ (c .before .before .load-node .ensures) (c .before .load-node2 .ensures) (c .move-from-left .ensures)
 
 pub moved-right-spec : {M : Type 1} → statement M
 moved-right-spec =

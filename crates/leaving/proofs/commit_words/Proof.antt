@@ -1,5 +1,5 @@
 -- The proof of `commit_words`.
-use Rattle.leaving.specs.Words.{commitWords, leave-at}
+use Rattle.leaving.specs.Words.{leave-at, commit-run}
 use borrow.Author.Needs.{needs}
 use Rattle.leaving.proofs.commit_words.Statement.{statement}
 use Rattle.leaving.proofs.commit_words.Tie as tie
@@ -14,8 +14,7 @@ same-length : tie.Need-same-length
 same-length c = search needs
 
 returns : tie.Need-returns
-unfolding commitWords
-returns c = cc
+returns c = commit-run _ _ _ _ _ (c .before .before .before .before .before .before .free-chain .ensures) (c .before .before .leave-all .ensures)
 
 pub commit-words-spec : {M : Type 1} → statement M
 commit-words-spec = tie.close (tie.spec free-chain-requires leave-all-requires same-length returns)

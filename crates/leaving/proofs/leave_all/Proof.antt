@@ -1,5 +1,5 @@
 -- The proof of `leave_all`.
-use Rattle.leaving.specs.Words.{leaveAll, walk-at}
+use Rattle.leaving.specs.Words.{walk-at, leave-run}
 use borrow.Author.Needs.{needs}
 use Rattle.leaving.proofs.leave_all.Statement.{statement}
 use Rattle.leaving.proofs.leave_all.Tie as tie
@@ -20,8 +20,7 @@ same-length : tie.Need-same-length
 same-length c = search needs
 
 returns : tie.Need-returns
-unfolding leaveAll
-returns c = cc
+returns c = leave-run _ _ _ _ (c .before .before .before .before .before .before .before .before .first .ensures) (c .before .before .before .before .before .before .leave-entries .ensures) (c .before .before .leave-groups .ensures)
 
 pub leave-all-spec : {M : Type 1} → statement M
 leave-all-spec =

@@ -1,6 +1,6 @@
 -- The proof of `tidy_aim`.
 use lib.Dec.{lit<}
-use Rattle.leaving.specs.Words.{tidyAim, follow-at, found-at, next-at}
+use Rattle.leaving.specs.Words.{follow-at, found-at, next-at, tidy-run}
 use borrow.Author.Needs.{needs}
 use Rattle.leaving.proofs.tidy_aim.Statement.{statement}
 use Rattle.leaving.proofs.tidy_aim.Tie as tie
@@ -24,8 +24,7 @@ choose-requires : tie.Need-choose-requires
 choose-requires c κs = next-at (c .before .before .first .ensures) (c .before .last-upto .ensures) (c .word .ensures) (c .before .before .before .before .pre)
 
 returns : tie.Need-returns
-unfolding tidyAim
-returns c = cc
+returns c = tidy-run _ _ _ _ (c .before .before .before .first .ensures) (c .before .before .last-upto .ensures) (c .before .word .ensures) (c .choose .ensures)
 
 pub tidy-aim-spec : {M : Type 1} → statement M
 tidy-aim-spec =

@@ -1,5 +1,5 @@
 -- The proof of hold_locate.
-use Rattle.members.specs.Members.{locateAt}
+use Rattle.members.specs.Members.{locate-run}
 use borrow.Author.Needs.{needs}
 use Rattle.members.proofs.hold_locate.Statement.{statement}
 use Rattle.members.proofs.hold_locate.Tie as tie
@@ -20,8 +20,7 @@ same-length : tie.Need-same-length
 same-length c = search needs
 
 returns : tie.Need-returns
-unfolding locateAt
-returns c = cc
+returns c = locate-run _ _ _ _ (c .before .before .before .before .before .before .load-descriptor .ensures) (c .before .before .before .before .before .with-session .ensures) (c .before .before .before .grant-locate .ensures) (c .before .before .write-descriptor .ensures)
 
 pub hold-locate-spec : {M : Type 1} → statement M
 hold-locate-spec =

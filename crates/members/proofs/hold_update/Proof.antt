@@ -1,5 +1,5 @@
 -- The proof of hold_update.
-use Rattle.members.specs.Members.{updateAt}
+use Rattle.members.specs.Members.{update-run}
 use borrow.Author.Needs.{needs}
 use Rattle.members.proofs.hold_update.Statement.{statement}
 use Rattle.members.proofs.hold_update.Tie as tie
@@ -20,8 +20,7 @@ same-length : tie.Need-same-length
 same-length c = search needs
 
 returns : tie.Need-returns
-unfolding updateAt
-returns c = cc
+returns c = update-run _ _ _ _ (c .before .before .before .before .before .before .load-descriptor .ensures) (c .before .before .before .before .before .with-session .ensures) (c .before .before .before .grant-update .ensures) (c .before .before .write-descriptor .ensures)
 
 pub hold-update-spec : {M : Type 1} → statement M
 hold-update-spec =

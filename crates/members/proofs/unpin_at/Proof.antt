@@ -1,6 +1,6 @@
 -- The proof of unpin_at.
+use Rattle.members.specs.Members.{unpin-run}
 use borrow.Author.Needs.{needs}
-use Rattle.members.specs.Members.{unpinAt}
 use Rattle.members.proofs.unpin_at.Statement.{statement}
 use Rattle.members.proofs.unpin_at.Tie as tie
 
@@ -17,8 +17,7 @@ same-length : tie.Need-same-length
 same-length c = search needs
 
 returns : tie.Need-returns
-unfolding unpinAt
-returns c = cc
+returns c = unpin-run _ _ _ (c .before .before .before .before .descriptor-pins .ensures) (c .before .before .set-pins .ensures)
 
 pub unpin-at-spec : {M : Type 1} → statement M
 unpin-at-spec = tie.close (tie.spec descriptor-pins-requires sub-set-pins set-pins-requires same-length returns)

@@ -1,6 +1,6 @@
 -- The proof of drop_son.
+use Rattle.reshaping.proofs.Laws.{drop-run}
 use borrow.Author.Needs.{needs}
-use Rattle.reshaping.specs.Ops.{dropSon}
 use Rattle.reshaping.proofs.drop_son.Statement.{statement}
 use Rattle.reshaping.proofs.drop_son.Tie as tie
 
@@ -20,8 +20,7 @@ sub-t11 : tie.Need-sub-t11
 sub-t11 c = search needs
 
 returns : tie.Need-returns
-unfolding dropSon
-returns c = cc
+returns c = drop-run _ _ _ (c .before .before .before .before .before .remove-in .ensures) (c .before .before .remove-in2 .ensures)
 
 pub drop-son-spec : {M : Type 1} → statement M
 drop-son-spec =

@@ -2,8 +2,8 @@
 use mathlib.Core.Path.{_≡_}
 use native.Mathlib.Omega.{arith}
 use lib.ListN.{length}
+use Rattle.reshaping.proofs.Laws.{insert-run}
 use borrow.Author.Needs.{needs}
-use Rattle.reshaping.specs.Ops.{insertSon}
 use Rattle.reshaping.proofs.insert_son.Statement.{statement}
 use Rattle.reshaping.proofs.insert_son.Tie as tie
 
@@ -23,8 +23,7 @@ add-t13 : tie.Need-add-t13
 add-t13 c = search needs
 
 returns : tie.Need-returns
-unfolding insertSon
-returns c = cc
+returns c = insert-run _ _ _ _ _ (c .before .before .before .before .before .insert-in .ensures) (c .before .before .insert-in2 .ensures)
 
 pub insert-son-spec : {M : Type 1} → statement M
 insert-son-spec =

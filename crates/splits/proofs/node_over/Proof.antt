@@ -1,5 +1,6 @@
 -- The proof of `node_over`.
 use native.Mathlib.Omega.{arith}
+use Rattle.splits.specs.Runs.{over-run}
 use borrow.Author.Needs.{needs}
 use Rattle.nodes.specs.Ops.{loneNode}
 use Rattle.splits.proofs.node_over.Statement.{statement}
@@ -13,7 +14,7 @@ unfolding loneNode
 insert-behind-requires c κs = rw (c .lone-node .ensures) (omega arith, omega arith)
 
 returns : tie.Need-returns
-returns c = cc
+returns c = over-run _ _ _ (c .before .lone-node .ensures) (c .insert-behind .ensures)
 
 pub node-over-spec : {M : Type 1} → statement M
 node-over-spec = tie.close (tie.spec lone-node-requires insert-behind-requires returns)

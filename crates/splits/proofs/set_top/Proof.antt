@@ -1,4 +1,6 @@
 -- The proof of `set_top`.
+use Rattle.splits.specs.Runs.{top-run}
+use denote.Ref.{now}
 use borrow.Author.Needs.{needs}
 use Rattle.splits.proofs.set_top.Statement.{statement}
 use Rattle.splits.proofs.set_top.Tie as tie
@@ -16,7 +18,7 @@ same-length : tie.Need-same-length
 same-length c = search needs
 
 returns : tie.Need-returns
-returns c = cc
+returns c = top-run (now (c .before .before .before .before .before .before .before .before .before .args .store)) (c .before .before .before .before .before .before .before .before .before .args .root) _ (c .before .before .before .before .before .before .set-root .ensures) (c .before .before .set-height .ensures)
 
 pub set-top-spec : {M : Type 1} → statement M
 set-top-spec =

@@ -1,5 +1,5 @@
 -- The proof of `entry_blocker`.
-use Rattle.starting.specs.Starting.{entryBlocker}
+use Rattle.starting.specs.Runs.{blocker-run}
 use borrow.Author.Needs.{needs}
 use Rattle.starting.proofs.entry_blocker.Statement.{statement}
 use Rattle.starting.proofs.entry_blocker.Tie as tie
@@ -14,8 +14,7 @@ lowest-blocker-requires : tie.Need-lowest-blocker-requires
 lowest-blocker-requires c κs = search needs
 
 returns : tie.Need-returns
-unfolding entryBlocker
-returns c = cc
+returns c = blocker-run _ _ _ _ (c .before .before .entry-word .ensures) (c .before .entry-word2 .ensures) (c .lowest-blocker .ensures)
 
 pub entry-blocker-spec : {M : Type 1} → statement M
 entry-blocker-spec =

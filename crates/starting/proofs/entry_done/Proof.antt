@@ -1,5 +1,5 @@
 -- The proof of `entry_done`.
-use Rattle.starting.specs.Starting.{entryDone}
+use Rattle.starting.specs.Runs.{entry-done-run}
 use borrow.Author.Needs.{needs}
 use Rattle.starting.proofs.entry_done.Statement.{statement}
 use Rattle.starting.proofs.entry_done.Tie as tie
@@ -17,8 +17,7 @@ same-length : tie.Need-same-length
 same-length c = search needs
 
 returns : tie.Need-returns
-unfolding entryDone
-returns c = (cc, cc)
+returns c = entry-done-run _ _ _ (c .before .before .before .exclude-entry .ensures) (c .first-session .ensures)
 
 pub entry-done-spec : {M : Type 1} → statement M
 entry-done-spec =

@@ -1,5 +1,5 @@
 -- The proof of `exclude_entry`.
-use Rattle.starting.specs.Starting.{excludedWords}
+use Rattle.starting.specs.Runs.{exclude-run}
 use borrow.Author.Needs.{needs}
 use Rattle.starting.proofs.exclude_entry.Statement.{statement}
 use Rattle.starting.proofs.exclude_entry.Tie as tie
@@ -17,8 +17,7 @@ same-length : tie.Need-same-length
 same-length c = search needs
 
 returns : tie.Need-returns
-unfolding excludedWords
-returns c = cc
+returns c = exclude-run _ _ _ (c .before .before .before .before .before .entry-word .ensures) (c .before .before .before .with-session .ensures) (c .before .before .set-entry-word .ensures)
 
 pub exclude-entry-spec : {M : Type 1} → statement M
 exclude-entry-spec =

@@ -1,5 +1,5 @@
 -- The proof of `read_done`.
-use Rattle.starting.specs.Starting.{readDone}
+use Rattle.starting.specs.Runs.{read-done-run}
 use borrow.Author.Needs.{needs}
 use Rattle.starting.proofs.read_done.Statement.{statement}
 use Rattle.starting.proofs.read_done.Tie as tie
@@ -20,8 +20,7 @@ same-length : tie.Need-same-length
 same-length c = search needs
 
 returns : tie.Need-returns
-unfolding readDone
-returns c = (cc, cc)
+returns c = read-done-run _ _ _ (c .before .before .before .before .before .entry-word .ensures) (c .before .before .before .share-entry .ensures) (c .idle-session .ensures)
 
 pub read-done-spec : {M : Type 1} → statement M
 read-done-spec =

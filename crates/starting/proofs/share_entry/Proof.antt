@@ -1,5 +1,5 @@
 -- The proof of `share_entry`.
-use Rattle.starting.specs.Starting.{sharedWords}
+use Rattle.starting.specs.Runs.{share-run}
 use borrow.Author.Needs.{needs}
 use Rattle.starting.proofs.share_entry.Statement.{statement}
 use Rattle.starting.proofs.share_entry.Tie as tie
@@ -17,8 +17,7 @@ same-length : tie.Need-same-length
 same-length c = search needs
 
 returns : tie.Need-returns
-unfolding sharedWords
-returns c = cc
+returns c = share-run _ _ _ (c .before .before .before .before .before .entry-word .ensures) (c .before .before .before .with-session .ensures) (c .before .before .set-entry-word .ensures)
 
 pub share-entry-spec : {M : Type 1} → statement M
 share-entry-spec =

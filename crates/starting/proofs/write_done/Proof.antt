@@ -1,5 +1,5 @@
 -- The proof of `write_done`.
-use Rattle.starting.specs.Starting.{writeDone, writtenWords}
+use Rattle.starting.specs.Runs.{write-done-run}
 use borrow.Author.Needs.{needs}
 use Rattle.starting.proofs.write_done.Statement.{statement}
 use Rattle.starting.proofs.write_done.Tie as tie
@@ -29,8 +29,7 @@ same-length : tie.Need-same-length
 same-length c = search needs
 
 returns : tie.Need-returns
-unfolding writeDone writtenWords
-returns c = (cc, cc)
+returns c = write-done-run _ _ _ _ (c .before .before .before .before .before .before .before .before .before .before .before .before .before .entry-word .ensures) (c .before .before .before .before .before .before .before .before .before .before .before .log-value .ensures) (c .before .before .before .before .before .before .before .set-entry-word .ensures) (c .before .before .before .exclude-entry .ensures) (c .logged-session .ensures)
 
 pub write-done-spec : {M : Type 1} → statement M
 write-done-spec =

@@ -1,7 +1,7 @@
 -- The proof of log_added.
 use Rattle.words.specs.Store.{has-kept}
 use native.Mathlib.Omega.{arith}
-use Rattle.undo_log.specs.Undoing.{loggable-pop, loggable-has, logAdded}
+use Rattle.undo_log.specs.Undoing.{loggable-pop, loggable-has, log-added-run}
 use borrow.Author.Needs.{needs}
 use Rattle.undo_log.proofs.log_added.Statement.{statement}
 use Rattle.undo_log.proofs.log_added.Tie as tie
@@ -19,8 +19,7 @@ same-length : tie.Need-same-length
 same-length c = search needs
 
 returns : tie.Need-returns
-unfolding logAdded
-returns c = (c .before .before .before .before .before .before .before .pop-free .ensures .0, cc)
+returns c = log-added-run _ _ _ _ _ _ (c .before .before .before .before .before .before .before .pop-free .ensures) (c .before .before .before .added-undo .ensures) (c .before .before .write-undo .ensures)
 
 pub log-added-spec : {M : Type 1} → statement M
 log-added-spec =
