@@ -1,6 +1,9 @@
 // Judge: what both judges say of a sample, and of it with one word changed.
-use super::tally::Tally;
-use super::tally::tell_difference;
+use super::tally::ACCEPTED;
+use super::tally::PAPER_ALONE;
+use super::tally::REFUSED;
+use super::tally::TEST_ALONE;
+use super::tally::note;
 use super::values::LENGTHS;
 use super::values::VALUES;
 use super::values::length;
@@ -8,32 +11,30 @@ use super::values::value;
 use samples::words::STORE;
 use samples::words::Words;
 use samples::words::get;
-use samples::words::party_word;
+use samples::words::party_place;
 use samples::words::put;
 use samples::words::wide;
 use sessions::Session;
 
-// What the store's test says, and what the checker says.
-pub struct Verdict {
-    pub test: bool,
-    pub paper: bool,
+fn field(w: &Words, p: u32, k: u32) -> u32 {
+    get(w, party_place(p, k))
 }
 
 fn session(w: &Words, p: u32) -> Session {
     Session {
-        begun: party_word(w, p, 0),
-        code: party_word(w, p, 1),
-        entry: party_word(w, p, 2),
-        first: party_word(w, p, 3),
-        second: party_word(w, p, 4),
-        stage: party_word(w, p, 5),
-        target: party_word(w, p, 6),
-        at: party_word(w, p, 7),
-        level: party_word(w, p, 8),
-        low: party_word(w, p, 9),
-        high: party_word(w, p, 10),
-        last: party_word(w, p, 11),
-        undo: party_word(w, p, 12),
+        begun: field(w, p, 0),
+        code: field(w, p, 1),
+        entry: field(w, p, 2),
+        first: field(w, p, 3),
+        second: field(w, p, 4),
+        stage: field(w, p, 5),
+        target: field(w, p, 6),
+        at: field(w, p, 7),
+        level: field(w, p, 8),
+        low: field(w, p, 9),
+        high: field(w, p, 10),
+        last: field(w, p, 11),
+        undo: field(w, p, 12),
     }
 }
 
@@ -53,70 +54,54 @@ fn store(w: &[u32], words: u32) -> &[u32] {
     if end <= w.len() { &w[STORE..end] } else { w }
 }
 
-pub fn judge(w: &Words, words: u32) -> Verdict {
-    let s = store(w, words);
-    let t = table(w);
-    Verdict {
-        test: sound::is_sound(s, t),
-        paper: checker::sound_by_paper(s, t),
-    }
-}
-
 // Does this clause, and no other, refuse the sample?
 pub fn is_only_refused(w: &Words, words: u32, clause: u32) -> bool {
     checker::is_only_refusal(store(w, words), table(w), clause)
 }
 
-// Judges the sample with x at place i.
-fn try_word(w: &Words, words: u32, i: u32, x: u32, tally: Tally) -> Tally {
+fn verdict(test: bool, paper: bool) -> u32 {
+    if test == paper {
+        return if test { ACCEPTED } else { REFUSED };
+    }
+    if test { TEST_ALONE } else { PAPER_ALONE }
+}
+
+// What the store's test and the checker say.
+fn judge(w: &Words, words: u32) -> u32 {
+    let s = store(w, words);
+    let t = table(w);
+    verdict(sound::is_sound(s, t), checker::sound_by_paper(s, t))
+}
+
+// Judges the sample after change r: first as it is and at other lengths, then with each other value in each word of the table and of the store.
+fn judge_changed(w: &mut Words, words: u32, r: u32) {
+    if r < LENGTHS {
+        let verdict = judge(w, length(words, r));
+        note(w, verdict, r);
+        return;
+    }
+    let i = (r - LENGTHS) / VALUES;
+    let at = wide(i);
+    let x = get(w, at);
+    let y = value(w, words, i, x, (r - LENGTHS) % VALUES);
+    if y == x {
+        return;
+    }
+    put(w, at, y);
     let verdict = judge(w, words);
-    let test = verdict.test;
-    let paper = verdict.paper;
-    if test != paper {
-        tell_difference(tally, i, x, test);
-    }
-    tally.with_verdicts(test, paper)
+    put(w, at, x);
+    note(w, verdict, r);
 }
 
-fn damage_word(w: &mut Words, words: u32, i: u32, tally: Tally) -> Tally {
-    let x = get(w, wide(i));
-    let mut end = tally;
-    let mut k = 0;
-    while k < VALUES {
-        let y = value(w, words, i, x, k);
-        if y != x {
-            put(w, wide(i), y);
-            end = try_word(w, words, i, y, end);
-            put(w, wide(i), x);
-        }
-        k += 1;
+// All changes, the last first. The words are changed in small stores only.
+pub fn damage(w: &mut Words, words: u32) {
+    let mut r = if 1000 < words {
+        LENGTHS
+    } else {
+        LENGTHS + VALUES * (221 + words)
+    };
+    while 0 < r {
+        r -= 1;
+        judge_changed(w, words, r);
     }
-    end
-}
-
-// Judges the sample as it is and at other lengths.
-fn damage_length(w: &Words, words: u32, tally: Tally) -> Tally {
-    let mut end = tally;
-    let mut k = 0;
-    while k < LENGTHS {
-        let n = length(words, k);
-        end = try_word(w, n, 4294967295, n, end);
-        k += 1;
-    }
-    end
-}
-
-// Then with each word changed in turn, of the table and of the store if that is small.
-pub fn damage(w: &mut Words, words: u32, tally: Tally) -> Tally {
-    let mut end = damage_length(w, words, tally);
-    if 1000 < words {
-        return end;
-    }
-    let n = 221 + words;
-    let mut i = 0;
-    while i < n {
-        end = damage_word(w, words, i, end);
-        i += 1;
-    }
-    end
 }

@@ -8,98 +8,73 @@ mod judge;
 mod tally;
 mod values;
 
+use checker::clauses::CLAUSES;
 use judge::damage;
 use judge::is_only_refused;
-use judge::judge;
-use samples::lines::line_at;
+use samples::lines::next_line;
+use samples::lines::number;
 use samples::words::WORDS;
 use samples::words::Words;
 use samples::words::store_words;
-use tally::Tally;
+use tally::CASES;
+use tally::SAMPLES;
+use tally::count;
 use tally::report;
-
-fn is_heading(letter: u8) -> bool {
-    letter == b'B' || letter == b'S' || letter == b'C'
-}
 
 // Writes what the lines from a heading up to the next say.
 fn write(text: &[u8], from: usize, w: &mut Words) {
     let mut at = from;
     while at < text.len() {
-        let line = line_at(text, at);
-        if at != from && is_heading(line.letter) {
-            return;
+        let letter = text[at];
+        if at != from {
+            match letter {
+                b'B' | b'S' => return,
+                b'C' => return,
+                _ => {}
+            }
         }
-        let n = line.numbers;
-        samples::add(w, line.letter, n);
-        at = line.next;
+        samples::add(w, letter, text, at);
+        at = next_line(text, at);
     }
 }
 
-// How many words the store has, if the heading does not say it.
-fn words_of(w: &Words, said: u32) -> u32 {
-    if said == 0 { store_words(w) } else { said }
-}
-
-// The sample that these headings begin.
-fn sample(text: &[u8], base: usize, from: usize, n: [u32; 6], tally: Tally) -> Tally {
-    let mut w = [0u32; WORDS];
-    write(text, base, &mut w);
-    write(text, from, &mut w);
-    let words = words_of(&w, n[0]);
-    let verdict = judge(&w, words);
-    damage(&mut w, words, tally.with_sample(verdict.paper))
-}
-
-// The case that these headings begin.
-fn case(text: &[u8], base: usize, over: usize, from: usize, n: [u32; 6], tally: Tally) -> Tally {
-    let mut w = [0u32; WORDS];
-    write(text, base, &mut w);
-    write(text, over, &mut w);
-    write(text, from, &mut w);
-    let words = words_of(&w, n[0]);
-    let is_only = is_only_refused(&w, words, n[1]);
-    damage(&mut w, words, tally.with_case(is_only))
-}
-
-// What begins at this line.
-fn work(
-    text: &[u8],
-    base: usize,
-    over: usize,
-    at: usize,
-    letter: u8,
-    n: [u32; 6],
-    tally: Tally,
-) -> Tally {
-    if letter == b'S' {
-        return sample(text, base, at, n, tally);
+// The sample or case that begins at a line, over what other headings begin. No clause refuses a sample.
+fn sample(text: &[u8], base: usize, over: usize, at: usize, clause: u32, w: &mut Words) {
+    write(text, base, w);
+    write(text, over, w);
+    write(text, at, w);
+    let words = store_words(w, number(text, at, 1));
+    let k = if clause == CLAUSES { SAMPLES } else { CASES };
+    count(w, k);
+    if is_only_refused(w, words, clause) {
+        count(w, std::num::wrapping_add_u32(k, 1));
     }
-    if letter == b'C' {
-        return case(text, base, over, at, n, tally);
-    }
-    tally
+    damage(w, words);
 }
 
-fn run(text: &[u8]) -> Tally {
-    let mut tally = Tally::new();
+fn run(text: &[u8], w: &mut Words) {
     let mut base = 0;
     let mut over = 0;
     let mut at = 0;
     while at < text.len() {
-        let line = line_at(text, at);
-        let letter = line.letter;
-        let n = line.numbers;
-        base = if letter == b'B' { at } else { base };
-        over = if letter == b'S' { at } else { over };
-        tally = work(text, base, over, at, letter, n, tally);
-        at = line.next;
+        let letter = text[at];
+        match letter {
+            b'B' => base = at,
+            b'S' => {
+                over = at;
+                sample(text, base, base, at, CLAUSES, w);
+            }
+            b'C' => sample(text, base, over, at, number(text, at, 2), w),
+            _ => {}
+        }
+        at = next_line(text, at);
     }
-    tally
 }
 
 fn main() {
     let mut text = io::large_buffer();
     let n = io::read_full(0, &mut text);
-    report(run(&text[..n]));
+    let mut w = [0u32; WORDS];
+    run(&text[..n], &mut w);
+    report(&w);
 }

@@ -1,84 +1,68 @@
-// Tally: what is counted, and how it is told.
+// Tally: what is counted, in the words behind a sample, and how it is told.
 use libc::STDOUT_FILENO;
-use samples::words::next_number;
+use samples::words::BEHIND;
+use samples::words::Words;
+use samples::words::get;
+use samples::words::put;
+use samples::words::wide;
 
-pub struct Tally {
-    // Sound samples, and how many of them the checker accepts.
-    pub samples: u32,
-    pub sound: u32,
-    // Cases, and how many of them their clause alone refuses.
-    pub cases: u32,
-    pub only: u32,
-    // Stores judged: refused by both, accepted by both, judged differently.
-    pub refused: u32,
-    pub accepted: u32,
-    pub differences: u32,
+// Sound samples, and next how many of these the checker accepts.
+pub const SAMPLES: u32 = 0;
+
+// Cases, and next how many of these their clause alone refuses.
+pub const CASES: u32 = 2;
+
+// Stores judged: refused by both, accepted by both, judged differently; of these, sound to the test alone and sound to the checker
+// alone. Last the number of the change that was judged differently.
+pub const REFUSED: u32 = 4;
+
+pub const ACCEPTED: u32 = 5;
+
+const DIFFERENCES: u32 = 6;
+
+pub const TEST_ALONE: u32 = 7;
+
+pub const PAPER_ALONE: u32 = 8;
+
+pub fn count(w: &mut Words, k: u32) {
+    let at = BEHIND + wide(k);
+    let n = get(w, at);
+    put(w, at, std::num::wrapping_add_u32(n, 1));
 }
 
-fn counted(x: u32, is_more: bool) -> u32 {
-    if is_more { next_number(x) } else { x }
-}
-
-impl Tally {
-    pub fn new() -> Self {
-        Tally {
-            samples: 0,
-            sound: 0,
-            cases: 0,
-            only: 0,
-            refused: 0,
-            accepted: 0,
-            differences: 0,
+// Writes a text. A digit in it stands for what was counted there.
+fn tell(text: &[u8], w: &Words) {
+    let mut i = 0;
+    while i < text.len() {
+        let k = std::num::wrapping_sub_u8(text[i], b'0') as usize;
+        let next = i + 1;
+        if k < 10 {
+            io::print_decimal(STDOUT_FILENO, get(w, BEHIND + k) as u64);
+        } else {
+            io::write_all(STDOUT_FILENO, &text[i..next]);
         }
-    }
-
-    pub fn with_sample(mut self, is_sound: bool) -> Self {
-        self.samples = next_number(self.samples);
-        self.sound = counted(self.sound, is_sound);
-        self
-    }
-
-    pub fn with_case(mut self, is_only: bool) -> Self {
-        self.cases = next_number(self.cases);
-        self.only = counted(self.only, is_only);
-        self
-    }
-
-    pub fn with_verdicts(mut self, test: bool, paper: bool) -> Self {
-        self.refused = counted(self.refused, !test && !paper);
-        self.accepted = counted(self.accepted, test && paper);
-        self.differences = counted(self.differences, test != paper);
-        self
+        i = next;
     }
 }
 
-fn tell(n: u32, what: &[u8]) {
-    io::print_decimal(STDOUT_FILENO, n as u64);
-    io::write_all(STDOUT_FILENO, what);
-}
-
-// The first differences one by one: the sample or case by its number, the place of the word (the table first, then the store) and its value,
-// or 4,294,967,295 and the store's length.
-pub fn tell_difference(x: Tally, i: u32, value: u32, test: bool) {
-    if 60 <= x.differences {
+// Counts what was said of change r. The first differences are told one by one: the sample or case by its number, and the change.
+pub fn note(w: &mut Words, verdict: u32, r: u32) {
+    count(w, verdict);
+    if verdict < TEST_ALONE {
         return;
     }
-    tell(x.samples, b". sample, ");
-    tell(x.cases, b". case, word ");
-    tell(i, b" = ");
-    if test {
-        tell(value, b": sound to the test alone\n");
-    } else {
-        tell(value, b": sound to the checker alone\n");
+    count(w, DIFFERENCES);
+    put(w, BEHIND + 9, r);
+    if get(w, BEHIND + 6) <= 60 {
+        tell(
+            b"0. sample, 2. case, change 9: now 7 sound to the test alone, 8 to the checker alone\n",
+            w,
+        );
     }
 }
 
-pub fn report(x: Tally) {
-    tell(x.samples, b" sound samples, ");
-    tell(x.sound, b" of them sound to the checker\n");
-    tell(x.cases, b" cases, ");
-    tell(x.only, b" of them refused by their clause alone\n");
-    tell(x.refused, b" refused by both\n");
-    tell(x.accepted, b" accepted by both\n");
-    tell(x.differences, b" differences\n");
+pub fn report(w: &Words) {
+    tell(b"0 sound samples, 1 of them sound to the checker\n", w);
+    tell(b"2 cases, 3 of them refused by their clause alone\n", w);
+    tell(b"4 refused by both\n5 accepted by both\n6 differences\n", w);
 }

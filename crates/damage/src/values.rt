@@ -2,39 +2,26 @@
 use samples::words::STORE;
 use samples::words::Words;
 use samples::words::get;
-use samples::words::header;
-use samples::words::next_number;
 use samples::words::wide;
 
 pub const VALUES: u32 = 13;
-
-// What stands at some other place of the table or of the store.
-fn other(w: &Words, words: u32, i: u32) -> u32 {
-    get(w, (31 * wide(i) + 17) % (STORE + wide(words)))
-}
-
-// Some record.
-fn record(w: &Words, i: u32) -> u32 {
-    let r = header(w, 1);
-    if r < 1 {
-        return 0;
-    }
-    next_number(i % r)
-}
-
-fn flipped(x: u32, i: u32) -> u32 {
-    x ^ (1 << (i % 17))
-}
 
 // Value k for the word x at place i: 0 to 6; one more and one less; what stands elsewhere; a record; the largest number; a bit flipped.
 pub fn value(w: &Words, words: u32, i: u32, x: u32, k: u32) -> u32 {
     match k {
         7 => std::num::wrapping_add_u32(x, 1),
         8 => std::num::wrapping_sub_u32(x, 1),
-        9 => other(w, words, i),
-        10 => record(w, i),
+        9 => get(w, (31 * wide(i) + 17) % (STORE + wide(words))),
+        10 => {
+            let r = get(w, STORE + 1);
+            if r < 1 {
+                0
+            } else {
+                std::num::wrapping_add_u32(i % r, 1)
+            }
+        }
         11 => 4294967295,
-        12 => flipped(x, i),
+        12 => x ^ (1 << (i % 17)),
         _ => k,
     }
 }

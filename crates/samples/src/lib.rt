@@ -7,95 +7,179 @@ mod build;
 pub mod lines;
 pub mod words;
 
+use build::BEGUN;
+use build::ENTRY;
 use build::EXCLUSIVE;
 use build::GAP;
+use build::GROUP;
 use build::HIGH;
+use build::KEY;
+use build::LAST;
+use build::LATCH;
 use build::LOCATE;
 use build::LOW;
+use build::NEXT;
+use build::PINS;
+use build::SAVED;
 use build::SHARE;
+use build::STAGE;
+use build::TARGET;
 use build::UPDATE;
-use build::added;
-use build::begin;
-use build::change;
-use build::come_to;
+use build::base;
 use build::descriptor;
-use build::enter;
 use build::free_from;
-use build::hold_entry;
-use build::hold_group;
 use build::member;
 use build::node;
-use build::pin;
-use build::request;
-use build::root;
-use build::sized;
-use build::take;
-use build::taken;
-use build::wrote;
+use build::undo;
+use lines::number;
+use words::STORE;
+use words::WORDS;
 use words::Words;
-use words::set_entry;
-use words::set_header;
-use words::set_party;
+use words::bit;
+use words::entry_place;
+use words::get;
+use words::party_place;
+use words::put;
+use words::record_place;
 use words::set_record;
+use words::wide;
 
-// Records: descriptors, nodes, the root, free ones, memberships and undo records.
-fn add_record(w: &mut Words, letter: u8, n: [u32; 6]) {
+// Which numbers of a line are words as they stand: those up to this one, and how many. The numbers before them say where.
+fn words_end(letter: u8) -> u32 {
     match letter {
-        b'B' => sized(w, n[0], n[1], n[2]),
-        b'd' => descriptor(w, n[0], n[1], n[2]),
-        b'n' => node(w, n[0], n[1], n[2]),
-        b'r' => root(w, n[0], n[1], n[2]),
-        b'f' => free_from(w, n[0]),
-        b'm' => member(w, n[0], n[1], n[2]),
-        b'w' => wrote(w, n[0], n[1], n[2]),
-        b'a' => added(w, n[0], n[1], n[2], n[3], n[4]),
-        b'o' => taken(w, n[0], n[1], n[2], n[3]),
+        b'H' | b'b' | b'i' | b't' | b'L' | b'U' => 3,
+        b'r' | b'E' | b'R' | b'P' | b'd' | b'm' | b'w' => 4,
+        b'h' | b'o' => 5,
+        b'p' | b'a' => 6,
+        _ => 0,
+    }
+}
+
+fn word_count(letter: u8) -> u32 {
+    match letter {
+        b'd' | b'o' => 2,
+        b'r' | b'h' | b'a' => 3,
+        b'p' => 4,
+        _ => 1,
+    }
+}
+
+// The word of its record or party that number k goes to, if the second number is b.
+fn field(letter: u8, b: u32, k: u32) -> u32 {
+    match letter {
+        b'R' | b'P' => b,
+        b'd' => if k == 2 { KEY } else { NEXT },
+        b'm' | b'w' | b'a' | b'o' => match k {
+            3 => ENTRY,
+            4 => GROUP,
+            _ => SAVED,
+        },
+        b'p' => std::num::wrapping_sub_u32(k, 1),
+        b'i' => TARGET,
+        b'h' => std::num::wrapping_add_u32(k, 4),
+        b'L' => LOW,
+        b'U' => HIGH,
+        b't' => LAST,
+        _ => BEGUN,
+    }
+}
+
+// Where number k goes in a store of m entries, if the first two are a and b.
+fn place(m: u32, letter: u8, a: u32, b: u32, k: u32) -> usize {
+    match letter {
+        b'r' => STORE + 1 + wide(k),
+        b'H' => STORE + wide(a),
+        b'E' => entry_place(a, b),
+        b'R' | b'd' | b'm' => record_place(m, a, field(letter, b, k)),
+        b'w' | b'a' | b'o' => record_place(m, b, field(letter, b, k)),
+        _ => party_place(a, field(letter, b, k)),
+    }
+}
+
+fn add_words(w: &mut Words, letter: u8, text: &[u8], at: usize) {
+    let m = get(w, STORE);
+    let a = number(text, at, 1);
+    let b = number(text, at, 2);
+    let end = words_end(letter);
+    let mut k = std::num::wrapping_sub_u32(end, word_count(letter));
+    while k < end {
+        put(w, place(m, letter, a, b, k), number(text, at, k));
+        k += 1;
+    }
+}
+
+// Records: a base, descriptors, nodes, free ones, memberships and undo records.
+fn add_record(w: &mut Words, letter: u8, a: u32, b: u32, c: u32) {
+    match letter {
+        b'B' => base(w, a, b, c),
+        b'd' => descriptor(w, a, b),
+        b'n' => node(w, a, b, c),
+        b'f' => free_from(w, a),
+        b'm' => member(w, a, b),
+        b'w' | b'a' | b'o' => undo(w, letter, a, b),
         _ => {}
     }
 }
 
-// Holders of entries, keys and gaps.
-fn add_holder(w: &mut Words, letter: u8, n: [u32; 6]) {
+// Where the word lies that a line only changes: the holders of an entry, of a key or of its gap, and the pins of a descriptor.
+fn changed_place(m: u32, letter: u8, a: u32, b: u32) -> usize {
     match letter {
-        b's' => hold_entry(w, n[0], SHARE, n[1]),
-        b'e' => hold_entry(w, n[0], EXCLUSIVE, n[1]),
-        b'l' => hold_group(w, n[0], LOCATE, n[1]),
-        b'u' => hold_group(w, n[0], UPDATE, n[1]),
-        b'g' => hold_group(w, n[0], GAP, n[1]),
+        b's' => entry_place(a, SHARE),
+        b'e' => entry_place(a, EXCLUSIVE),
+        b'l' => record_place(m, a, LOCATE),
+        b'u' => record_place(m, a, UPDATE),
+        b'g' => record_place(m, a, GAP),
+        b'L' | b'U' => record_place(m, b, PINS),
+        _ => WORDS,
+    }
+}
+
+// Session b becomes a holder; descriptor b has one pin more.
+fn change(w: &mut Words, letter: u8, a: u32, b: u32) {
+    let at = changed_place(get(w, STORE), letter, a, b);
+    let x = get(w, at);
+    let y = match letter {
+        b'L' | b'U' => std::num::wrapping_add_u32(x, 1),
+        _ => x | bit(b),
+    };
+    put(w, at, y);
+}
+
+// The stage that a line brings its party to: it puts a request, is to enter the root, has come to a node, is to change the group of first,
+// or to take.
+fn stage(letter: u8) -> u32 {
+    match letter {
+        b'p' => 1,
+        b'i' => 2,
+        b'h' => 3,
+        b'c' => 4,
+        b't' => 5,
+        _ => 0,
+    }
+}
+
+// A session that puts a request begins; a party that has come to node c has its latch.
+fn add_party(w: &mut Words, letter: u8, a: u32, c: u32) {
+    let to = stage(letter);
+    if to != 0 {
+        put(w, party_place(a, STAGE), to);
+    }
+    match letter {
+        b'p' => if a != 0 {
+            put(w, party_place(a, BEGUN), 1);
+        },
+        b'h' => set_record(w, c, LATCH, std::num::wrapping_add_u32(a, 1)),
         _ => {}
     }
 }
 
-// A party begins, puts a request, and comes to a stage of it.
-fn add_party(w: &mut Words, letter: u8, n: [u32; 6]) {
-    match letter {
-        b'b' => begin(w, n[0], n[1]),
-        b'p' => request(w, n[0], n[1], n[2], n[3], n[4]),
-        b'i' => enter(w, n[0], n[1]),
-        b'h' => come_to(w, n[0], n[1], n[2], n[3]),
-        b'c' => change(w, n[0]),
-        b't' => take(w, n[0], n[1]),
-        b'L' => pin(w, n[0], LOW, n[1]),
-        b'U' => pin(w, n[0], HIGH, n[1]),
-        _ => {}
-    }
-}
-
-// One word is changed.
-fn set_word(w: &mut Words, letter: u8, n: [u32; 6]) {
-    match letter {
-        b'H' => set_header(w, n[0], n[1]),
-        b'E' => set_entry(w, n[0], n[1], n[2]),
-        b'R' => set_record(w, n[0], n[1], n[2]),
-        b'P' => set_party(w, n[0], n[1], n[2]),
-        _ => {}
-    }
-}
-
-// Adds what a line says to a store and its table: each letter belongs to one of the four.
-pub fn add(w: &mut Words, letter: u8, n: [u32; 6]) {
-    add_record(w, letter, n);
-    add_holder(w, letter, n);
-    add_party(w, letter, n);
-    set_word(w, letter, n);
+// Adds what the line that begins here with this letter says to a store and its table.
+pub fn add(w: &mut Words, letter: u8, text: &[u8], at: usize) {
+    let a = number(text, at, 1);
+    let b = number(text, at, 2);
+    let c = number(text, at, 3);
+    add_words(w, letter, text, at);
+    add_record(w, letter, a, b, c);
+    change(w, letter, a, b);
+    add_party(w, letter, a, c);
 }

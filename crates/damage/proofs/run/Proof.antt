@@ -1,27 +1,33 @@
 -- `damage::run` is safe and ends.
+use Prim.Native.Nat.{_-_}
 use borrow.Author.Needs.{needs}
 use lib.ListN.{length}
-use Prim.Native.Nat.{_-_}
 use Rattle.damage.proofs.run.Statement.{statement}
 use Rattle.damage.proofs.run.Tie as tie
 
 abbrev Inv-loop : tie.InvT-loop
-Inv-loop text tally₀ base₀ over₀ at₀ tally base over at = Unit {0}
+Inv-loop text w₀ base₀ over₀ at₀ w base over at = Unit {0}
 
 abbrev μ-loop : tie.MeasureT-loop
-μ-loop text tally₀ base₀ over₀ at₀ tally base over at = length text - at
-
-new-requires : tie.Need-new-requires Inv-loop μ-loop
-new-requires c κs = search needs
+μ-loop text w₀ base₀ over₀ at₀ w base over at = length text - at
 
 loop-holds : tie.Need-loop-holds Inv-loop μ-loop
 loop-holds c = search needs
 
-line-at-requires : tie.Need-line-at-requires Inv-loop μ-loop
-line-at-requires c κs = search needs
+shared-slice-read-letter : tie.Need-shared-slice-read-letter Inv-loop μ-loop
+shared-slice-read-letter c = search needs
 
-work-requires : tie.Need-work-requires Inv-loop μ-loop
-work-requires c κs = search needs
+sample-requires : tie.Need-sample-requires Inv-loop μ-loop
+sample-requires c κs = search needs
+
+number-requires : tie.Need-number-requires Inv-loop μ-loop
+number-requires c κs = search needs
+
+sample-requires-2 : tie.Need-sample-requires-2 Inv-loop μ-loop
+sample-requires-2 c κs = search needs
+
+next-line-requires : tie.Need-next-line-requires Inv-loop μ-loop
+next-line-requires c κs = search needs
 
 loop-less : tie.Need-loop-less Inv-loop μ-loop
 loop-less c = search needs
@@ -38,10 +44,12 @@ run-spec =
     (tie.spec
     Inv-loop
     μ-loop
-    new-requires
     loop-holds
-    line-at-requires
-    work-requires
+    shared-slice-read-letter
+    sample-requires
+    number-requires
+    sample-requires-2
+    next-line-requires
     loop-less
     loop-again
     returns)

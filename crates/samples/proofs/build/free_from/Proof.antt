@@ -9,8 +9,11 @@ Inv-loop w₀ from i₀ next₀ w i next = Unit {0}
 abbrev μ-loop : tie.MeasureT-loop
 μ-loop w₀ from i₀ next₀ w i next = i
 
-header-requires : tie.Need-header-requires Inv-loop μ-loop
-header-requires c κs = search needs
+add-get : tie.Need-add-get Inv-loop μ-loop
+add-get c = search needs
+
+get-requires : tie.Need-get-requires Inv-loop μ-loop
+get-requires c κs = search needs
 
 loop-holds : tie.Need-loop-holds Inv-loop μ-loop
 loop-holds c = search needs
@@ -27,8 +30,11 @@ loop-less c = search needs
 loop-again : tie.Need-loop-again Inv-loop μ-loop
 loop-again c = search needs
 
-set-header-requires : tie.Need-set-header-requires Inv-loop μ-loop
-set-header-requires c κs = search needs
+add-put : tie.Need-add-put Inv-loop μ-loop
+add-put c = search needs
+
+put-requires : tie.Need-put-requires Inv-loop μ-loop
+put-requires c κs = search needs
 
 returns : tie.Need-returns Inv-loop μ-loop
 returns c = search needs
@@ -39,11 +45,13 @@ free-from-spec =
     (tie.spec
     Inv-loop
     μ-loop
-    header-requires
+    add-get
+    get-requires
     loop-holds
     set-record-requires
     sub-i
     loop-less
     loop-again
-    set-header-requires
+    add-put
+    put-requires
     returns)

@@ -1,6 +1,6 @@
 -- `samples::build::node` is safe and ends.
-use borrow.Author.Needs.{needs}
 use Prim.Native.Nat.{_-_}
+use borrow.Author.Needs.{needs}
 use Rattle.samples.proofs.build.node.Statement.{statement}
 use Rattle.samples.proofs.build.node.Tie as tie
 
@@ -31,17 +31,14 @@ add-set-record c = search needs
 set-record-requires-3 : tie.Need-set-record-requires-3 Inv-loop μ-loop
 set-record-requires-3 c κs = search needs
 
+add-k : tie.Need-add-k Inv-loop μ-loop
+add-k c = search needs
+
 set-record-requires-4 : tie.Need-set-record-requires-4 Inv-loop μ-loop
 set-record-requires-4 c κs = search needs
 
-add-set-record-2 : tie.Need-add-set-record-2 Inv-loop μ-loop
-add-set-record-2 c = search needs
-
-set-record-requires-5 : tie.Need-set-record-requires-5 Inv-loop μ-loop
-set-record-requires-5 c κs = search needs
-
-next-number-requires : tie.Need-next-number-requires Inv-loop μ-loop
-next-number-requires c κs = search needs
+wrapping-add-u32-requires : tie.Need-wrapping-add-u32-requires Inv-loop μ-loop
+wrapping-add-u32-requires c κs = search needs
 
 loop-less : tie.Need-loop-less Inv-loop μ-loop
 loop-less c = search needs
@@ -71,10 +68,9 @@ node-spec =
     record-word-requires
     add-set-record
     set-record-requires-3
+    add-k
     set-record-requires-4
-    add-set-record-2
-    set-record-requires-5
-    next-number-requires
+    wrapping-add-u32-requires
     loop-less
     loop-again
     loop-less-2
