@@ -1,2 +1,3 @@
 -- Lemmas of the proofs.
 pub mod Turns
+pub mod Runs

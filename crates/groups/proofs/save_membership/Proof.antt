@@ -1,4 +1,5 @@
 -- The proof of save_membership.
+use mathlib.Core.Path.{_∙_}
 use borrow.Author.Needs.{needs}
 use Rattle.groups.proofs.save_membership.Statement.{statement}
 use Rattle.groups.proofs.save_membership.Tie as tie
@@ -13,7 +14,7 @@ same-length : tie.Need-same-length
 same-length c = search needs
 
 returns : tie.Need-returns
-returns c = cc
+returns c = c .before .before .save-words .ensures ∙ c .before .before .before .membership-words .ensures
 
 pub save-membership-spec : {M : Type 1} → statement M
 save-membership-spec =

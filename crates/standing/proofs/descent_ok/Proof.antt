@@ -1,8 +1,6 @@
 -- The proof of `descent_ok`.
-use mathlib.Core.Path.{sym}
-use borrow.Author.Tests.{eq-eqb, le-leb, lt-leb, ne-eqb}
 use borrow.Author.Needs.{needs}
-use Rattle.standing.specs.Standing.{atNode, descentOk}
+use Rattle.standing.proofs.Runs.{no-level, above-root, another, no-record, no-room, no-latch, own-latch}
 use Rattle.standing.proofs.descent_ok.Statement.{statement}
 use Rattle.standing.proofs.descent_ok.Tie as tie
 
@@ -22,12 +20,10 @@ cast-level : tie.Need-cast-level
 cast-level c = search needs
 
 returns : tie.Need-returns
-unfolding descentOk atNode
-returns c = simp (eq-eqb _ _ (c .if1 .taken), sym (c .before .before .height .ensures), sym (c .before .before .before .root .ensures))
+returns c = no-level _ _ _ _ _ (c .if1 .taken)
 
 returns-2 : tie.Need-returns-2
-unfolding descentOk atNode
-returns-2 c = simp (ne-eqb _ _ (c .before .if1 .left), lt-leb _ _ (c .if2 .taken), sym (c .before .before .before .height .ensures), sym (c .before .before .before .before .root .ensures))
+returns-2 c = above-root _ _ _ _ _ (c .before .before .before .height .ensures) (c .before .if1 .left) (c .if2 .taken)
 
 descend-requires : tie.Need-descend-requires
 descend-requires c κs = search needs
@@ -36,16 +32,13 @@ cast-at : tie.Need-cast-at
 cast-at c = search needs
 
 returns-3 : tie.Need-returns-3
-unfolding descentOk atNode
-returns-3 c = simp (ne-eqb _ _ (c .before .before .before .before .if1 .left), le-leb _ _ (c .before .before .before .if2 .left), ne-eqb _ _ (c .if3 .taken), sym (c .before .before .descend .ensures), sym (c .before .before .before .before .before .before .height .ensures), sym (c .before .before .before .before .before .before .before .root .ensures))
+returns-3 c = another _ _ _ _ _ (c .before .before .before .before .before .before .before .root .ensures) (c .before .before .before .before .before .before .height .ensures) (c .before .before .before .before .if1 .left) (c .before .before .before .if2 .left) (c .before .before .descend .ensures) (c .if3 .taken)
 
 returns-4 : tie.Need-returns-4
-unfolding descentOk atNode
-returns-4 c = simp (ne-eqb _ _ (c .before .before .before .before .before .if1 .left), le-leb _ _ (c .before .before .before .before .if2 .left), eq-eqb _ _ (c .before .if3 .left), eq-eqb _ _ (c .if4 .taken), sym (c .before .before .before .descend .ensures), sym (c .before .before .before .before .before .before .before .height .ensures), sym (c .before .before .before .before .before .before .before .before .root .ensures))
+returns-4 c = no-record _ _ _ _ _ (c .before .before .before .before .before .before .before .before .root .ensures) (c .before .before .before .before .before .before .before .height .ensures) (c .before .before .before .before .before .if1 .left) (c .before .before .before .before .if2 .left) (c .before .before .before .descend .ensures) (c .before .if3 .left) (c .if4 .taken)
 
 returns-5 : tie.Need-returns-5
-unfolding descentOk atNode
-returns-5 c = simp (ne-eqb _ _ (c .before .before .before .before .before .before .if1 .left), le-leb _ _ (c .before .before .before .before .before .if2 .left), eq-eqb _ _ (c .before .before .if3 .left), ne-eqb _ _ (c .before .if4 .left), lt-leb _ _ (c .if5 .taken), sym (c .before .before .before .before .descend .ensures), sym (c .before .before .before .before .before .before .before .before .height .ensures), sym (c .before .before .before .before .before .before .before .before .before .root .ensures))
+returns-5 c = no-room _ _ _ _ _ (c .before .before .before .before .before .before .before .before .before .root .ensures) (c .before .before .before .before .before .before .before .before .height .ensures) (c .before .before .before .before .before .before .if1 .left) (c .before .before .before .before .before .if2 .left) (c .before .before .before .before .descend .ensures) (c .before .before .if3 .left) (c .before .if4 .left) (c .if5 .taken)
 
 load-node-requires : tie.Need-load-node-requires
 load-node-requires c κs = search needs
@@ -57,15 +50,13 @@ add-if6 : tie.Need-add-if6
 add-if6 c = search needs
 
 returns-6 : tie.Need-returns-6
-unfolding descentOk atNode
-returns-6 c = simp (ne-eqb _ _ (c .before .before .before .before .before .before .before .before .before .if1 .left), le-leb _ _ (c .before .before .before .before .before .before .before .before .if2 .left), eq-eqb _ _ (c .before .before .before .before .before .if3 .left), ne-eqb _ _ (c .before .before .before .before .if4 .left), le-leb _ _ (c .before .before .before .if5 .left), ne-eqb _ _ (c .if6 .taken), sym (c .before .before .load-node .ensures), sym (c .before .before .before .before .before .before .before .descend .ensures), sym (c .before .before .before .before .before .before .before .before .before .before .before .height .ensures), sym (c .before .before .before .before .before .before .before .before .before .before .before .before .root .ensures))
+returns-6 c = no-latch _ _ _ _ _ (c .before .before .before .before .before .before .before .before .before .before .before .before .root .ensures) (c .before .before .before .before .before .before .before .before .before .before .before .height .ensures) (c .before .before .before .before .before .before .before .before .before .if1 .left) (c .before .before .before .before .before .before .before .before .if2 .left) (c .before .before .before .before .before .before .before .descend .ensures) (c .before .before .before .before .before .if3 .left) (c .before .before .before .before .if4 .left) (c .before .before .before .if5 .left) (c .before .before .load-node .ensures) (c .if6 .taken)
 
 may-stand-requires : tie.Need-may-stand-requires
 may-stand-requires c κs = search needs
 
 returns-7 : tie.Need-returns-7
-unfolding descentOk atNode
-returns-7 c = simp (ne-eqb _ _ (c .before .before .before .before .before .before .before .before .before .before .if1 .left), le-leb _ _ (c .before .before .before .before .before .before .before .before .before .if2 .left), eq-eqb _ _ (c .before .before .before .before .before .before .if3 .left), ne-eqb _ _ (c .before .before .before .before .before .if4 .left), le-leb _ _ (c .before .before .before .before .if5 .left), eq-eqb _ _ (c .before .if6 .left), sym (c .may-stand .ensures), sym (c .before .before .before .load-node .ensures), sym (c .before .before .before .before .before .before .before .before .descend .ensures), sym (c .before .before .before .before .before .before .before .before .before .before .before .before .height .ensures), sym (c .before .before .before .before .before .before .before .before .before .before .before .before .before .root .ensures))
+returns-7 c = own-latch _ _ _ _ _ (c .before .before .before .before .before .before .before .before .before .before .before .before .before .root .ensures) (c .before .before .before .before .before .before .before .before .before .before .before .before .height .ensures) (c .before .before .before .before .before .before .before .before .before .before .if1 .left) (c .before .before .before .before .before .before .before .before .before .if2 .left) (c .before .before .before .before .before .before .before .before .descend .ensures) (c .before .before .before .before .before .before .if3 .left) (c .before .before .before .before .before .if4 .left) (c .before .before .before .before .if5 .left) (c .before .before .before .load-node .ensures) (c .before .if6 .left) (c .may-stand .ensures)
 
 pub descent-ok-spec : {M : Type 1} → statement M
 descent-ok-spec =

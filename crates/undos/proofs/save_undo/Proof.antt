@@ -1,4 +1,5 @@
 -- The proof of save_undo.
+use mathlib.Core.Path.{_∙_}
 use borrow.Author.Needs.{needs}
 use Rattle.undos.proofs.save_undo.Statement.{statement}
 use Rattle.undos.proofs.save_undo.Tie as tie
@@ -13,7 +14,7 @@ same-length : tie.Need-same-length
 same-length c = search needs
 
 returns : tie.Need-returns
-returns c = cc
+returns c = c .before .before .save-words .ensures ∙ c .before .before .before .undo-words .ensures
 
 pub save-undo-spec : {M : Type 1} → statement M
 save-undo-spec = tie.close (tie.spec undo-words-requires save-words-requires same-length returns)
