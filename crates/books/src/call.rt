@@ -1,8 +1,9 @@
-// Call: a call by its kind, party and numbers; the words of its answer; the lists that are lent.
-use crate::book::Book;
+// Call: a call by its kind, party and numbers; the words of its answer; how many words it is lent.
+ghost use Prim.Native.Nat.{_<_};
 use crate::book::WORDS;
 use naive_steps::party::Said;
-use schedules::words::get;
+use schedules::book::Book;
+use schedules::book::get;
 use schedules::words::wide;
 
 pub const FORMAT: u32 = 0;
@@ -38,21 +39,14 @@ pub const DONE: u32 = 3;
 
 pub const REFUSED: u32 = 4;
 
-// The two lists that are lent: the store's, and the model's behind it.
+// The words of each of the two lists that are lent.
 pub const LIST: usize = 1024;
 
-pub const LISTS: usize = 2048;
-
-pub type Lists = [u32; LISTS];
-
-// How many words of the list a call is lent.
-pub fn listed(c: Call) -> usize {
-    if c.kind == STEP {
-        if c.first < 1024 {
-            return wide(c.first);
-        }
-    }
-    LIST
+// How many words of the list a step is lent.
+pub fn listed(first: u32) -> usize
+    ensures { λ r. ⌜ r < 2000 ⌝ }
+{
+    if first < 1024 { wide(first) } else { LIST }
 }
 
 // A call of a party alone.

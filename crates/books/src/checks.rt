@@ -1,5 +1,4 @@
 // Checks: the checker is asked whether a store is sound, and what a copy with one word changed gave is noted.
-use crate::book::Book;
 use crate::book::CHECKED;
 use crate::book::DAMAGE;
 use crate::book::DAMAGED_SOUND;
@@ -8,11 +7,12 @@ use crate::book::SOUND;
 use crate::book::WORDS;
 use crate::book::differ;
 use crate::seats::table;
-use schedules::words::STORE;
-use schedules::words::Side;
-use schedules::words::TABLE;
-use schedules::words::count;
-use schedules::words::get;
+use schedules::book::Book;
+use schedules::book::count;
+use schedules::book::get;
+use schedules::side::STORE;
+use schedules::side::Side;
+use schedules::side::TABLE;
 use schedules::words::wide;
 
 fn ask_part(side: &[u32], s: &Side, words: usize) -> bool {
@@ -37,14 +37,15 @@ pub fn ask_checker(s: &Side, b: &mut Book) {
     }
 }
 
-// A copy with one word changed: whether the checker finds it sound, and whether the store takes calls on it.
+// A store with one word changed: whether the checker finds it sound, and whether the store takes calls on it.
 pub fn note_damage(b: &mut Book, is_good: bool, is_kept: bool) {
     if is_good != is_kept {
         differ(b, DAMAGE, 0, 0);
     }
-    if is_good {
-        count(b, DAMAGED_SOUND);
+    let at = if is_good {
+        DAMAGED_SOUND
     } else {
-        count(b, DAMAGED_UNSOUND);
-    }
+        DAMAGED_UNSOUND
+    };
+    count(b, at);
 }

@@ -1,5 +1,4 @@
 // Looks: store and model compared whole: free count, entries, holders and members of keys, the shape of the tree.
-use crate::book::Book;
 use crate::book::DESCRIPTORS;
 use crate::book::ENTRIES;
 use crate::book::EXCLUSIVE;
@@ -14,37 +13,81 @@ use crate::book::Model;
 use crate::book::NODES;
 use crate::book::RANGE;
 use crate::book::SHARE;
-use crate::book::STORED;
 use crate::book::STORED_KEYS;
 use crate::book::UPDATE;
 use crate::book::VALUE;
 use crate::book::VIEWS;
-use crate::book::differ;
 use crate::book::raise;
 use crate::book::same;
+use schedules::book::Book;
+use schedules::book::count;
+use schedules::book::get;
 use schedules::random::random;
+use schedules::reading;
+use schedules::reading::at_or_below;
 use schedules::reading::entry;
-use schedules::reading::free;
-use schedules::reading::height;
+use schedules::reading::field;
+use schedules::reading::length;
+use schedules::reading::members;
 use schedules::reading::nodes;
-use schedules::views::VIEW;
-use schedules::views::View;
-use schedules::views::is_stored;
-use schedules::views::key;
-use schedules::views::locate_holders;
-use schedules::views::look;
-use schedules::views::members_of;
-use schedules::views::update_holders;
-use schedules::words::Side;
-use schedules::words::count;
-use schedules::words::difference;
-use schedules::words::get;
-use schedules::words::sum;
+use schedules::side::Side;
+use schedules::side::word;
+use std::num::wrapping_add_u32;
+use std::num::wrapping_sub_u32;
 
-fn see_entry(s: &Side, a: &Model, b: &mut Book, e: u32) {
-    same(b, VALUE, entry(s, e, 0), naive::value(a, e));
-    same(b, SHARE, entry(s, e, 1), naive::share(a, e));
-    same(b, EXCLUSIVE, entry(s, e, 2), naive::exclusive(a, e));
+// What the store says of a key, stored or not, whose place in the chain is at or behind descriptor d.
+fn of_key(s: &Side, what: u32, k: u32, d: u32) -> u32 {
+    if field(s, d, 1) == k {
+        return match what {
+            LOCATE => field(s, d, 2),
+            UPDATE => field(s, d, 3),
+            GROUP => members(s, d),
+            _ => 1,
+        };
+    }
+    if what == LOCATE { field(s, d, 4) } else { 0 }
+}
+
+// What the store says: of the entry x; of the key x with descriptor d at or below it; of all.
+fn of_store(s: &Side, what: u32, x: u32, d: u32) -> u32 {
+    match what {
+        VALUE => entry(s, x, 0),
+        SHARE => entry(s, x, 1),
+        EXCLUSIVE => entry(s, x, 2),
+        STORED_KEYS => length(s, reading::FIRST),
+        LEVELS => word(s, reading::HEIGHT),
+        FREE => length(s, reading::FREE),
+        _ => of_key(s, what, x, d),
+    }
+}
+
+fn is_stored(a: &Model, k: u32) -> u32 {
+    if naive::stored(a, k) { 1 } else { 0 }
+}
+
+// What the model says.
+fn of_model(a: &Model, what: u32, x: u32) -> u32 {
+    match what {
+        VALUE => naive::value(a, x),
+        SHARE => naive::share(a, x),
+        EXCLUSIVE => naive::exclusive(a, x),
+        STORED_KEYS => naive::descriptors(a),
+        LEVELS => naive::height(a),
+        FREE => naive::free(a),
+        LOCATE => naive::locate_holders(a, x),
+        UPDATE => naive::update_holders(a, x),
+        GROUP => naive::members(a, x),
+        _ => is_stored(a, x),
+    }
+}
+
+// Compares three of these, and of a key a fourth.
+fn see_numbers(s: &Side, a: &Model, b: &mut Book, x: u32, d: u32, from: u32, end: u32) {
+    let mut what = from;
+    while what < end {
+        same(b, what, of_store(s, what, x, d), of_model(a, what, x));
+        what += 1;
+    }
 }
 
 fn see_entries(s: &Side, a: &Model, b: &mut Book) {
@@ -52,76 +95,71 @@ fn see_entries(s: &Side, a: &Model, b: &mut Book) {
     let mut e = 0;
     while e < m {
         e += 1;
-        see_entry(s, a, b, e);
+        see_numbers(s, a, b, e, 0, VALUE, LOCATE);
     }
 }
 
 // Who holds a key, stored or not, and its members.
-fn see_key(v: &View, n: u32, a: &Model, b: &mut Book, k: u32) {
+fn see_key(s: &Side, a: &Model, b: &mut Book, k: u32) {
     if k == 4294967295 {
         return;
     }
     count(b, KEYS_SEEN);
-    if is_stored(v, n, k) != naive::stored(a, k) {
-        differ(b, STORED, k, n);
-    }
-    same(
-        b,
-        LOCATE,
-        locate_holders(v, n, k),
-        naive::locate_holders(a, k),
-    );
-    same(
-        b,
-        UPDATE,
-        update_holders(v, n, k),
-        naive::update_holders(a, k),
-    );
-    same(b, GROUP, members_of(v, n, k), naive::members(a, k));
+    see_numbers(s, a, b, k, at_or_below(s, k), LOCATE, STORED_KEYS);
 }
 
 // Every key of a small range, and one more at each end.
-fn see_range(v: &View, n: u32, a: &Model, b: &mut Book) {
-    let end = sum(get(b, RANGE), 2);
+fn see_range(s: &Side, a: &Model, b: &mut Book) {
+    let end = wrapping_add_u32(get(b, RANGE), 2);
     let mut k = 0;
     while k < end {
-        see_key(v, n, a, b, k);
+        see_key(s, a, b, k);
         k += 1;
     }
 }
 
-// Every stored key and its neighbours, and some others.
-fn see_stored(v: &View, n: u32, a: &Model, b: &mut Book) {
+// A key and its neighbours.
+fn see_near(s: &Side, a: &Model, b: &mut Book, k: u32) {
     let mut i = 0;
-    while i < n {
-        let k = key(v, i);
-        see_key(v, n, a, b, k);
-        see_key(v, n, a, b, sum(k, 1));
-        see_key(v, n, a, b, difference(k, 1));
+    while i < 3 {
+        see_key(s, a, b, wrapping_add_u32(wrapping_sub_u32(k, 1), i));
         i += 1;
     }
-    let x = random(b);
-    see_key(v, n, a, b, x);
-    see_key(v, n, a, b, 4294967294);
+}
+
+// Every stored key and its neighbours.
+fn see_stored(s: &Side, a: &Model, b: &mut Book) {
+    let mut d = word(s, reading::FIRST);
+    let mut left = 4097u32;
+    while 0 < left && d != 0 {
+        see_near(s, a, b, field(s, d, 1));
+        d = field(s, d, 0);
+        left -= 1;
+    }
 }
 
 fn see_keys(s: &Side, a: &Model, b: &mut Book) {
-    let mut v = [0u32; VIEW];
-    let n = look(s, &mut v);
-    same(b, STORED_KEYS, n, naive::descriptors(a));
-    raise(b, DESCRIPTORS, n);
     if get(b, KEYS) == 0 {
-        see_range(&v, n, a, b);
+        see_range(s, a, b);
     }
-    see_stored(&v, n, a, b);
+    see_stored(s, a, b);
+    let x = random(b);
+    see_key(s, a, b, x);
+    see_key(s, a, b, 4294967294);
+}
+
+// The tree and the free count.
+fn see_tree(s: &Side, a: &Model, b: &mut Book) {
+    see_numbers(s, a, b, 0, 0, STORED_KEYS, NODES);
+    let n = nodes(s, b);
+    same(b, NODES, n, naive::nodes(a));
+    raise(b, HEIGHT, word(s, reading::HEIGHT));
+    raise(b, DESCRIPTORS, length(s, reading::FIRST));
 }
 
 pub fn see(s: &Side, a: &Model, b: &mut Book) {
     count(b, VIEWS);
-    same(b, FREE, free(s), naive::free(a));
-    same(b, NODES, nodes(s), naive::nodes(a));
-    same(b, LEVELS, height(s), naive::height(a));
-    raise(b, HEIGHT, height(s));
+    see_tree(s, a, b);
     see_entries(s, a, b);
     see_keys(s, a, b);
 }

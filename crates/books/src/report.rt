@@ -1,215 +1,73 @@
-// Report: what was counted, a line each. A text with the labels of some lines is cut behind each newline.
-use crate::book::ANSWERED;
-use crate::book::Book;
-use crate::book::DESCRIPTORS;
+// Report: what was counted, a line each: the number and its label. Where something differs, the first difference too.
 use crate::book::DIFFERENCES;
-use crate::book::FIRST;
-use crate::book::MADE;
+use crate::book::LINES;
 use crate::book::Model;
-use crate::book::REFUSED;
-use crate::book::VIEWS;
+use crate::book::WHAT;
 use libc::STDOUT_FILENO;
-use schedules::words::get;
-use schedules::words::sum;
+use schedules::book::Book;
+use schedules::book::get;
 use schedules::words::wide;
+use std::num::wrapping_add_u32;
 
-fn tell(n: u32, what: &[u8]) {
-    io::print_decimal(STDOUT_FILENO, n as u64);
-    io::write_all(STDOUT_FILENO, what);
-}
-
-// Where the line that begins here ends.
-fn line_end(text: &[u8], from: usize) -> usize {
-    let mut i = from;
+// Where line n of a text begins, from 0.
+fn line_start(text: &[u8], n: u32) -> usize {
+    let mut left = n;
+    let mut i = 0;
     while i < text.len() {
+        if left == 0 {
+            return i;
+        }
         if text[i] == b'\n' {
-            return i + 1;
+            left -= 1;
         }
         i += 1;
     }
     i
 }
 
-// Where line n of a text begins, from 0.
-fn line_start(text: &[u8], n: u32) -> usize {
-    let mut at = 0;
-    let mut i = 0;
-    while i < n {
-        at = line_end(text, at);
-        i += 1;
-    }
-    at
-}
-
-// Writes the line that begins here; where the next one does.
-fn tell_line(text: &[u8], from: usize) -> usize {
-    let end = line_end(text, from);
+fn tell_line(text: &[u8], n: u32) {
+    let from = line_start(text, n);
+    let end = line_start(text, wrapping_add_u32(n, 1));
     if from <= end && end <= text.len() {
         io::write_all(STDOUT_FILENO, &text[from..end]);
     }
-    end
 }
 
-fn tell_number(n: u32) {
-    io::print_decimal(STDOUT_FILENO, n as u64);
-}
-
-// The words from a place up to another, each with the next line of the text.
-fn tell_rows(b: &[u32], from: usize, end: usize, text: &[u8]) {
-    let mut at = 0;
-    let mut i = from;
-    while i < end {
-        tell_number(get(b, i));
-        at = tell_line(text, at);
-        i += 1;
-    }
-}
-
-fn made(b: &Book) -> u32 {
-    let mut n = 0;
-    let mut k = MADE;
-    while k < MADE + 6 {
-        n = sum(n, get(b, k));
-        k += 1;
-    }
-    n
-}
-
-fn tell_refusal(b: &Book, n: u32) {
-    tell(get(b, REFUSED + wide(n % 16)), b"   by ");
-    tell(n, b"\n");
-}
-
-fn tell_refusals(b: &Book) {
-    let mut n = 3;
-    while n < 13 {
-        tell_refusal(b, n);
-        n += 1;
-    }
-}
-
-// The calls by kind, and the answers by word.
-fn tell_calls(b: &Book) {
-    tell(made(b), b" calls on both, of these\n");
-    tell_rows(
-        b,
-        MADE,
-        MADE + 6,
-        b"   format\n   begin\n   put\n   step\n   commit\n   abort\n",
-    );
-    tell_rows(
-        b,
-        ANSWERED,
-        ANSWERED + 5,
-        b" answered ok\n answered more\n answered wait\n answered done\n refused, of these\n",
-    );
-}
-
-// Event i of the model in the order of the report.
-fn event(i: u32) -> u32 {
-    match i {
-        20 => 27,
-        21 => 24,
-        22 => 25,
-        23 => 26,
-        24 => 20,
-        25 => 21,
-        26 => 22,
-        27 => 23,
-        _ => i,
-    }
-}
-
-// The events from a place in this order up to another, each with the next line of the text.
-fn tell_events(a: &Model, from: u32, end: u32, text: &[u8]) {
-    let mut at = 0;
-    let mut i = from;
-    while i < end {
-        tell_number(naive::counted(a, event(i)));
-        at = tell_line(text, at);
-        i += 1;
-    }
-}
-
-fn tell_tree(a: &Model) {
-    tell_events(
-        a,
-        0,
-        13,
-        b" roots split
- nodes below the root split
- joins with the left neighbour
- joins with the right neighbour
- moves from the left neighbour
- moves from the right neighbour
- roots dropped
- roots dropped and split in one step
- descriptors made
- descriptors made in a held gap
- descriptors tidied
- tidies that declined
- tidies with nothing above
-",
-    );
-}
-
-fn tell_requests(a: &Model) {
-    tell_events(
-        a,
-        13,
-        29,
-        b" inserts that added
- inserts of a member
- removes that took out
- removes of an absent one
- reads
- writes
- locates
- keys taken with their gap
- waits for an entry
- waits for a key
- waits for a short lock
- values taken back
- inserts taken back
- removes taken back
- aborts with a request in hand
+// The label of line n.
+fn tell_label(n: u32) {
+    tell_line(
+        b" calls on both, of these\n   format\n   begin\n   put\n   step\n   commit\n   abort\n answered ok
+ answered more\n answered wait\n answered done\n refused, of these\n   by 3\n   by 4\n   by 5\n   by 6
+   by 7\n   by 8\n   by 9\n   by 10\n   by 11\n   by 12
+ roots split\n nodes below the root split\n joins with the left neighbour\n joins with the right neighbour
+ moves from the left neighbour\n moves from the right neighbour\n roots dropped
+ roots dropped and split in one step\n descriptors made\n descriptors made in a held gap
+ descriptors tidied\n tidies that declined\n tidies with nothing above\n inserts that added
+ inserts of a member\n removes that took out\n removes of an absent one\n reads\n writes\n locates
+ keys taken with their gap\n waits for an entry\n waits for a key\n waits for a short lock
+ values taken back\n inserts taken back\n removes taken back\n aborts with a request in hand
  commits with take-back records
+ whole comparisons of entries, tree and free count\n comparisons of a key's holders and members
+ comparisons of the lists\n waits and refusals that changed no word
+ committed sessions run on the logical model\n aborted sessions run on a copy of it
+ finished requests of sessions\n comparisons with the logical content\n aborts on copies for these
+ stores sound to the checker\n copies with a word changed sound to both judges
+ copies with a word changed refused by both, by 2\n levels of nodes at most\n descriptors at most
+ round of the first difference\n call in it\n number of the store\n number of the model\n differences
 ",
-    );
-}
-
-fn tell_compared(b: &Book) {
-    tell_rows(
-        b,
-        VIEWS,
-        DESCRIPTORS + 1,
-        b" whole comparisons of entries, tree and free count
- comparisons of a key's holders and members
- comparisons of the lists
- waits and refusals that changed no word
- committed sessions run on the logical model
- aborted sessions run on a copy of it
- finished requests of sessions
- comparisons with the logical content
- aborts on copies for these
- stores sound to the checker
- copies with a word changed sound to both judges
- copies with a word changed refused by both, by 2
- levels of nodes at most
- descriptors at most
-",
+        n,
     );
 }
 
 // What differs, by its number in book.
 fn tell_what(what: u32) {
-    let kinds: &[u8] = b"nothing
+    tell_line(
+        b"nothing
 the word of an answer
 the number of an answer
 the number beside it
 the party that a wait names
 the list
-the free count
 the value of an entry
 the share holders of an entry
 the exclusive holder of an entry
@@ -218,8 +76,9 @@ the update holders of a key
 the members of a key
 whether a key is stored
 the number of stored keys
-the number of nodes
 the height of the tree
+the free count
+the number of nodes
 a word that had to stay
 a word behind the store
 soundness
@@ -229,28 +88,54 @@ the abort of a copy
 the logical value of an entry
 the logical members of a key
 the soundness of a damaged copy
-";
-    tell_line(kinds, line_start(kinds, what));
+",
+        what,
+    );
 }
 
-// The first difference: the two numbers, and what differed.
-fn tell_first(b: &Book) {
-    if get(b, DIFFERENCES) == 0 {
-        return;
+// The line in whose place the number of line n stands: the model counts some events in another order, and a list is compared at each call.
+fn counter(n: u32) -> u32 {
+    match n {
+        42 => 49,
+        43 => 46,
+        44 => 47,
+        45 => 48,
+        46 => 42,
+        47 => 43,
+        48 => 44,
+        49 => 45,
+        53 => 0,
+        _ => n,
     }
-    tell(get(b, FIRST), b". round, call ");
-    tell(get(b, FIRST + 1), b": ");
-    tell(get(b, FIRST + 3), b" and ");
-    tell(get(b, FIRST + 4), b": ");
-    tell_what(get(b, FIRST + 2));
+}
+
+// The number of line n: from 22 to 50 an event of the model.
+fn number(a: &Model, b: &Book, n: u32) -> u32 {
+    let k = counter(n);
+    if 21 < k && k < 51 {
+        return naive::counted(a, k - 22);
+    }
+    get(b, LINES + wide(k))
+}
+
+fn tell_row(a: &Model, b: &Book, n: u32) {
+    io::print_decimal(STDOUT_FILENO, number(a, b, n) as u64);
+    tell_label(n);
+}
+
+fn tell_rows(a: &Model, b: &Book, from: u32, end: u32) {
+    let mut n = from;
+    while n < end {
+        tell_row(a, b, n);
+        n += 1;
+    }
 }
 
 pub fn report(a: &Model, b: &Book) {
-    tell_calls(b);
-    tell_refusals(b);
-    tell_tree(a);
-    tell_requests(a);
-    tell_compared(b);
-    tell_first(b);
-    tell(get(b, DIFFERENCES), b" differences\n");
+    tell_rows(a, b, 0, 65);
+    if get(b, DIFFERENCES) != 0 {
+        tell_rows(a, b, 65, 69);
+        tell_what(get(b, WHAT));
+    }
+    tell_row(a, b, 69);
 }

@@ -1,18 +1,14 @@
 // Seats: the session table of a side, 13 words a party.
-use schedules::words::Side;
-use schedules::words::get;
-use schedules::words::put;
+use schedules::side::Side;
+use schedules::side::set_word;
+use schedules::side::word;
 use schedules::words::wide;
 use sessions::PARTIES;
 use sessions::Session;
 
+// Word k of party p's record.
 fn seat_word(s: &Side, p: usize, k: usize) -> u32 {
-    if p < 17 {
-        if k < 13 {
-            return get(s, 13 * p + k);
-        }
-    }
-    0
+    word(s, 13 * (p % PARTIES) + k % 13)
 }
 
 fn seat(s: &Side, p: usize) -> Session {
@@ -44,39 +40,35 @@ pub fn table(s: &Side) -> [Session; PARTIES] {
     t
 }
 
-fn set_seat_word(s: &mut Side, p: usize, k: usize, x: u32) {
-    if p < 17 {
-        if k < 13 {
-            put(s, 13 * p + k, x);
-        }
+// Word k of a record.
+fn field(x: Session, k: usize) -> u32 {
+    match k {
+        0 => x.begun,
+        1 => x.code,
+        2 => x.entry,
+        3 => x.first,
+        4 => x.second,
+        5 => x.stage,
+        6 => x.target,
+        7 => x.at,
+        8 => x.level,
+        9 => x.low,
+        10 => x.high,
+        11 => x.last,
+        _ => x.undo,
     }
 }
 
-fn set_seat(s: &mut Side, p: usize, x: Session) {
-    set_seat_word(s, p, 0, x.begun);
-    set_seat_word(s, p, 1, x.code);
-    set_seat_word(s, p, 2, x.entry);
-    set_seat_word(s, p, 3, x.first);
-    set_seat_word(s, p, 4, x.second);
-    set_seat_word(s, p, 5, x.stage);
-    set_seat_word(s, p, 6, x.target);
-    set_seat_word(s, p, 7, x.at);
-    set_seat_word(s, p, 8, x.level);
-    set_seat_word(s, p, 9, x.low);
-    set_seat_word(s, p, 10, x.high);
-    set_seat_word(s, p, 11, x.last);
-    set_seat_word(s, p, 12, x.undo);
-}
-
 pub fn set_table(s: &mut Side, t: [Session; PARTIES]) {
-    let mut p = 0;
-    while p < PARTIES {
-        set_seat(s, p, t[p]);
-        p += 1;
+    let mut i = 0;
+    while i < 221 {
+        let x = t[i / 13];
+        set_word(s, i, field(x, i % 13));
+        i += 1;
     }
 }
 
 // Is session p begun?
 pub fn is_begun(s: &Side, p: u32) -> bool {
-    0 < p && p < 17 && get(s, 13 * wide(p)) != 0
+    0 < p && p < 17 && word(s, 13 * wide(p)) != 0
 }

@@ -1,35 +1,34 @@
 // Choose: the next call, by chance.
-use crate::keys::GROW;
-use crate::keys::MIX;
-use crate::keys::RISE;
-use crate::keys::SHRINK;
 use crate::keys::any_word;
-use crate::keys::key_of;
 use crate::keys::some_descriptor;
 use crate::keys::some_entry;
 use crate::keys::some_key;
 use crate::kinds::set_phase;
-use books::book::Book;
+use crate::shares::COMMITS;
+use crate::shares::HOUSEKEEPER;
+use crate::shares::RISE;
+use crate::shares::code;
+use crate::shares::share;
 use books::book::KEYS;
 use books::book::Model;
 use books::book::PHASE;
 use books::book::SESSIONS;
-use books::book::TURNS;
-use books::book::WAITED;
-use books::book::hand;
 use books::call;
 use books::call::Call;
 use books::call::plain;
-use schedules::logs::Logs;
-use schedules::logs::finished;
+use schedules::book::Book;
+use schedules::book::get;
+use schedules::logs::FINISHED;
+use schedules::logs::WAITED;
+use schedules::logs::hand;
 use schedules::random::below;
 use schedules::random::chance;
 use schedules::random::random;
 use schedules::reading::field;
-use schedules::words::Side;
-use schedules::words::difference;
-use schedules::words::get;
-use schedules::words::sum;
+use schedules::reading::key_of;
+use schedules::side::Side;
+use std::num::wrapping_add_u32;
+use std::num::wrapping_sub_u32;
 
 fn request(p: u32, code: u32, entry: u32, first: u32, second: u32) -> Call {
     Call {
@@ -42,81 +41,116 @@ fn request(p: u32, code: u32, entry: u32, first: u32, second: u32) -> Call {
     }
 }
 
-// A step, with a list that is mostly long.
+// How many words a step's list has: mostly many.
+fn list_words(b: &mut Book) -> u32 {
+    match below(b, 8) {
+        0 => below(b, 10),
+        1 => below(b, 80),
+        _ => 1024,
+    }
+}
+
 fn step(b: &mut Book, p: u32) -> Call {
-    let mut c = plain(call::STEP, p);
-    let k = below(b, 8);
-    if k == 0 {
-        c.first = below(b, 10);
-        return c;
+    Call {
+        kind: call::STEP,
+        party: p,
+        code: 0,
+        entry: 0,
+        first: list_words(b),
+        second: 0,
     }
-    if k == 1 {
-        c.first = below(b, 80);
-        return c;
+}
+
+fn format(entries: u32, words: u32) -> Call {
+    Call {
+        kind: call::FORMAT,
+        party: 0,
+        code: 0,
+        entry: entries,
+        first: words,
+        second: 0,
     }
-    c.first = 1024;
-    c
+}
+
+// A format of too few words.
+fn small_format(b: &mut Book) -> Call {
+    let m = 1 + below(b, 32) % 32;
+    let less = wrapping_add_u32(below(b, 20), 1);
+    format(m, wrapping_sub_u32(176 + 3 * m, less))
 }
 
 // A format that is refused: of no entries, of too many, or of too few words.
 fn bad_format(b: &mut Book) -> Call {
-    let mut c = plain(call::FORMAT, 0);
-    let k = below(b, 3);
-    if k == 0 {
-        c.first = below(b, 14112);
-        return c;
+    match below(b, 3) {
+        0 => format(0, below(b, 14112)),
+        1 => format(wrapping_add_u32(below(b, 4), 1025), 14112),
+        _ => small_format(b),
     }
-    if k == 1 {
-        c.entry = sum(1025, below(b, 4));
-        c.first = 14112;
-        return c;
-    }
-    c.entry = 1 + below(b, 32) % 32;
-    c.first = difference(176 + 3 * (c.entry % 64), 1 + below(b, 20) % 20);
-    c
 }
 
-// A call of any kind, by any party, with any words.
+// A number below n, or sometimes any.
+fn mostly_below(b: &mut Book, n: u32) -> u32 {
+    let x = below(b, n);
+    if chance(b, 1, 12) { random(b) } else { x }
+}
+
+// A call of a kind but format, by any party, with any words.
+fn any_call(b: &mut Book, kind: u32) -> Call {
+    Call {
+        kind: kind,
+        party: mostly_below(b, 19),
+        code: mostly_below(b, 8),
+        entry: any_word(b),
+        first: any_word(b),
+        second: any_word(b),
+    }
+}
+
 fn raw(b: &mut Book) -> Call {
     let kind = below(b, 6);
     if kind == call::FORMAT {
-        return bad_format(b);
+        bad_format(b)
+    } else {
+        any_call(b, kind)
     }
-    let mut c = plain(kind, below(b, 19));
-    if chance(b, 1, 12) {
-        c.party = random(b);
-    }
-    c.code = below(b, 8);
-    if chance(b, 1, 12) {
-        c.code = random(b);
-    }
-    c.entry = any_word(b);
-    c.first = any_word(b);
-    c.second = any_word(b);
-    c
 }
 
-// An entry out of a group in which it is, if one of some descriptors has members.
-fn take_out(s: &Side, b: &mut Book, p: u32) -> Call {
+// A descriptor with members, if one of some has any, or 0.
+fn some_group(s: &Side, b: &mut Book) -> u32 {
     let mut left = 6u32;
     while 0 < left {
         let d = some_descriptor(s, b);
-        let member = field(s, d, 6);
-        if member != 0 {
-            return request(p, 4, field(s, member, 2), key_of(s, d), 0);
+        if field(s, d, 6) != 0 {
+            return d;
         }
         left -= 1;
     }
-    let e = some_entry(b);
-    request(p, 4, e, some_key(s, b), 0)
+    0
 }
 
+// An insert or a remove of some entry at some key.
+fn some_change(s: &Side, b: &mut Book, p: u32, code: u32) -> Call {
+    let e = some_entry(b);
+    request(p, code, e, some_key(s, b), 0)
+}
+
+// A remove: mostly of an entry out of a group in which it is.
 fn remove(s: &Side, b: &mut Book, p: u32) -> Call {
     if chance(b, 3, 4) {
-        return take_out(s, b, p);
+        let d = some_group(s, b);
+        if d != 0 {
+            return request(p, 4, field(s, field(s, d, 6), 2), key_of(s, d), 0);
+        }
     }
-    let e = some_entry(b);
-    request(p, 4, e, some_key(s, b), 0)
+    some_change(s, b, p, 4)
+}
+
+// How far a range goes beyond its first key at most, where k is one of 3 to 7: 0 for to any key.
+fn reach(b: &Book, k: u32) -> u32 {
+    if k < 5 {
+        return 12;
+    }
+    if k < 7 && get(b, KEYS) != 0 { 1000 } else { 0 }
 }
 
 // A range from a key on: of that key alone, of some more, or to some other key.
@@ -125,13 +159,18 @@ fn range_end(s: &Side, b: &mut Book, first: u32) -> u32 {
     if k < 3 {
         return first;
     }
-    if k < 5 {
-        return sum(first, below(b, 12));
+    match reach(b, k) {
+        0 => some_key(s, b),
+        n => wrapping_add_u32(first, below(b, n)),
     }
-    if k < 7 && get(b, KEYS) != 0 {
-        return sum(first, below(b, 1000));
+}
+
+// A locate from one key to another, which is mostly not below it.
+fn range(b: &mut Book, p: u32, first: u32, second: u32) -> Call {
+    if second < first && !chance(b, 1, 10) {
+        return request(p, 5, random(b), second, first);
     }
-    some_key(s, b)
+    request(p, 5, random(b), first, second)
 }
 
 fn locate(s: &Side, b: &mut Book, p: u32) -> Call {
@@ -140,165 +179,127 @@ fn locate(s: &Side, b: &mut Book, p: u32) -> Call {
         return request(p, 5, 0, first, first);
     }
     let second = range_end(s, b, first);
-    if first <= second || chance(b, 1, 10) {
-        return request(p, 5, random(b), first, second);
-    }
-    request(p, 5, random(b), second, first)
+    range(b, p, first, second)
 }
 
-// How often of 32 a request is of at most this code, by phase.
-fn share(phase: u32, code: u32) -> u32 {
-    match phase {
-        GROW => match code {
-            1 => 2,
-            2 => 5,
-            3 => 23,
-            _ => 25,
-        },
-        MIX => match code {
-            1 => 5,
-            2 => 10,
-            3 => 19,
-            _ => 25,
-        },
-        SHRINK => match code {
-            1 => 1,
-            2 => 2,
-            3 => 3,
-            _ => 30,
-        },
-        _ => match code {
-            1 => 1,
-            2 => 2,
-            3 => 16,
-            _ => 16,
-        },
-    }
+fn write(b: &mut Book, p: u32) -> Call {
+    let e = some_entry(b);
+    request(p, 2, e, any_word(b), 0)
 }
 
 fn some_request(s: &Side, b: &mut Book, p: u32) -> Call {
-    let phase = get(b, PHASE);
     let k = below(b, 32);
-    if k < share(phase, 1) {
-        return request(p, 1, some_entry(b), 0, 0);
+    match code(b, k) {
+        1 => request(p, 1, some_entry(b), 0, 0),
+        2 => write(b, p),
+        3 => some_change(s, b, p, 3),
+        4 => remove(s, b, p),
+        _ => locate(s, b, p),
     }
-    if k < share(phase, 2) {
-        let e = some_entry(b);
-        return request(p, 2, e, any_word(b), 0);
-    }
-    if k < share(phase, 3) {
-        let e = some_entry(b);
-        return request(p, 3, e, some_key(s, b), 0);
-    }
-    if k < share(phase, 4) {
-        return remove(s, b, p);
-    }
-    locate(s, b, p)
 }
 
-// How often of 32 a session that has finished something commits.
-fn commit_share(phase: u32) -> u32 {
-    match phase {
-        GROW => 6,
-        MIX => 5,
-        SHRINK => 14,
-        _ => 8,
+// Does a session that has finished so many requests commit?
+fn commits(b: &mut Book, n: u32) -> bool {
+    if 190 < n {
+        return true;
     }
+    let k = share(b, COMMITS);
+    0 < n && chance(b, k, 32)
 }
 
 // A begun session with no request in hand.
-fn idle(s: &Side, b: &mut Book, l: &Logs, p: u32) -> Call {
-    let n = finished(l, p);
-    let phase = get(b, PHASE);
-    if 190 < n {
-        return plain(call::COMMIT, p);
+fn idle(s: &Side, b: &mut Book, p: u32) -> Call {
+    let n = get(b, hand(p) + FINISHED);
+    if commits(b, n) {
+        plain(call::COMMIT, p)
+    } else if chance(b, 1, 30) {
+        plain(call::ABORT, p)
+    } else {
+        some_request(s, b, p)
     }
-    if 0 < n && chance(b, commit_share(phase), 32) {
-        return plain(call::COMMIT, p);
-    }
-    if chance(b, 1, 30) {
-        return plain(call::ABORT, p);
-    }
-    some_request(s, b, p)
 }
 
 // A session with a request in hand: one that waits may give up.
 fn busy(b: &mut Book, p: u32) -> Call {
-    let waited = hand(b, p, WAITED);
+    let waited = get(b, hand(p) + WAITED);
     if waited != 0 && chance(b, 1, 30) {
-        return plain(call::ABORT, p);
+        plain(call::ABORT, p)
+    } else if chance(b, 1, 200) {
+        plain(call::ABORT, p)
+    } else {
+        step(b, p)
     }
-    if chance(b, 1, 200) {
-        return plain(call::ABORT, p);
-    }
-    step(b, p)
 }
 
 fn tidy(s: &Side, b: &mut Book) -> Call {
-    let k = below(b, 24);
-    if k == 0 {
-        return request(0, 6, 0, any_word(b), 0);
+    match below(b, 24) {
+        0 => request(0, 6, 0, any_word(b), 0),
+        1 => request(0, 6, 0, 0, 0),
+        _ => tidy_stored(s, b),
     }
-    if k == 1 {
-        return request(0, 6, 0, 0, 0);
-    }
+}
+
+// A tidy of a stored key.
+fn tidy_stored(s: &Side, b: &mut Book) -> Call {
     let key = key_of(s, some_descriptor(s, b));
-    request(0, 6, random(b), difference(key, 1), 0)
+    request(0, 6, random(b), wrapping_sub_u32(key, 1), 0)
 }
 
-fn housekeeper(s: &Side, a: &Model, b: &mut Book) -> Call {
-    if naive::in_hand(a, 0) {
-        return step(b, 0);
-    }
-    tidy(s, b)
-}
-
-// How often of 32 the housekeeper is called.
-fn housekeeper_share(phase: u32) -> u32 {
-    match phase {
-        GROW => 2,
-        MIX => 5,
-        SHRINK => 16,
-        _ => 1,
-    }
+// Any session.
+fn any_session(b: &mut Book) -> u32 {
+    let n = get(b, SESSIONS);
+    wrapping_add_u32(below(b, n), 1)
 }
 
 // A session, less often one whose last step waited.
 fn some_session(b: &mut Book) -> u32 {
-    let n = get(b, SESSIONS);
-    let p = sum(below(b, n), 1);
-    if hand(b, p, WAITED) != 0 {
-        return sum(below(b, n), 1);
+    let p = any_session(b);
+    if get(b, hand(p) + WAITED) != 0 {
+        any_session(b)
+    } else {
+        p
     }
-    p
 }
 
-fn choose(s: &Side, a: &Model, b: &mut Book, l: &Logs) -> Call {
+// A call of a session, as it stands.
+fn of_session(s: &Side, a: &Model, b: &mut Book) -> Call {
+    let p = some_session(b);
+    if naive::in_hand(a, p) {
+        busy(b, p)
+    } else if naive::begun(a, p) {
+        idle(s, b, p)
+    } else {
+        plain(call::BEGIN, p)
+    }
+}
+
+fn housekeeper(s: &Side, a: &Model, b: &mut Book) -> Call {
+    if naive::in_hand(a, 0) {
+        step(b, 0)
+    } else {
+        tidy(s, b)
+    }
+}
+
+fn choose(s: &Side, a: &Model, b: &mut Book) -> Call {
     if chance(b, 1, 24) {
         return raw(b);
     }
-    let phase = get(b, PHASE);
-    if chance(b, housekeeper_share(phase), 32) {
-        return housekeeper(s, a, b);
+    let n = share(b, HOUSEKEEPER);
+    if chance(b, n, 32) {
+        housekeeper(s, a, b)
+    } else {
+        of_session(s, a, b)
     }
-    let p = some_session(b);
-    if !naive::begun(a, p) {
-        return plain(call::BEGIN, p);
-    }
-    if naive::in_hand(a, p) {
-        return busy(b, p);
-    }
-    idle(s, b, l, p)
 }
 
 // The call of this turn of the round.
-pub fn next(s: &Side, a: &Model, b: &mut Book, l: &Logs, turn: u32) -> Call {
-    let turns = get(b, TURNS);
-    set_phase(b, turn, turns);
-    choose(s, a, b, l)
+pub fn next(s: &Side, a: &Model, b: &mut Book, turn: u32) -> Call {
+    set_phase(b, turn);
+    choose(s, a, b)
 }
 
 // Session i of a sequence of all sixteen, which x picks.
 pub fn in_sequence(x: u32, i: u32) -> u32 {
-    1 + sum(x >> 8, i ^ (x % 16)) % 16
+    1 + wrapping_add_u32(x >> 8, i ^ (x % 16)) % 16
 }

@@ -1,89 +1,86 @@
 // Keys: random keys and entries, as the round wants them.
-use books::book::Book;
+use crate::shares::RISE;
+use crate::shares::STORED;
+use crate::shares::share;
 use books::book::ENTRIES;
 use books::book::KEYS;
 use books::book::PHASE;
 use books::book::RANGE;
 use books::book::RISEN;
 use books::book::ROUND;
-use schedules::content::with_word;
+use schedules::book::Book;
+use schedules::book::get;
+use schedules::book::put;
 use schedules::random::below;
 use schedules::random::chance;
 use schedules::random::random;
+use schedules::random::with_word;
+use schedules::reading::FIRST;
 use schedules::reading::descriptor;
-use schedules::reading::descriptors;
-use schedules::reading::field;
-use schedules::words::Side;
-use schedules::words::difference;
-use schedules::words::get;
-use schedules::words::put;
-use schedules::words::sum;
+use schedules::reading::key_of;
+use schedules::reading::length;
+use schedules::side::Side;
+use std::num::wrapping_add_u32;
+use std::num::wrapping_sub_u32;
 
-// What the sessions are mostly at.
-pub const GROW: u32 = 0;
-
-pub const MIX: u32 = 1;
-
-pub const SHRINK: u32 = 2;
-
-pub const RISE: u32 = 3;
+// One of so many numbers as the round has keys.
+fn in_range(b: &mut Book) -> u32 {
+    let range = get(b, RANGE);
+    below(b, range)
+}
 
 // A key of the whole range: one of so many that are fixed for the round, or one at an end.
 fn whole_key(b: &mut Book) -> u32 {
     if chance(b, 1, 16) {
-        return sum(below(b, 5), 4294967292);
+        return wrapping_add_u32(below(b, 5), 4294967292);
     }
-    let round = get(b, ROUND);
-    let range = get(b, RANGE);
-    with_word(round, below(b, range))
+    let k = in_range(b);
+    with_word(get(b, ROUND), k)
 }
 
 // A key packed of a high and a low part, as document 01's planner packs driver and minute.
 fn packed_key(b: &mut Book) -> u32 {
-    let high = 1 + below(b, 6) % 6;
-    let range = get(b, RANGE);
-    sum(high << 20, below(b, range))
+    let high = wrapping_add_u32(below(b, 6), 1) << 20;
+    wrapping_add_u32(high, in_range(b))
 }
 
 // A key a little above the last one.
 fn rising_key(b: &mut Book) -> u32 {
-    let last = get(b, RISEN);
-    let k = sum(last, 1 + below(b, 3) % 3);
+    let last = wrapping_add_u32(get(b, RISEN), 1);
+    let k = wrapping_add_u32(last, below(b, 3));
     put(b, RISEN, k);
     k
 }
 
-// A key of the round, stored or not.
-pub fn fresh_key(b: &mut Book) -> u32 {
+// Which keys are made: 3 in a rising row.
+fn keys(b: &Book) -> u32 {
     if get(b, PHASE) == RISE {
-        return rising_key(b);
+        3
+    } else {
+        get(b, KEYS)
     }
-    let kind = get(b, KEYS);
-    if kind == 0 {
-        let range = get(b, RANGE);
-        return sum(below(b, range), 1);
+}
+
+// A key of the round, stored or not.
+fn fresh_key(b: &mut Book) -> u32 {
+    match keys(b) {
+        0 => wrapping_add_u32(in_range(b), 1),
+        1 => whole_key(b),
+        2 => packed_key(b),
+        _ => rising_key(b),
     }
-    if kind == 1 {
-        return whole_key(b);
-    }
-    packed_key(b)
 }
 
 // Some descriptor.
 pub fn some_descriptor(s: &Side, b: &mut Book) -> u32 {
-    let n = descriptors(s);
-    descriptor(s, below(b, n))
-}
-
-pub fn key_of(s: &Side, d: u32) -> u32 {
-    field(s, d, 1)
+    descriptor(s, below(b, length(s, FIRST)))
 }
 
 // A stored key, or sometimes one beside it.
-pub fn stored_key(s: &Side, b: &mut Book) -> u32 {
+fn stored_key(s: &Side, b: &mut Book) -> u32 {
     let k = key_of(s, some_descriptor(s, b));
     if chance(b, 1, 6) {
-        return difference(sum(k, below(b, 3)), 1);
+        return wrapping_sub_u32(wrapping_add_u32(k, below(b, 3)), 1);
     }
     if k == 0 {
         return fresh_key(b);
@@ -91,49 +88,32 @@ pub fn stored_key(s: &Side, b: &mut Book) -> u32 {
     k
 }
 
-// How often of 8 a key is a stored one.
-fn stored_share(b: &Book) -> u32 {
-    let phase = get(b, PHASE);
-    if phase == GROW {
-        return 1;
-    }
-    if phase == MIX {
-        return 4;
-    }
-    if phase == RISE {
-        return 0;
-    }
-    7
-}
-
 pub fn some_key(s: &Side, b: &mut Book) -> u32 {
-    let share = stored_share(b);
-    if chance(b, share, 8) {
-        return stored_key(s, b);
+    let n = share(b, STORED);
+    if chance(b, n, 8) {
+        stored_key(s, b)
+    } else {
+        fresh_key(b)
     }
-    fresh_key(b)
 }
 
 // An entry, sometimes one that is none.
 pub fn some_entry(b: &mut Book) -> u32 {
     let m = get(b, ENTRIES);
     if chance(b, 1, 40) {
-        return sum(m, 1);
+        return wrapping_add_u32(m, 1);
     }
     if chance(b, 1, 80) {
         return 0;
     }
-    sum(below(b, m), 1)
+    wrapping_add_u32(below(b, m), 1)
 }
 
 // Any word, mostly a small one.
 pub fn any_word(b: &mut Book) -> u32 {
-    let k = below(b, 4);
-    if k == 0 {
-        return random(b);
+    match below(b, 4) {
+        0 => random(b),
+        1 => wrapping_sub_u32(below(b, 8), 4),
+        _ => below(b, 20),
     }
-    if k == 1 {
-        return difference(below(b, 8), 4);
-    }
-    below(b, 20)
 }

@@ -8,35 +8,21 @@
 mod make;
 mod rounds;
 
-use books::book::BOOK;
-use books::call::LISTS;
 use books::report::report;
 use rounds::round;
-use schedules::content::CONTENT;
-use schedules::logs::LOGS;
-use schedules::words::SIDE;
+use schedules::book::BOOK;
+use schedules::side::SIDES;
 
 const ROUNDS: u32 = 40;
 
 fn main() {
-    let mut s = [0u32; SIDE];
-    let mut lists = [0u32; LISTS];
+    let mut s = [0u32; SIDES];
     let mut a = [0u32; naive::SIZE];
     let mut b = [0u32; BOOK];
-    let mut l = [0u32; LOGS];
-    let mut content = [0u32; CONTENT];
     b[0] = 19890229;
     let mut number = 0;
     while number < ROUNDS {
-        round(
-            &mut s,
-            &mut lists,
-            &mut a,
-            &mut b,
-            &mut l,
-            &mut content,
-            number,
-        );
+        round(&mut s, &mut a, &mut b, number);
         number += 1;
     }
     report(&a, &b);

@@ -1,51 +1,53 @@
 // Make: a call made on both, and all that is compared after it.
 use books::book::ASKED;
-use books::book::Book;
+use books::book::CALL;
 use books::book::Model;
-use books::book::is_due;
+use books::call::COMMIT;
 use books::call::Call;
-use books::call::Lists;
+use books::call::OK;
 use books::call::store_words;
 use books::looks::see;
 use comparing::content::see_copy;
 use comparing::judge::judge;
 use comparing::serve::on_store;
-use schedules::content::Content;
-use schedules::logs::Logs;
-use schedules::words::SIDE;
-use schedules::words::Side;
-use schedules::words::copy;
+use schedules::book::Book;
+use schedules::book::get;
+use schedules::side::SIDE;
+use schedules::side::Side;
+use schedules::side::copy;
 use turns::answers::is_still;
 use turns::answers::see_call;
 use turns::hands::after;
 use turns::model::on_model;
 
-// The checker is asked, at every so many calls.
-fn judge_due(s: &Side, b: &mut Book) {
-    if is_due(b, ASKED) {
+// Is the checker to be asked at this call?
+fn is_due(b: &Book) -> bool {
+    let every = get(b, ASKED);
+    if every == 0 {
+        return false;
+    }
+    get(b, CALL) % every == 0
+}
+
+// What is compared whole: the content at a commit, everything at a call that may have changed a word; and the checker is asked, at every so many calls.
+fn look(s: &mut Side, a: &Model, b: &mut Book, is_commit: bool, is_change: bool) {
+    if is_commit {
+        see_copy(s, b);
+    }
+    if is_change {
+        see(s, a, b);
+    }
+    if is_due(b) {
         judge(s, b);
     }
 }
 
-pub fn make(
-    s: &mut Side,
-    lists: &mut Lists,
-    a: &mut Model,
-    b: &mut Book,
-    l: &mut Logs,
-    content: &mut Content,
-    c: Call,
-) {
-    let mut old = [0u32; SIDE];
-    copy(s, &mut old);
-    let x = on_store(s, lists, store_words(b, c), c);
-    let y = on_model(a, lists, c);
-    see_call(s, &old, lists, b, c, x, y);
-    if after(lists, b, l, content, c, x) {
-        see_copy(s, b, content);
-    }
-    if !is_still(x) {
-        see(s, a, b);
-    }
-    judge_due(s, b);
+pub fn make(s: &mut Side, a: &mut Model, b: &mut Book, c: Call) {
+    copy(s, 0, SIDE);
+    let x = on_store(s, b, store_words(b, c), c);
+    let y = on_model(a, b, c);
+    see_call(s, b, c.kind, x, y);
+    after(b, c, x.word, x.first);
+    let is_commit = c.kind == COMMIT && x.word == OK;
+    look(s, a, b, is_commit, !is_still(x.word, x.first));
 }

@@ -1,44 +1,40 @@
 // Content: the store with every unfinished session aborted, compared with the logical model.
 use crate::serve::on_store;
-use books::book::Book;
 use books::book::WORDS;
 use books::call::ABORT;
-use books::call::LISTS;
-use books::call::Lists;
 use books::call::plain;
 use books::contents::see_all;
 use books::seats::is_begun;
 use choices::choose::in_sequence;
-use schedules::content::Content;
+use schedules::book::Book;
+use schedules::book::get;
 use schedules::random::random;
-use schedules::words::SIDE;
-use schedules::words::Side;
-use schedules::words::copy;
-use schedules::words::get;
+use schedules::side::SIDE;
+use schedules::side::Side;
+use schedules::side::copy;
 use turns::answers::see_abort;
 
-fn abort_one(s: &mut Side, lists: &mut Lists, b: &mut Book, p: u32) {
-    if !is_begun(s, p) {
-        return;
+fn abort_one(s: &mut Side, b: &mut Book, p: u32) {
+    if is_begun(s, p) {
+        let words = get(b, WORDS);
+        let x = on_store(s, b, words, plain(ABORT, p));
+        see_abort(b, x);
     }
-    let x = on_store(s, lists, get(b, WORDS), plain(ABORT, p));
-    see_abort(b, p, x);
 }
 
 fn abort_all(s: &mut Side, b: &mut Book) {
-    let mut lists = [0u32; LISTS];
     let x = random(b);
     let mut i = 0;
     while i < 16 {
-        abort_one(s, &mut lists, b, in_sequence(x, i));
+        abort_one(s, b, in_sequence(x, i));
         i += 1;
     }
 }
 
-// A copy of the store in which all that are begun are aborted has what the content has.
-pub fn see_copy(s: &Side, b: &mut Book, c: &Content) {
-    let mut spare = [0u32; SIDE];
-    copy(s, &mut spare);
-    abort_all(&mut spare, b);
-    see_all(&spare, b, c);
+// The store has what the content has, once all that are begun are aborted. Then it is as it was.
+pub fn see_copy(s: &mut Side, b: &mut Book) {
+    copy(s, 0, SIDE);
+    abort_all(s, b);
+    see_all(s, b);
+    copy(s, SIDE, 0);
 }

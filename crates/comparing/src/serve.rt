@@ -4,7 +4,6 @@ use books::call::COMMIT;
 use books::call::Call;
 use books::call::DONE;
 use books::call::FORMAT;
-use books::call::Lists;
 use books::call::MORE;
 use books::call::OK;
 use books::call::PUT;
@@ -18,9 +17,10 @@ use books::seats::table;
 use naive_steps::party::Said;
 use outcomes::Answer;
 use outcomes::Served;
-use schedules::words::STORE;
-use schedules::words::Side;
-use schedules::words::TABLE;
+use schedules::book::Book;
+use schedules::book::LISTS;
+use schedules::side::Side;
+use schedules::side::TABLE;
 use schedules::words::wide;
 use sessions::PARTIES;
 use sessions::Session;
@@ -29,22 +29,14 @@ use sessions::Session;
 fn served(store: &mut [u32], list: &mut [u32], t: [Session; PARTIES], c: Call) -> Served {
     let kind = c.kind;
     let p = c.party;
-    if kind == FORMAT {
-        return calls::format(store, t, c.entry);
+    match kind {
+        FORMAT => calls::format(store, t, c.entry),
+        BEGIN => calls::begin(store, t, p),
+        PUT => calls::put(store, t, p, c.code, c.entry, c.first, c.second),
+        STEP => calls::step(store, list, t, p),
+        COMMIT => calls::commit(store, t, p),
+        _ => calls::abort(store, t, p),
     }
-    if kind == BEGIN {
-        return calls::begin(store, t, p);
-    }
-    if kind == PUT {
-        return calls::put(store, t, p, c.code, c.entry, c.first, c.second);
-    }
-    if kind == STEP {
-        return calls::step(store, list, t, p);
-    }
-    if kind == COMMIT {
-        return calls::commit(store, t, p);
-    }
-    calls::abort(store, t, p)
 }
 
 // No such call: the sizes are wrong.
@@ -55,33 +47,19 @@ fn unserved(t: [Session; PARTIES]) -> Served {
     }
 }
 
-// The call on a store, lent so many words of the list.
-fn with_list(
-    store: &mut [u32],
-    lists: &mut [u32],
-    t: [Session; PARTIES],
-    c: Call,
-    listed: usize,
-) -> Served {
-    if listed <= lists.len() {
-        return served(store, &mut lists[0..listed], t, c);
-    }
-    unserved(t)
-}
-
-// The call on the store of a side, lent so many words of it.
+// The call on the store of a side, lent so many words of it, and of the list in the book as many as the call names.
 fn with_store(
     side: &mut [u32],
-    lists: &mut [u32],
+    book: &mut [u32],
     t: [Session; PARTIES],
     c: Call,
-    words: usize,
-    listed: usize,
+    words: u32,
 ) -> Served {
-    if words <= STORE {
-        let end = TABLE + words;
-        if end <= side.len() {
-            return with_list(&mut side[TABLE..end], lists, t, c, listed);
+    let end = TABLE + wide(words);
+    let list_end = LISTS + listed(c.first);
+    if end <= side.len() {
+        if list_end <= book.len() {
+            return served(&mut side[TABLE..end], &mut book[LISTS..list_end], t, c);
         }
     }
     unserved(t)
@@ -89,31 +67,19 @@ fn with_store(
 
 fn said(a: Answer) -> Said {
     match a {
-        Answer::Ok => {
-            return say(OK, 0, 0);
-        }
-        Answer::More => {
-            return say(MORE, 0, 0);
-        }
-        Answer::Wait(q) => {
-            return say(WAIT, q, 0);
-        }
-        Answer::Done(k) => {
-            return say(DONE, k, 0);
-        }
-        Answer::Tidied(key, is_gone) => {
-            return say(DONE, key, is_gone);
-        }
-        Answer::Refused(n, beside) => {
-            return say(REFUSED, n, beside);
-        }
+        Answer::Ok => say(OK, 0, 0),
+        Answer::More => say(MORE, 0, 0),
+        Answer::Wait(q) => say(WAIT, q, 0),
+        Answer::Done(k) => say(DONE, k, 0),
+        Answer::Tidied(key, is_gone) => say(DONE, key, is_gone),
+        Answer::Refused(n, beside) => say(REFUSED, n, beside),
     }
 }
 
 // The call on the store, whose words are so many.
-pub fn on_store(s: &mut Side, lists: &mut Lists, words: u32, c: Call) -> Said {
+pub fn on_store(s: &mut Side, b: &mut Book, words: u32, c: Call) -> Said {
     let t = table(s);
-    let x = with_store(s, lists, t, c, wide(words), listed(c));
+    let x = with_store(s, b, t, c, words);
     let after = x.table;
     let answer = x.answer;
     set_table(s, after);

@@ -1,85 +1,53 @@
-// Logs: what each session has finished since its begin: code and arguments of each request, and what it answered.
+// Logs: the request in hand of each party, and what each session has finished since its begin: code and arguments of each request, and what it answered.
 ghost use Prim.Native.Nat.{_<_};
-use super::content::Answered;
-use super::content::Content;
+use super::book::Book;
+use super::book::HANDS;
+use super::book::LOGS;
+use super::book::copy;
+use super::book::get;
+use super::book::put;
 use super::content::run;
-use super::words::get;
-use super::words::put;
 use super::words::wide;
 
-// A session has a count and room for 200 requests of 6 words: 1,202 with one to spare.
-pub const ROOM: u32 = 200;
+// The words of a hand: code, entry, first, second; whether its last step waited; how many requests the session has finished.
+pub const WAITED: usize = 4;
 
-pub const LOGS: usize = 20434;
+pub const FINISHED: usize = 5;
 
-pub type Logs = [u32; LOGS];
+// Where the hand of a party stands.
+pub fn hand(p: u32) -> usize
+    ensures { λ r. ⌜ r < 1000 ⌝ }
+{
+    HANDS + 8 * wide(p % 17)
+}
 
-fn place(p: u32) -> usize
+// Where request i of session p stands: code, entry, first, second and what it answered. There is room for 200.
+fn logged(p: u32, i: u32) -> usize
     ensures { λ r. ⌜ r < 100000 ⌝ }
 {
-    if p < 17 {
-        return 1202 * wide(p);
-    }
-    0
+    LOGS + 1000 * wide(p % 17) + 5 * wide(i % 200)
 }
 
-// How many requests are in the log of session p.
-pub fn finished(l: &Logs, p: u32) -> u32 {
-    get(l, place(p))
-}
-
-pub fn forget(l: &mut Logs, p: u32) {
-    put(l, place(p), 0);
-}
-
-fn word(l: &Logs, p: u32, i: u32, k: usize) -> u32 {
-    if k < 6 {
-        return get(l, place(p) + 1 + 6 * wide(i) + k);
-    }
-    0
-}
-
-fn set_word(l: &mut Logs, p: u32, i: u32, k: usize, x: u32) {
-    if k < 6 {
-        put(l, place(p) + 1 + 6 * wide(i) + k, x);
-    }
-}
-
-// A request more. One that has no room is left out: the program ends a session before that.
-pub fn add(l: &mut Logs, p: u32, code: u32, entry: u32, first: u32, second: u32, x: Answered) {
-    let n = finished(l, p);
-    if ROOM <= n {
-        return;
-    }
-    set_word(l, p, n, 0, code);
-    set_word(l, p, n, 1, entry);
-    set_word(l, p, n, 2, first);
-    set_word(l, p, n, 3, second);
-    set_word(l, p, n, 4, x.answer);
-    set_word(l, p, n, 5, x.words);
-    put(l, place(p), n + 1);
-}
-
-// Runs request i of session p, and says whether it answers what it answered in the store.
-fn is_right(l: &Logs, c: &mut Content, p: u32, i: u32) -> bool {
-    let code = word(l, p, i, 0);
-    let entry = word(l, p, i, 1);
-    let first = word(l, p, i, 2);
-    let second = word(l, p, i, 3);
-    let x = run(c, code, entry, first, second);
-    x.answer == word(l, p, i, 4) && x.words == word(l, p, i, 5)
+// The request in hand is finished, and this is what it answered.
+pub fn add(b: &mut Book, p: u32, answer: u32) {
+    let from = hand(p);
+    let n = get(b, from + FINISHED);
+    let to = logged(p, n);
+    copy(b, from, to, 4);
+    put(b, to + 4, answer);
+    put(b, from + FINISHED, n % 200 + 1);
 }
 
 // Runs what session p has finished, in turn; the number of the first request that answers something else, from 1, or 0.
-pub fn replay(l: &Logs, c: &mut Content, p: u32) -> u32 {
-    let n = finished(l, p);
-    let mut wrong = 0;
+pub fn replay(b: &mut Book, p: u32) -> u32 {
+    let n = get(b, hand(p) + FINISHED);
     let mut i = 0;
     while i < n {
-        if !is_right(l, c, p, i) && wrong == 0 {
-            wrong = i + 1;
-        }
+        let at = logged(p, i);
         i += 1;
+        if run(b, at) != get(b, at + 4) {
+            return i;
+        }
     }
-    wrong
+    0
 }

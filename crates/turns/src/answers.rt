@@ -3,14 +3,12 @@ use books::book::ABORT;
 use books::book::ANSWERED;
 use books::book::BESIDE;
 use books::book::BEYOND;
-use books::book::Book;
 use books::book::CALL;
 use books::book::COPIES_ABORTED;
 use books::book::ENTRIES;
+use books::book::LINES;
 use books::book::LISTED;
-use books::book::LISTS_SEEN;
 use books::book::MADE;
-use books::book::NAMED;
 use books::book::NUMBER;
 use books::book::RECORDS;
 use books::book::REFUSED;
@@ -20,99 +18,93 @@ use books::book::WORD;
 use books::book::differ;
 use books::book::same;
 use books::call;
-use books::call::Call;
-use books::call::LIST;
-use books::call::Lists;
 use naive_steps::party::Said;
-use schedules::words::Side;
-use schedules::words::TABLE;
-use schedules::words::are_same;
-use schedules::words::are_same_from;
-use schedules::words::count;
-use schedules::words::get;
-use schedules::words::has_bit;
+use schedules::book::Book;
+use schedules::book::LISTS;
+use schedules::book::count;
+use schedules::book::get;
+use schedules::side::Side;
+use schedules::side::is_kept;
+use schedules::words::bit;
 use schedules::words::wide;
 
-fn count_answer(b: &mut Book, c: Call, x: Said) {
-    if c.kind < 6 {
-        count(b, MADE + wide(c.kind));
-    }
-    if x.word < 5 {
-        count(b, ANSWERED + wide(x.word));
-    }
-    if x.word == call::REFUSED {
-        if x.first < 13 {
-            count(b, REFUSED + wide(x.first));
+fn count_answer(b: &mut Book, kind: u32, word: u32, first: u32) {
+    count(b, LINES);
+    count(b, MADE + wide(kind));
+    count(b, ANSWERED + wide(word));
+    if word == call::REFUSED {
+        if 2 < first {
+            count(b, REFUSED + wide(first));
         }
     }
 }
 
-// The store's answer is the model's; the party that a wait names is one of those in the way.
-fn see_answer(b: &mut Book, x: Said, y: Said) {
-    if x.word != y.word {
-        differ(b, WORD, x.word, y.word);
-        return;
-    }
-    if x.word == call::WAIT {
-        if !has_bit(y.first, x.first) {
-            differ(b, NAMED, x.first, y.first);
+// The number that the store has to say, where the model said this one: a wait names one of those in the way.
+fn wanted(word: u32, number: u32, model: u32) -> u32 {
+    if word == call::WAIT {
+        if model & bit(number) != 0 {
+            return number;
         }
-        return;
     }
-    same(b, NUMBER, x.first, y.first);
-    same(b, BESIDE, x.second, y.second);
+    model
 }
 
-// The two lists are the same in every word.
-fn see_lists(b: &mut Book, lists: &Lists) {
-    count(b, LISTS_SEEN);
+// In which bits some word of the two lists is not the same.
+fn lists(b: &Book) -> u32 {
     let mut x = 0;
-    let mut i = 0;
-    while i < LIST {
-        x = x | (lists[i] ^ lists[i + 1024]);
+    let mut i = LISTS;
+    while i < 1536 {
+        x = x | (get(b, i) ^ get(b, i + 1024));
         i += 1;
     }
-    same(b, LISTED, x, 0);
+    x
+}
+
+// The store's answer is the model's, and so is its list.
+fn see_answer(b: &mut Book, x: Said, y: Said) {
+    same(b, WORD, x.word, y.word);
+    same(b, NUMBER, x.first, wanted(x.word, x.first, y.first));
+    same(b, BESIDE, x.second, y.second);
+    let bits = lists(b);
+    same(b, LISTED, bits, 0);
 }
 
 // A wait changes no word, and neither does a refusal but 11 and 12.
-pub fn is_still(x: Said) -> bool {
-    if x.word == call::WAIT {
-        return true;
+pub fn is_still(word: u32, first: u32) -> bool {
+    match word {
+        call::WAIT => true,
+        call::REFUSED => first != 11 && first != 12,
+        _ => false,
     }
-    if x.word == call::REFUSED {
-        return x.first != 11 && x.first != 12;
-    }
-    false
 }
 
-fn see_words(s: &Side, old: &Side, b: &mut Book, x: Said) {
-    if is_still(x) {
+// Where the words behind the store begin.
+fn end(b: &Book) -> usize {
+    237 + 3 * wide(get(b, ENTRIES)) + 20 * wide(get(b, RECORDS))
+}
+
+// The call changed no word at all, or none behind the store.
+fn see_words(s: &Side, b: &mut Book, word: u32, first: u32) {
+    if is_still(word, first) {
         count(b, UNCHANGED);
-        if !are_same(s, old) {
-            differ(b, TOUCHED, x.word, x.first);
+        if !is_kept(s, 0) {
+            differ(b, TOUCHED, word, first);
         }
-        return;
-    }
-    let end = TABLE + 16 + 3 * wide(get(b, ENTRIES)) + 20 * wide(get(b, RECORDS));
-    if !are_same_from(s, old, end) {
-        differ(b, BEYOND, x.word, x.first);
+    } else if !is_kept(s, end(b)) {
+        differ(b, BEYOND, word, first);
     }
 }
 
-// All that is seen after a call: the store was old before it, and store and model said x and y.
-pub fn see_call(s: &Side, old: &Side, lists: &Lists, b: &mut Book, c: Call, x: Said, y: Said) {
+// All that is seen after a call of a kind: the side has a copy from before it, and store and model said x and y.
+pub fn see_call(s: &Side, b: &mut Book, kind: u32, x: Said, y: Said) {
     count(b, CALL);
-    count_answer(b, c, x);
+    count_answer(b, kind, x.word, x.first);
     see_answer(b, x, y);
-    see_lists(b, lists);
-    see_words(s, old, b, x);
+    see_words(s, b, x.word, x.first);
 }
 
-// The abort of session p on a copy said x.
-pub fn see_abort(b: &mut Book, p: u32, x: Said) {
+// The abort of a session on a copy said x.
+pub fn see_abort(b: &mut Book, x: Said) {
     count(b, COPIES_ABORTED);
-    if x.word != call::OK {
-        differ(b, ABORT, p, x.first);
-    }
+    same(b, ABORT, x.word, call::OK);
 }

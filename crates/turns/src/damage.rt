@@ -1,40 +1,34 @@
 // Damage: one word of a side changed, by chance.
-use books::book::Book;
 use books::book::RECORDS;
 use books::book::WORDS;
+use schedules::book::Book;
+use schedules::book::get;
 use schedules::random::below;
 use schedules::random::random;
-use schedules::words::Side;
 use schedules::words::bit;
-use schedules::words::difference;
-use schedules::words::get;
-use schedules::words::put;
-use schedules::words::sum;
 use schedules::words::wide;
+use std::num::wrapping_add_u32;
+use std::num::wrapping_sub_u32;
 
-// Another value for a word: a little more or less, a record's number, a bit turned, any word.
-fn other(b: &mut Book, x: u32) -> u32 {
-    let k = below(b, 5);
-    if k == 0 {
-        return sum(x, 1);
-    }
-    if k == 1 {
-        return difference(x, 1);
-    }
-    if k == 2 {
-        let records = get(b, RECORDS);
-        return below(b, sum(records, 2));
-    }
-    if k == 3 {
-        return x ^ bit(below(b, 17));
-    }
-    random(b)
+// A place in the table or in the store.
+pub fn place(b: &mut Book) -> usize {
+    let end = wrapping_add_u32(get(b, WORDS), 221);
+    wide(below(b, end))
 }
 
-// Changes one word of the table or of the store.
-pub fn change(s: &mut Side, b: &mut Book) {
-    let words = get(b, WORDS);
-    let at = wide(below(b, sum(words, 221)));
-    let x = other(b, get(s, at));
-    put(s, at, x);
+// A record's number, or one that is none.
+fn record(b: &mut Book) -> u32 {
+    let end = wrapping_add_u32(get(b, RECORDS), 2);
+    below(b, end)
+}
+
+// Another value for a word: a little more or less, a record's number, a bit turned, any word.
+pub fn other(b: &mut Book, x: u32) -> u32 {
+    match below(b, 5) {
+        0 => wrapping_add_u32(x, 1),
+        1 => wrapping_sub_u32(x, 1),
+        2 => record(b),
+        3 => x ^ bit(below(b, 17)),
+        _ => random(b),
+    }
 }

@@ -5,10 +5,10 @@ use Rattle.compare.proofs.main.Statement.{statement}
 use Rattle.compare.proofs.main.Tie as tie
 
 abbrev Inv-loop : tie.InvT-loop
-Inv-loop s₀ lists₀ a₀ b₀ l₀ content₀ number₀ s lists a b l content number = Unit {0}
+Inv-loop s₀ a₀ b₀ number₀ s a b number = Unit {0}
 
 abbrev μ-loop : tie.MeasureT-loop
-μ-loop s₀ lists₀ a₀ b₀ l₀ content₀ number₀ s lists a b l content number = 40 - number
+μ-loop s₀ a₀ b₀ number₀ s a b number = 40 - number
 
 array-write-b : tie.Need-array-write-b Inv-loop μ-loop
 array-write-b c = search needs

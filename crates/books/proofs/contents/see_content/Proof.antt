@@ -5,13 +5,10 @@ use Rattle.books.proofs.contents.see_content.Statement.{statement}
 use Rattle.books.proofs.contents.see_content.Tie as tie
 
 abbrev Inv-loop : tie.InvT-loop
-Inv-loop v n b₀ c k i₀ b i = Unit {0}
+Inv-loop s b₀ i₀ b i = Unit {0}
 
 abbrev μ-loop : tie.MeasureT-loop
-μ-loop v n b₀ c k i₀ b i = k - i
-
-keys-requires : tie.Need-keys-requires Inv-loop μ-loop
-keys-requires c κs = search needs
+μ-loop s b₀ i₀ b i = 1024 - i
 
 loop-holds : tie.Need-loop-holds Inv-loop μ-loop
 loop-holds c = search needs
@@ -19,14 +16,11 @@ loop-holds c = search needs
 key-requires : tie.Need-key-requires Inv-loop μ-loop
 key-requires c κs = search needs
 
-members-of-requires : tie.Need-members-of-requires Inv-loop μ-loop
-members-of-requires c κs = search needs
+returns : tie.Need-returns Inv-loop μ-loop
+returns c = search needs
 
-group-requires : tie.Need-group-requires Inv-loop μ-loop
-group-requires c κs = search needs
-
-same-requires : tie.Need-same-requires Inv-loop μ-loop
-same-requires c κs = search needs
+see-group-requires : tie.Need-see-group-requires Inv-loop μ-loop
+see-group-requires c κs = search needs
 
 add-i : tie.Need-add-i Inv-loop μ-loop
 add-i c = search needs
@@ -37,8 +31,8 @@ loop-less c = search needs
 loop-again : tie.Need-loop-again Inv-loop μ-loop
 loop-again c = search needs
 
-returns : tie.Need-returns Inv-loop μ-loop
-returns c = search needs
+returns-2 : tie.Need-returns-2 Inv-loop μ-loop
+returns-2 c = search needs
 
 pub see-content-spec : {M : Type 1} → statement M
 see-content-spec =
@@ -46,13 +40,11 @@ see-content-spec =
     (tie.spec
     Inv-loop
     μ-loop
-    keys-requires
     loop-holds
     key-requires
-    members-of-requires
-    group-requires
-    same-requires
+    returns
+    see-group-requires
     add-i
     loop-less
     loop-again
-    returns)
+    returns-2)

@@ -5,10 +5,10 @@ use Rattle.books.proofs.contents.see_values.Statement.{statement}
 use Rattle.books.proofs.contents.see_values.Tie as tie
 
 abbrev Inv-loop : tie.InvT-loop
-Inv-loop s b₀ c m e₀ b e = Unit {0}
+Inv-loop s b₀ m e₀ b e = Unit {0}
 
 abbrev μ-loop : tie.MeasureT-loop
-μ-loop s b₀ c m e₀ b e = m - e
+μ-loop s b₀ m e₀ b e = m - e
 
 get-requires : tie.Need-get-requires Inv-loop μ-loop
 get-requires c κs = search needs
@@ -19,11 +19,11 @@ loop-holds c = search needs
 add-e : tie.Need-add-e Inv-loop μ-loop
 add-e c = search needs
 
-entry-requires : tie.Need-entry-requires Inv-loop μ-loop
-entry-requires c κs = search needs
-
 value-requires : tie.Need-value-requires Inv-loop μ-loop
 value-requires c κs = search needs
+
+entry-requires : tie.Need-entry-requires Inv-loop μ-loop
+entry-requires c κs = search needs
 
 same-requires : tie.Need-same-requires Inv-loop μ-loop
 same-requires c κs = search needs
@@ -46,8 +46,8 @@ see-values-spec =
     get-requires
     loop-holds
     add-e
-    entry-requires
     value-requires
+    entry-requires
     same-requires
     loop-less
     loop-again

@@ -19,8 +19,8 @@ loop-holds c = search needs
 add-e : tie.Need-add-e Inv-loop μ-loop
 add-e c = search needs
 
-see-entry-requires : tie.Need-see-entry-requires Inv-loop μ-loop
-see-entry-requires c κs = search needs
+see-numbers-requires : tie.Need-see-numbers-requires Inv-loop μ-loop
+see-numbers-requires c κs = search needs
 
 loop-less : tie.Need-loop-less Inv-loop μ-loop
 loop-less c = search needs
@@ -40,7 +40,7 @@ see-entries-spec =
     get-requires
     loop-holds
     add-e
-    see-entry-requires
+    see-numbers-requires
     loop-less
     loop-again
     returns)

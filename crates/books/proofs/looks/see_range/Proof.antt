@@ -5,16 +5,16 @@ use Rattle.books.proofs.looks.see_range.Statement.{statement}
 use Rattle.books.proofs.looks.see_range.Tie as tie
 
 abbrev Inv-loop : tie.InvT-loop
-Inv-loop v n a b₀ end k₀ b k = Unit {0}
+Inv-loop s a b₀ end k₀ b k = Unit {0}
 
 abbrev μ-loop : tie.MeasureT-loop
-μ-loop v n a b₀ end k₀ b k = end - k
+μ-loop s a b₀ end k₀ b k = end - k
 
 get-requires : tie.Need-get-requires Inv-loop μ-loop
 get-requires c κs = search needs
 
-sum-requires : tie.Need-sum-requires Inv-loop μ-loop
-sum-requires c κs = search needs
+wrapping-add-u32-requires : tie.Need-wrapping-add-u32-requires Inv-loop μ-loop
+wrapping-add-u32-requires c κs = search needs
 
 loop-holds : tie.Need-loop-holds Inv-loop μ-loop
 loop-holds c = search needs
@@ -41,7 +41,7 @@ see-range-spec =
     Inv-loop
     μ-loop
     get-requires
-    sum-requires
+    wrapping-add-u32-requires
     loop-holds
     see-key-requires
     add-k

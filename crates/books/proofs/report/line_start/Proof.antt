@@ -1,20 +1,27 @@
 -- `books::report::line_start` is safe and ends.
 use Prim.Native.Nat.{_-_}
+use lib.ListN.{length}
 use borrow.Author.Needs.{needs}
 use Rattle.books.proofs.report.line_start.Statement.{statement}
 use Rattle.books.proofs.report.line_start.Tie as tie
 
 abbrev Inv-loop : tie.InvT-loop
-Inv-loop text n at₀ i₀ at i = Unit {0}
+Inv-loop text n left₀ i₀ left i = Unit {0}
 
 abbrev μ-loop : tie.MeasureT-loop
-μ-loop text n at₀ i₀ at i = n - i
+μ-loop text n left₀ i₀ left i = length text - i
 
 loop-holds : tie.Need-loop-holds Inv-loop μ-loop
 loop-holds c = search needs
 
-line-end-requires : tie.Need-line-end-requires Inv-loop μ-loop
-line-end-requires c κs = search needs
+returns : tie.Need-returns Inv-loop μ-loop
+returns c = search needs
+
+shared-slice-read-if2 : tie.Need-shared-slice-read-if2 Inv-loop μ-loop
+shared-slice-read-if2 c = search needs
+
+sub-left : tie.Need-sub-left Inv-loop μ-loop
+sub-left c = search needs
 
 add-i : tie.Need-add-i Inv-loop μ-loop
 add-i c = search needs
@@ -25,8 +32,8 @@ loop-less c = search needs
 loop-again : tie.Need-loop-again Inv-loop μ-loop
 loop-again c = search needs
 
-returns : tie.Need-returns Inv-loop μ-loop
-returns c = search needs
+returns-2 : tie.Need-returns-2 Inv-loop μ-loop
+returns-2 c = search needs
 
 pub line-start-spec : {M : Type 1} → statement M
 line-start-spec =
@@ -35,8 +42,10 @@ line-start-spec =
     Inv-loop
     μ-loop
     loop-holds
-    line-end-requires
+    returns
+    shared-slice-read-if2
+    sub-left
     add-i
     loop-less
     loop-again
-    returns)
+    returns-2)

@@ -5,25 +5,28 @@ use Rattle.books.proofs.seats.set_table.Statement.{statement}
 use Rattle.books.proofs.seats.set_table.Tie as tie
 
 abbrev Inv-loop : tie.InvT-loop
-Inv-loop s₀ t p₀ s p = Unit {0}
+Inv-loop s₀ t i₀ s i = Unit {0}
 
 abbrev μ-loop : tie.MeasureT-loop
-μ-loop s₀ t p₀ s p = 17 - p
+μ-loop s₀ t i₀ s i = 221 - i
 
 loop-holds : tie.Need-loop-holds Inv-loop μ-loop
 loop-holds c = search needs
 
-mul-set-seat : tie.Need-mul-set-seat Inv-loop μ-loop
-mul-set-seat c = search needs
+mul-x : tie.Need-mul-x Inv-loop μ-loop
+mul-x c = search needs
 
-array-copy-out-set-seat : tie.Need-array-copy-out-set-seat Inv-loop μ-loop
-array-copy-out-set-seat c = search needs
+array-copy-out-x : tie.Need-array-copy-out-x Inv-loop μ-loop
+array-copy-out-x c = search needs
 
-set-seat-requires : tie.Need-set-seat-requires Inv-loop μ-loop
-set-seat-requires c κs = search needs
+field-requires : tie.Need-field-requires Inv-loop μ-loop
+field-requires c κs = search needs
 
-add-p : tie.Need-add-p Inv-loop μ-loop
-add-p c = search needs
+set-word-requires : tie.Need-set-word-requires Inv-loop μ-loop
+set-word-requires c κs = search needs
+
+add-i : tie.Need-add-i Inv-loop μ-loop
+add-i c = search needs
 
 loop-less : tie.Need-loop-less Inv-loop μ-loop
 loop-less c = search needs
@@ -41,10 +44,11 @@ set-table-spec =
     Inv-loop
     μ-loop
     loop-holds
-    mul-set-seat
-    array-copy-out-set-seat
-    set-seat-requires
-    add-p
+    mul-x
+    array-copy-out-x
+    field-requires
+    set-word-requires
+    add-i
     loop-less
     loop-again
     returns)

@@ -5,10 +5,10 @@ use Rattle.compare.proofs.rounds.end.Statement.{statement}
 use Rattle.compare.proofs.rounds.end.Tie as tie
 
 abbrev Inv-loop : tie.InvT-loop
-Inv-loop s₀ lists₀ a₀ b₀ l₀ content₀ x i₀ s lists a b l content i = Unit {0}
+Inv-loop s₀ a₀ b₀ x i₀ s a b i = Unit {0}
 
 abbrev μ-loop : tie.MeasureT-loop
-μ-loop s₀ lists₀ a₀ b₀ l₀ content₀ x i₀ s lists a b l content i = 16 - i
+μ-loop s₀ a₀ b₀ x i₀ s a b i = 16 - i
 
 random-requires : tie.Need-random-requires Inv-loop μ-loop
 random-requires c κs = search needs
@@ -31,9 +31,6 @@ loop-less c = search needs
 loop-again : tie.Need-loop-again Inv-loop μ-loop
 loop-again c = search needs
 
-see-end-requires : tie.Need-see-end-requires Inv-loop μ-loop
-see-end-requires c κs = search needs
-
 returns : tie.Need-returns Inv-loop μ-loop
 returns c = search needs
 
@@ -50,5 +47,4 @@ end-spec =
     add-i
     loop-less
     loop-again
-    see-end-requires
     returns)

@@ -5,10 +5,10 @@ use Rattle.compare.proofs.rounds.turns.Statement.{statement}
 use Rattle.compare.proofs.rounds.turns.Tie as tie
 
 abbrev Inv-loop : tie.InvT-loop
-Inv-loop s₀ lists₀ a₀ b₀ l₀ content₀ n i₀ s lists a b l content i = Unit {0}
+Inv-loop s₀ a₀ b₀ n i₀ s a b i = Unit {0}
 
 abbrev μ-loop : tie.MeasureT-loop
-μ-loop s₀ lists₀ a₀ b₀ l₀ content₀ n i₀ s lists a b l content i = n - i
+μ-loop s₀ a₀ b₀ n i₀ s a b i = n - i
 
 get-requires : tie.Need-get-requires Inv-loop μ-loop
 get-requires c κs = search needs

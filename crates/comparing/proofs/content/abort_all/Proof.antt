@@ -5,10 +5,10 @@ use Rattle.comparing.proofs.content.abort_all.Statement.{statement}
 use Rattle.comparing.proofs.content.abort_all.Tie as tie
 
 abbrev Inv-loop : tie.InvT-loop
-Inv-loop s₀ b₀ lists₀ x i₀ s b lists i = Unit {0}
+Inv-loop s₀ b₀ x i₀ s b i = Unit {0}
 
 abbrev μ-loop : tie.MeasureT-loop
-μ-loop s₀ b₀ lists₀ x i₀ s b lists i = 16 - i
+μ-loop s₀ b₀ x i₀ s b i = 16 - i
 
 random-requires : tie.Need-random-requires Inv-loop μ-loop
 random-requires c κs = search needs

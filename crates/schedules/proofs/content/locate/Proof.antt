@@ -5,16 +5,10 @@ use Rattle.schedules.proofs.content.locate.Statement.{statement}
 use Rattle.schedules.proofs.content.locate.Tie as tie
 
 abbrev Inv-loop : tie.InvT-loop
-Inv-loop c first second x₀ n i₀ x i = Unit {0}
+Inv-loop b first second pairs₀ i₀ pairs i = Unit {0}
 
 abbrev μ-loop : tie.MeasureT-loop
-μ-loop c first second x₀ n i₀ x i = n - i
-
-plain-requires : tie.Need-plain-requires Inv-loop μ-loop
-plain-requires c κs = search needs
-
-keys-requires : tie.Need-keys-requires Inv-loop μ-loop
-keys-requires c κs = search needs
+μ-loop b first second pairs₀ i₀ pairs i = 1024 - i
 
 loop-holds : tie.Need-loop-holds Inv-loop μ-loop
 loop-holds c = search needs
@@ -22,11 +16,11 @@ loop-holds c = search needs
 key-requires : tie.Need-key-requires Inv-loop μ-loop
 key-requires c κs = search needs
 
-group-requires : tie.Need-group-requires Inv-loop μ-loop
-group-requires c κs = search needs
+entry-requires : tie.Need-entry-requires Inv-loop μ-loop
+entry-requires c κs = search needs
 
-with-group-requires : tie.Need-with-group-requires Inv-loop μ-loop
-with-group-requires c κs = search needs
+with-pair-requires : tie.Need-with-pair-requires Inv-loop μ-loop
+with-pair-requires c κs = search needs
 
 add-i : tie.Need-add-i Inv-loop μ-loop
 add-i c = search needs
@@ -46,12 +40,10 @@ locate-spec =
     (tie.spec
     Inv-loop
     μ-loop
-    plain-requires
-    keys-requires
     loop-holds
     key-requires
-    group-requires
-    with-group-requires
+    entry-requires
+    with-pair-requires
     add-i
     loop-less
     loop-again

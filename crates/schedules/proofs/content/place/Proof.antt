@@ -5,13 +5,10 @@ use Rattle.schedules.proofs.content.place.Statement.{statement}
 use Rattle.schedules.proofs.content.place.Tie as tie
 
 abbrev Inv-loop : tie.InvT-loop
-Inv-loop c k n i₀ i = Unit {0}
+Inv-loop b e k i₀ i = Unit {0}
 
 abbrev μ-loop : tie.MeasureT-loop
-μ-loop c k n i₀ i = n - i
-
-keys-requires : tie.Need-keys-requires Inv-loop μ-loop
-keys-requires c κs = search needs
+μ-loop b e k i₀ i = 1024 - i
 
 loop-holds : tie.Need-loop-holds Inv-loop μ-loop
 loop-holds c = search needs
@@ -22,6 +19,12 @@ key-requires c κs = search needs
 returns : tie.Need-returns Inv-loop μ-loop
 returns c = search needs
 
+entry-requires : tie.Need-entry-requires Inv-loop μ-loop
+entry-requires c κs = search needs
+
+returns-2 : tie.Need-returns-2 Inv-loop μ-loop
+returns-2 c = search needs
+
 add-i : tie.Need-add-i Inv-loop μ-loop
 add-i c = search needs
 
@@ -31,8 +34,8 @@ loop-less c = search needs
 loop-again : tie.Need-loop-again Inv-loop μ-loop
 loop-again c = search needs
 
-returns-2 : tie.Need-returns-2 Inv-loop μ-loop
-returns-2 c = search needs
+returns-3 : tie.Need-returns-3 Inv-loop μ-loop
+returns-3 c = search needs
 
 pub place-spec : {M : Type 1} → statement M
 place-spec =
@@ -40,11 +43,12 @@ place-spec =
     (tie.spec
     Inv-loop
     μ-loop
-    keys-requires
     loop-holds
     key-requires
     returns
+    entry-requires
+    returns-2
     add-i
     loop-less
     loop-again
-    returns-2)
+    returns-3)

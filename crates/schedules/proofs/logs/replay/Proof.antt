@@ -5,25 +5,40 @@ use Rattle.schedules.proofs.logs.replay.Statement.{statement}
 use Rattle.schedules.proofs.logs.replay.Tie as tie
 
 abbrev Inv-loop : tie.InvT-loop
-Inv-loop l c₀ p n wrong₀ i₀ c wrong i = Unit {0}
+Inv-loop b₀ p n i₀ b i = Unit {0}
 
 abbrev μ-loop : tie.MeasureT-loop
-μ-loop l c₀ p n wrong₀ i₀ c wrong i = n - i
+μ-loop b₀ p n i₀ b i = n - i
 
-finished-requires : tie.Need-finished-requires Inv-loop μ-loop
-finished-requires c κs = search needs
+hand-requires : tie.Need-hand-requires Inv-loop μ-loop
+hand-requires c κs = search needs
+
+add-get : tie.Need-add-get Inv-loop μ-loop
+add-get c = search needs
+
+get-requires : tie.Need-get-requires Inv-loop μ-loop
+get-requires c κs = search needs
 
 loop-holds : tie.Need-loop-holds Inv-loop μ-loop
 loop-holds c = search needs
 
-is-right-requires : tie.Need-is-right-requires Inv-loop μ-loop
-is-right-requires c κs = search needs
-
-add-wrong : tie.Need-add-wrong Inv-loop μ-loop
-add-wrong c = search needs
+logged-requires : tie.Need-logged-requires Inv-loop μ-loop
+logged-requires c κs = search needs
 
 add-i : tie.Need-add-i Inv-loop μ-loop
 add-i c = search needs
+
+run-requires : tie.Need-run-requires Inv-loop μ-loop
+run-requires c κs = search needs
+
+add-get-2 : tie.Need-add-get-2 Inv-loop μ-loop
+add-get-2 c = search needs
+
+get-requires-2 : tie.Need-get-requires-2 Inv-loop μ-loop
+get-requires-2 c κs = search needs
+
+returns : tie.Need-returns Inv-loop μ-loop
+returns c = search needs
 
 loop-less : tie.Need-loop-less Inv-loop μ-loop
 loop-less c = search needs
@@ -31,8 +46,8 @@ loop-less c = search needs
 loop-again : tie.Need-loop-again Inv-loop μ-loop
 loop-again c = search needs
 
-returns : tie.Need-returns Inv-loop μ-loop
-returns c = search needs
+returns-2 : tie.Need-returns-2 Inv-loop μ-loop
+returns-2 c = search needs
 
 pub replay-spec : {M : Type 1} → statement M
 replay-spec =
@@ -40,11 +55,16 @@ replay-spec =
     (tie.spec
     Inv-loop
     μ-loop
-    finished-requires
+    hand-requires
+    add-get
+    get-requires
     loop-holds
-    is-right-requires
-    add-wrong
+    logged-requires
     add-i
+    run-requires
+    add-get-2
+    get-requires-2
+    returns
     loop-less
     loop-again
-    returns)
+    returns-2)

@@ -9,8 +9,8 @@ Inv-loop s places x₀ left₀ x left = Unit {0}
 abbrev μ-loop : tie.MeasureT-loop
 μ-loop s places x₀ left₀ x left = left
 
-first-requires : tie.Need-first-requires Inv-loop μ-loop
-first-requires c κs = search needs
+word-requires : tie.Need-word-requires Inv-loop μ-loop
+word-requires c κs = search needs
 
 loop-holds : tie.Need-loop-holds Inv-loop μ-loop
 loop-holds c = search needs
@@ -39,7 +39,7 @@ descriptor-spec =
     (tie.spec
     Inv-loop
     μ-loop
-    first-requires
+    word-requires
     loop-holds
     field-requires
     returns

@@ -5,10 +5,13 @@ use Rattle.schedules.proofs.reading.length.Statement.{statement}
 use Rattle.schedules.proofs.reading.length.Tie as tie
 
 abbrev Inv-loop : tie.InvT-loop
-Inv-loop s from n₀ x₀ n x = Unit {0}
+Inv-loop s at n₀ x₀ n x = Unit {0}
 
 abbrev μ-loop : tie.MeasureT-loop
-μ-loop s from n₀ x₀ n x = 4097 - n
+μ-loop s at n₀ x₀ n x = 4097 - n
+
+word-requires : tie.Need-word-requires Inv-loop μ-loop
+word-requires c κs = search needs
 
 loop-holds : tie.Need-loop-holds Inv-loop μ-loop
 loop-holds c = search needs
@@ -37,6 +40,7 @@ length-spec =
     (tie.spec
     Inv-loop
     μ-loop
+    word-requires
     loop-holds
     field-requires
     add-n

@@ -1,31 +1,44 @@
 -- `schedules::reading::nodes` is safe and ends.
+use Prim.Native.Nat.{_-_}
 use borrow.Author.Needs.{needs}
 use Rattle.schedules.proofs.reading.nodes.Statement.{statement}
 use Rattle.schedules.proofs.reading.nodes.Tie as tie
 
 abbrev Inv-loop : tie.InvT-loop
-Inv-loop s nodes₀ from₀ n₀ level₀ nodes from n level = Unit {0}
+Inv-loop s b₀ n₀ i₀ b n i = Unit {0}
 
 abbrev μ-loop : tie.MeasureT-loop
-μ-loop s nodes₀ from₀ n₀ level₀ nodes from n level = level
+μ-loop s b₀ n₀ i₀ b n i = 1000 - i
 
-header-requires : tie.Need-header-requires Inv-loop μ-loop
-header-requires c κs = search needs
+word-requires : tie.Need-word-requires Inv-loop μ-loop
+word-requires c κs = search needs
 
-array-write-nodes : tie.Need-array-write-nodes Inv-loop μ-loop
-array-write-nodes c = search needs
-
-height-requires : tie.Need-height-requires Inv-loop μ-loop
-height-requires c κs = search needs
+put-requires : tie.Need-put-requires Inv-loop μ-loop
+put-requires c κs = search needs
 
 loop-holds : tie.Need-loop-holds Inv-loop μ-loop
 loop-holds c = search needs
 
-with-level-requires : tie.Need-with-level-requires Inv-loop μ-loop
-with-level-requires c κs = search needs
+add-get : tie.Need-add-get Inv-loop μ-loop
+add-get c = search needs
 
-sub-level : tie.Need-sub-level Inv-loop μ-loop
-sub-level c = search needs
+get-requires : tie.Need-get-requires Inv-loop μ-loop
+get-requires c κs = search needs
+
+field-requires : tie.Need-field-requires Inv-loop μ-loop
+field-requires c κs = search needs
+
+word-requires-2 : tie.Need-word-requires-2 Inv-loop μ-loop
+word-requires-2 c κs = search needs
+
+returns : tie.Need-returns Inv-loop μ-loop
+returns c = search needs
+
+with-sons-requires : tie.Need-with-sons-requires Inv-loop μ-loop
+with-sons-requires c κs = search needs
+
+add-i : tie.Need-add-i Inv-loop μ-loop
+add-i c = search needs
 
 loop-less : tie.Need-loop-less Inv-loop μ-loop
 loop-less c = search needs
@@ -33,8 +46,8 @@ loop-less c = search needs
 loop-again : tie.Need-loop-again Inv-loop μ-loop
 loop-again c = search needs
 
-returns : tie.Need-returns Inv-loop μ-loop
-returns c = search needs
+returns-2 : tie.Need-returns-2 Inv-loop μ-loop
+returns-2 c = search needs
 
 pub nodes-spec : {M : Type 1} → statement M
 nodes-spec =
@@ -42,12 +55,16 @@ nodes-spec =
     (tie.spec
     Inv-loop
     μ-loop
-    header-requires
-    array-write-nodes
-    height-requires
+    word-requires
+    put-requires
     loop-holds
-    with-level-requires
-    sub-level
+    add-get
+    get-requires
+    field-requires
+    word-requires-2
+    returns
+    with-sons-requires
+    add-i
     loop-less
     loop-again
-    returns)
+    returns-2)
