@@ -5,8 +5,14 @@
 // that may change a word. Each committed session runs whole on the logical model, in order of commit, and each aborted one on a copy; at every commit
 // and at the end the store, with all that are unfinished aborted, is compared with the logical content. The checker judges the store throughout.
 // Random and fixed: each run is the same.
+//
+// serve makes a call on the store, make on both; content compares a copy with all sessions aborted with the logical model; judge asks the checker about the
+// store and about a copy with one word changed, and the store about that copy; rounds has the schedules.
+mod content;
+mod judge;
 mod make;
 mod rounds;
+mod serve;
 
 use books::report::report;
 use rounds::round;

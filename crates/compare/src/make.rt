@@ -1,4 +1,7 @@
 // Make: a call made on both, and all that is compared after it.
+use crate::content::see_copy;
+use crate::judge::judge;
+use crate::serve::on_store;
 use books::book::ASKED;
 use books::book::CALL;
 use books::book::Model;
@@ -7,9 +10,6 @@ use books::call::Call;
 use books::call::OK;
 use books::call::store_words;
 use books::looks::see;
-use comparing::content::see_copy;
-use comparing::judge::judge;
-use comparing::serve::on_store;
 use schedules::book::Book;
 use schedules::book::get;
 use schedules::side::SIDE;

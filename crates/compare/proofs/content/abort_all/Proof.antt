@@ -1,8 +1,8 @@
--- `comparing::content::abort_all` is safe and ends.
+-- `compare::content::abort_all` is safe and ends.
 use Prim.Native.Nat.{_-_}
 use borrow.Author.Needs.{needs}
-use Rattle.comparing.proofs.content.abort_all.Statement.{statement}
-use Rattle.comparing.proofs.content.abort_all.Tie as tie
+use Rattle.compare.proofs.content.abort_all.Statement.{statement}
+use Rattle.compare.proofs.content.abort_all.Tie as tie
 
 abbrev Inv-loop : tie.InvT-loop
 Inv-loop s₀ b₀ x i₀ s b i = Unit {0}
