@@ -9,71 +9,85 @@
 // for its arrays, descriptors and tree, on naive_steps for the descent, the parties and the undo log.
 mod request;
 
+pub use naive_steps::party::is_begun as begun;
+pub use naive_steps::party::is_in_hand as in_hand;
+pub use naive_tree::keys::free;
+pub use naive_tree::keys::is_stored as stored;
+pub use naive_tree::keys::locate_holders;
+use crate::request::change;
+use crate::request::element;
+use crate::request::entry_plan;
+use crate::request::group_plan;
+use crate::request::key_plan;
+use crate::request::list_groups;
+use crate::request::start;
+use crate::request::take;
 use naive_steps::descent::enter;
 use naive_steps::descent::go_down;
+use naive_steps::descent::root_plan;
+use naive_steps::descent::way_plan;
 use naive_steps::party::AT;
 use naive_steps::party::CHANGE;
+use naive_steps::party::DONE;
 use naive_steps::party::ENTER;
+use naive_steps::party::IDLE;
 use naive_steps::party::LOCATE;
+use naive_steps::party::NONE;
+use naive_steps::party::OK;
+use naive_steps::party::Plan;
 use naive_steps::party::READ;
+use naive_steps::party::REFUSED;
 use naive_steps::party::REMOVE;
 use naive_steps::party::START;
 use naive_steps::party::Said;
 use naive_steps::party::TAKE;
 use naive_steps::party::TIDY;
+use naive_steps::party::WAIT;
 use naive_steps::party::WRITE;
-use naive_steps::party::is_begun;
 use naive_steps::party::is_in_hand;
-use naive_steps::party::ok;
-use naive_steps::party::refusal;
-use naive_steps::undo::drop_records;
-use naive_steps::undo::leave;
-use naive_steps::undo::undo_all;
-use naive_tree::arrays::BEGUN;
-use naive_tree::arrays::CLEARED;
+use naive_steps::party::reply;
+use naive_steps::party::say;
+use naive_steps::party::unless;
+use naive_steps::undo::end_records;
 use naive_tree::arrays::CODE;
 use naive_tree::arrays::COUNTERS;
 use naive_tree::arrays::DESCRIPTORS;
-use naive_tree::arrays::ENTRY;
 use naive_tree::arrays::EXCLUSIVES;
-use naive_tree::arrays::FIRST;
-use naive_tree::arrays::FREE;
 use naive_tree::arrays::GROUPS;
-use naive_tree::arrays::HAS_LAST;
 use naive_tree::arrays::HEADER;
 use naive_tree::arrays::KEYS;
+use naive_tree::arrays::LEVELS;
+use naive_tree::arrays::LOCATES;
 use naive_tree::arrays::M;
 use naive_tree::arrays::NODES;
+use naive_tree::arrays::NOWHERE;
+use naive_tree::arrays::NO_EVENT;
 use naive_tree::arrays::PARTIES;
 use naive_tree::arrays::R;
 use naive_tree::arrays::ROOT;
-use naive_tree::arrays::SECOND;
 use naive_tree::arrays::SHARES;
 use naive_tree::arrays::STAGE;
-use naive_tree::arrays::TARGET;
 use naive_tree::arrays::UPDATES;
 use naive_tree::arrays::VALUES;
-use naive_tree::arrays::clear;
-use naive_tree::arrays::entry_word;
+use naive_tree::arrays::Words;
+use naive_tree::arrays::add_bits;
+use naive_tree::arrays::bit;
+use naive_tree::arrays::clear_bits;
 use naive_tree::arrays::field;
 use naive_tree::arrays::get;
-use naive_tree::arrays::item;
-use naive_tree::arrays::note;
-use naive_tree::arrays::note_if;
+use naive_tree::arrays::minus;
 use naive_tree::arrays::plus;
 use naive_tree::arrays::raise;
 use naive_tree::arrays::set;
 use naive_tree::arrays::set_field;
-use naive_tree::keys::add_descriptor;
-use naive_tree::keys::is_stored;
+use naive_tree::arrays::set_fields;
 use naive_tree::keys::of_key;
 use naive_tree::keys::rank;
-use naive_tree::tree::add_key;
-use naive_tree::tree::level;
+use naive_tree::tree::add_descriptor;
 use naive_tree::tree::take_node;
 
 // The words that the model needs.
-pub const SIZE: usize = 68376;
+pub const SIZE: usize = naive_tree::arrays::SIZE;
 
 // How many records a store of so many words has, 0 where it has too few words.
 fn records_of(m: u32, length: u32) -> u32 {
@@ -88,270 +102,221 @@ fn records_of(m: u32, length: u32) -> u32 {
     if r < 4096 { r } else { 4096 }
 }
 
-// Makes a fresh store with m entries in so many words.
-pub fn format(a: &mut [u32], m: u32, length: u32) -> Said {
+// Makes a fresh store with m entries in so many words: all is cleared but the counters, and there are a root and key 0.
+pub fn format(a: &mut Words, m: u32, length: u32) -> Said {
     let r = records_of(m, length);
-    if m < 1 || r < 8 {
-        return refusal(3);
+    if (m < 1) | (r < 8) {
+        return say(REFUSED, 3, 0);
     }
-    clear(a, HEADER, CLEARED - HEADER);
-    set(a, M, m);
-    set(a, R, r);
-    set(a, FREE, r);
-    plant(a);
-    ok()
-}
-
-// The first root and key 0.
-fn plant(a: &mut [u32]) {
+    clear_bits(a, HEADER, NOWHERE - HEADER, 4294967295);
+    set(a, HEADER, M, m);
+    set(a, HEADER, R, r);
     let root = take_node(a, 1);
-    set(a, ROOT, root);
-    add_descriptor(a, 0, 0);
-    add_key(a, root, 0);
+    set(a, HEADER, ROOT, root);
+    add_descriptor(a, root, 0, 0);
+    say(OK, 0, 0)
 }
 
-// Is it no number of a session?
-fn is_no_session(p: u32) -> bool {
-    p < 1 || PARTIES <= p
-}
-
-pub fn begin(a: &mut [u32], p: u32) -> Said {
-    if is_no_session(p) {
-        return refusal(4);
-    }
-    if is_begun(a, p) {
-        return refusal(5);
-    }
-    set_field(a, p, BEGUN, 1);
-    ok()
-}
-
-// Refusals 4 and 5 of put and step, else 0.
-fn party_refusal(a: &[u32], p: u32) -> u32 {
-    if PARTIES <= p {
+// Refusals 4, 5 and 7, else 0: of a call by a party from a lowest number on, whose stage must be from..=to. Party 0 is always begun.
+fn party_refusal(a: &Words, p: u32, lowest: u32, from: u32, to: u32) -> u32 {
+    if (p < lowest) | (PARTIES <= p) {
         return 4;
     }
-    if !is_begun(a, p) {
+    let stage = field(a, p, STAGE) | (p == 0) as u32;
+    if (stage == NONE) != (to == NONE) {
         return 5;
     }
-    0
+    unless((from <= stage) & (stage <= to), 7)
 }
 
-// Is the code unknown, or not for this party?
-fn is_wrong_code(p: u32, code: u32) -> bool {
-    if p == 0 {
-        return code != TIDY;
+pub fn begin(a: &mut Words, p: u32) -> Said {
+    let n = party_refusal(a, p, 1, NONE, NONE);
+    if n != 0 {
+        return say(REFUSED, n, 0);
     }
-    code < READ || LOCATE < code
+    set_field(a, p, STAGE, IDLE);
+    say(OK, 0, 0)
+}
+
+// Refusals 6, 8, 9 and 10 of a request with these numbers, else 0. Only a locate has a second key.
+fn argument_refusal(m: u32, p: u32, code: u32, entry: u32, first: u32, second: u32) -> u32 {
+    if (code < READ) | (TIDY < code) | ((p == 0) != (code == TIDY)) {
+        return 6;
+    }
+    if (code <= REMOVE) & (m <= minus(entry, 1)) {
+        return 8;
+    }
+    if (code <= WRITE) | (code == TIDY) {
+        return 0;
+    }
+    if is_infinity(first) | ((code == LOCATE) & is_infinity(second)) {
+        return 9;
+    }
+    unless((code != LOCATE) | (first <= second), 10)
 }
 
 fn is_infinity(key: u32) -> bool {
-    key == 0 || key == 4294967295
-}
-
-// Refusals 8, 9 and 10, else 0. Only a locate has a second key.
-fn argument_refusal(a: &[u32], code: u32, entry: u32, first: u32, second: u32) -> u32 {
-    if code <= REMOVE && (entry < 1 || get(a, M) < entry) {
-        return 8;
-    }
-    if code <= WRITE || code == TIDY {
-        return 0;
-    }
-    if is_infinity(first) {
-        return 9;
-    }
-    if code != LOCATE {
-        return 0;
-    }
-    if is_infinity(second) {
-        return 9;
-    }
-    if second < first { 10 } else { 0 }
+    plus(key, 1) < 2
 }
 
 // The number with which a put is refused, 0 for none.
-fn put_refusal(a: &[u32], p: u32, code: u32, entry: u32, first: u32, second: u32) -> u32 {
-    let n = party_refusal(a, p);
+fn put_refusal(a: &Words, p: u32, code: u32, entry: u32, first: u32, second: u32) -> u32 {
+    let n = party_refusal(a, p, 0, IDLE, IDLE);
     if n != 0 {
         return n;
     }
-    if is_in_hand(a, p) {
-        return 7;
-    }
-    if is_wrong_code(p, code) {
-        return 6;
-    }
-    argument_refusal(a, code, entry, first, second)
+    argument_refusal(get(a, HEADER, M), p, code, entry, first, second)
 }
 
-// Puts a request.
-pub fn put(a: &mut [u32], p: u32, code: u32, entry: u32, first: u32, second: u32) -> Said {
+// The key that a request is about: of a tidy the next stored one above its first.
+fn first_key(a: &Words, code: u32, first: u32) -> u32 {
+    if code == TIDY {
+        return get(a, KEYS, rank(a, first));
+    }
+    first
+}
+
+// The first stage of a request. A tidy with nothing above its first has no descent.
+fn first_stage(a: &Words, code: u32, first: u32) -> u32 {
+    let is_above = rank(a, first) < get(a, HEADER, DESCRIPTORS);
+    plus(START, ((code == LOCATE) | ((code == TIDY) & is_above)) as u32)
+}
+
+// Puts a request. Its descent goes to its first key, and a locate takes the lowest one above the one before that.
+pub fn put(a: &mut Words, p: u32, code: u32, entry: u32, first: u32, second: u32) -> Said {
     let n = put_refusal(a, p, code, entry, first, second);
     if n != 0 {
-        return refusal(n);
+        return say(REFUSED, n, 0);
     }
-    set_field(a, p, CODE, code);
-    set_field(a, p, ENTRY, entry);
-    set_field(a, p, FIRST, first);
-    set_field(a, p, SECOND, second);
-    set_stage(a, p, code, first);
-    ok()
+    let stage = first_stage(a, code, first);
+    let key = first_key(a, code, first);
+    let e = unless(code == TIDY, entry);
+    set_fields(a, p, [stage, code, e, key, second, key, minus(key, 1)]);
+    say(OK, 0, 0)
 }
 
-// The first stage of a request, and the target of its descent.
-fn set_stage(a: &mut [u32], p: u32, code: u32, first: u32) {
-    set_field(a, p, HAS_LAST, 0);
-    if code == LOCATE {
-        set_field(a, p, STAGE, ENTER);
-        set_field(a, p, TARGET, first);
-        return;
-    }
-    let above = rank(a, first);
-    if code == TIDY && above < get(a, DESCRIPTORS) {
-        let key = item(a, KEYS, above);
-        set_field(a, p, STAGE, ENTER);
-        set_field(a, p, TARGET, key);
-        return;
-    }
-    set_field(a, p, STAGE, START);
-}
-
-// One step of the request in hand.
-pub fn step(a: &mut [u32], list: &mut [u32], p: u32) -> Said {
-    let n = party_refusal(a, p);
+// One step of the request in hand. A locate that is done gets its list.
+pub fn step(a: &mut Words, list: &mut [u32], p: u32) -> Said {
+    let n = party_refusal(a, p, 0, START, 4294967295);
     if n != 0 {
-        return refusal(n);
+        return say(REFUSED, n, 0);
     }
-    if !is_in_hand(a, p) {
-        return refusal(7);
+    let said = try_step(a, p, list.len());
+    if (said.word == DONE) & (field(a, p, CODE) == LOCATE) {
+        list_groups(a, list, p);
     }
+    said
+}
+
+// What the step of a party at a stage takes, with room for so many words in its list.
+fn plan(a: &Words, p: u32, stage: u32, room: usize) -> Plan {
+    if stage == START {
+        return entry_plan(a, p);
+    }
+    if stage == ENTER {
+        return root_plan(a, p);
+    }
+    if stage == CHANGE {
+        return group_plan(a, p);
+    }
+    if stage == TAKE {
+        return key_plan(a, p, room);
+    }
+    way_plan(a, p, minus(stage, AT))
+}
+
+// A step is made unless it waits or is refused. A refusal inside a step ends the request.
+fn try_step(a: &mut Words, p: u32, room: usize) -> Said {
     let stage = field(a, p, STAGE);
+    let plan = plan(a, p, stage, room);
+    if plan.parties != 0 {
+        return reply(a, p, plan.event, stage, WAIT, plan.parties, 0);
+    }
+    if plan.refusal != 0 {
+        return reply(a, p, NO_EVENT, IDLE, REFUSED, plan.refusal, plan.beside);
+    }
+    add_bits(a, plan.lock, 0, bit(p));
+    make_step(a, p, stage)
+}
+
+fn make_step(a: &mut Words, p: u32, stage: u32) -> Said {
+    if stage == START {
+        return start(a, p);
+    }
     if stage == ENTER {
         return enter(a, p);
     }
-    if stage == AT {
-        return go_down(a, p);
-    }
     if stage == CHANGE {
-        return request::change(a, p);
+        return change(a, p);
     }
     if stage == TAKE {
-        return request::take(a, list, p);
+        return take(a, p);
     }
-    start(a, p)
+    go_down(a, p, minus(stage, AT))
 }
 
-// The step at stage START.
-fn start(a: &mut [u32], p: u32) -> Said {
-    let code = field(a, p, CODE);
-    if code == READ {
-        return request::read(a, p);
-    }
-    if code == WRITE {
-        return request::write(a, p);
-    }
-    if code == TIDY {
-        return request::tidy_nothing(a);
-    }
-    request::lock_entry(a, p)
+pub fn commit(a: &mut Words, p: u32) -> Said {
+    end(a, p, IDLE)
 }
 
-pub fn commit(a: &mut [u32], p: u32) -> Said {
-    if is_no_session(p) {
-        return refusal(4);
-    }
-    if !is_begun(a, p) {
-        return refusal(5);
-    }
-    if is_in_hand(a, p) {
-        return refusal(7);
-    }
-    let n = drop_records(a, p);
-    raise(a, FREE, n);
-    note_if(a, n != 0, 28);
-    leave(a, p);
-    ok()
+pub fn abort(a: &mut Words, p: u32) -> Said {
+    end(a, p, 4294967295)
 }
 
-pub fn abort(a: &mut [u32], p: u32) -> Said {
-    if is_no_session(p) {
-        return refusal(4);
-    }
-    if !is_begun(a, p) {
-        return refusal(5);
+// Ends session p, at a stage up to this one: it holds nothing and is not begun. A commit is of a session with nothing in hand.
+fn end(a: &mut Words, p: u32, to: u32) -> Said {
+    let n = party_refusal(a, p, 1, IDLE, to);
+    if n != 0 {
+        return say(REFUSED, n, 0);
     }
     let is_cut = is_in_hand(a, p);
-    note_if(a, is_cut, 23);
-    undo_all(a, p);
-    drop_records(a, p);
-    leave(a, p);
-    ok()
-}
-
-// How many records are free.
-pub fn free(a: &[u32]) -> u32 {
-    get(a, FREE)
+    let is_abort = to != IDLE;
+    let count = end_records(a, p, is_abort);
+    raise(a, COUNTERS, 23, is_cut as u32);
+    raise(a, COUNTERS, 28, (!is_abort & (count != 0)) as u32);
+    clear_bits(a, LOCATES, NOWHERE - LOCATES, bit(p));
+    reply(a, p, NO_EVENT, NONE, OK, 0, 0)
 }
 
 // The value of an entry.
-pub fn value(a: &[u32], e: u32) -> u32 {
-    get(a, entry_word(VALUES, e))
+pub fn value(a: &Words, e: u32) -> u32 {
+    get(a, VALUES, element(e))
 }
 
 // The share holders of an entry, and its exclusive holders.
-pub fn share(a: &[u32], e: u32) -> u32 {
-    get(a, entry_word(SHARES, e))
+pub fn share(a: &Words, e: u32) -> u32 {
+    get(a, SHARES, element(e))
 }
 
-pub fn exclusive(a: &[u32], e: u32) -> u32 {
-    get(a, entry_word(EXCLUSIVES, e))
-}
-
-// The locate holders of a key, stored or not.
-pub fn locate_holders(a: &[u32], key: u32) -> u32 {
-    naive_tree::keys::locate_holders(a, key)
+pub fn exclusive(a: &Words, e: u32) -> u32 {
+    get(a, EXCLUSIVES, element(e))
 }
 
 // The update holders of a key, 0 for one not stored.
-pub fn update_holders(a: &[u32], key: u32) -> u32 {
+pub fn update_holders(a: &Words, key: u32) -> u32 {
     of_key(a, UPDATES, key)
 }
 
 // The group of a key: bit e - 1 for entry e.
-pub fn members(a: &[u32], key: u32) -> u32 {
+pub fn members(a: &Words, key: u32) -> u32 {
     of_key(a, GROUPS, key)
 }
 
-// Does a descriptor of this key stand?
-pub fn stored(a: &[u32], key: u32) -> bool {
-    is_stored(a, key)
-}
-
 // How many descriptors there are, and how many nodes.
-pub fn descriptors(a: &[u32]) -> u32 {
-    get(a, DESCRIPTORS)
+pub fn descriptors(a: &Words) -> u32 {
+    get(a, HEADER, DESCRIPTORS)
 }
 
-pub fn nodes(a: &[u32]) -> u32 {
-    get(a, NODES)
+pub fn nodes(a: &Words) -> u32 {
+    get(a, HEADER, NODES)
 }
 
 // How many levels of nodes there are.
-pub fn height(a: &[u32]) -> u32 {
-    level(a, get(a, ROOT))
-}
-
-// Does a party have a request in hand?
-pub fn in_hand(a: &[u32], p: u32) -> bool {
-    is_in_hand(a, p)
-}
-
-// Is a party begun? Party 0 always is.
-pub fn begun(a: &[u32], p: u32) -> bool {
-    is_begun(a, p)
+pub fn height(a: &Words) -> u32 {
+    get(a, LEVELS, get(a, HEADER, ROOT))
 }
 
 // How often an event was since the words were all 0. A root dropped and split in one step counts as each of the two, and as both.
-pub fn counted(a: &[u32], event: u32) -> u32 {
-    get(a, plus(COUNTERS, event))
+pub fn counted(a: &Words, event: u32) -> u32 {
+    get(a, COUNTERS, event)
 }

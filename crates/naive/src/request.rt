@@ -1,242 +1,217 @@
 // Request: the steps of the six requests outside the descent.
-use naive_steps::descent::descend_to;
+use naive_steps::party::DONE;
+use naive_steps::party::ENTER;
+use naive_steps::party::IDLE;
 use naive_steps::party::INSERT;
+use naive_steps::party::MORE;
+use naive_steps::party::Plan;
+use naive_steps::party::READ;
+use naive_steps::party::REMOVE;
 use naive_steps::party::Said;
-use naive_steps::party::done;
-use naive_steps::party::fail;
-use naive_steps::party::more;
+use naive_steps::party::TAKE;
+use naive_steps::party::WRITE;
+use naive_steps::party::lack;
 use naive_steps::party::others;
-use naive_steps::party::wait;
-use naive_steps::undo::ADDED;
-use naive_steps::undo::REMOVED;
-use naive_steps::undo::VALUE;
-use naive_steps::undo::log;
+use naive_steps::party::reply;
+use naive_steps::party::unless;
+use naive_steps::undo::change_word;
 use naive_tree::arrays::CODE;
 use naive_tree::arrays::ENTRY;
 use naive_tree::arrays::ENTRY_SLOTS;
 use naive_tree::arrays::EXCLUSIVES;
 use naive_tree::arrays::FIRST;
-use naive_tree::arrays::FREE;
 use naive_tree::arrays::GAPS;
 use naive_tree::arrays::GROUPS;
-use naive_tree::arrays::HAS_LAST;
 use naive_tree::arrays::KEYS;
 use naive_tree::arrays::LAST;
 use naive_tree::arrays::LOCATES;
+use naive_tree::arrays::NOWHERE;
+use naive_tree::arrays::NO_EVENT;
 use naive_tree::arrays::SECOND;
 use naive_tree::arrays::SHARES;
-use naive_tree::arrays::SLOTS;
 use naive_tree::arrays::UPDATES;
 use naive_tree::arrays::VALUES;
+use naive_tree::arrays::Words;
+use naive_tree::arrays::add_bits;
 use naive_tree::arrays::bit;
-use naive_tree::arrays::entry_word;
 use naive_tree::arrays::field;
 use naive_tree::arrays::get;
-use naive_tree::arrays::item;
-use naive_tree::arrays::lower;
-use naive_tree::arrays::note;
+use naive_tree::arrays::minus;
 use naive_tree::arrays::plus;
-use naive_tree::arrays::set;
 use naive_tree::arrays::set_field;
-use naive_tree::keys::add_bits;
 use naive_tree::keys::count_members;
-use naive_tree::keys::of_key;
 use naive_tree::keys::place;
 use naive_tree::keys::rank;
-use naive_tree::keys::turn_member;
 
-// Adds session p to the holders of an entry.
-fn hold_entry(a: &mut [u32], base: u32, e: u32, p: u32) {
-    let at = entry_word(base, e);
-    let holders = get(a, at) | bit(p);
-    set(a, at, holders);
-}
-
-pub fn read(a: &mut [u32], p: u32) -> Said {
-    let e = field(a, p, ENTRY);
-    let parties = others(get(a, entry_word(EXCLUSIVES, e)), p);
-    if parties != 0 {
-        return wait(a, 24, parties);
+// Where an entry stands in the arrays of the entries.
+pub fn element(e: u32) -> u32 {
+    let i = minus(e, 1);
+    if i < ENTRY_SLOTS {
+        return i;
     }
-    note(a, 17);
-    hold_entry(a, SHARES, e, p);
-    let answer = get(a, entry_word(VALUES, e));
-    done(a, p, answer, 0)
+    NOWHERE
 }
 
-// The other sessions with any lock on an entry.
-fn any_holders(a: &[u32], e: u32, p: u32) -> u32 {
-    others(
-        get(a, entry_word(SHARES, e)) | get(a, entry_word(EXCLUSIVES, e)),
-        p,
-    )
+// Where the entry of a party's request stands.
+fn element_of(a: &Words, p: u32) -> u32 {
+    element(field(a, p, ENTRY))
 }
 
-pub fn write(a: &mut [u32], p: u32) -> Said {
-    let e = field(a, p, ENTRY);
-    let parties = any_holders(a, e, p);
-    if parties != 0 {
-        return wait(a, 24, parties);
+// Where the group of its first key stands, and the key that it takes next.
+fn group_of(a: &Words, p: u32) -> u32 {
+    place(a, field(a, p, FIRST))
+}
+
+fn next_of(a: &Words, p: u32) -> u32 {
+    rank(a, field(a, p, LAST))
+}
+
+// The first step of a request: a read shares the entry, a write, insert or remove has it alone.
+pub fn entry_plan(a: &Words, p: u32) -> Plan {
+    let i = element_of(a, p);
+    let code = field(a, p, CODE);
+    let is_read = code == READ;
+    let holders = unless(is_read, get(a, SHARES, i)) | get(a, EXCLUSIVES, i);
+    Plan {
+        parties: others(holders, p),
+        event: 24,
+        refusal: lack(a, (code == WRITE) as u32),
+        beside: 0,
+        lock: plus(minus(EXCLUSIVES, (is_read as u32) << 5), i),
     }
-    if get(a, FREE) < 1 {
-        return fail(a, p, 11, 0);
-    }
-    note(a, 18);
-    hold_entry(a, EXCLUSIVES, e, p);
-    set_value(a, p, e);
-    done(a, p, 0, 0)
 }
 
-// Sets the value of an entry to first, and logs the old one.
-fn set_value(a: &mut [u32], p: u32, e: u32) {
-    let at = entry_word(VALUES, e);
-    let old = get(a, at);
-    let new = field(a, p, FIRST);
-    log(a, p, VALUE, 0, e, old);
-    lower(a, FREE, 1);
-    set(a, at, new);
+// The last step of an insert or remove. An insert needs a record for the membership and one for the log; the record of a membership that is taken out
+// becomes the undo record.
+pub fn group_plan(a: &Words, p: u32) -> Plan {
+    let i = group_of(a, p);
+    let is_new = change_event(a, p) == 13;
+    Plan {
+        parties: others(get(a, LOCATES, i) | get(a, UPDATES, i), p),
+        event: 25,
+        refusal: lack(a, (is_new as u32) << 1),
+        beside: 0,
+        lock: plus(UPDATES, i),
+    }
 }
 
-// The first step of an insert or remove: the entry's lock.
-pub fn lock_entry(a: &mut [u32], p: u32) -> Said {
-    let e = field(a, p, ENTRY);
-    let parties = any_holders(a, e, p);
-    if parties != 0 {
-        return wait(a, 24, parties);
+// A locate's step to its next key. With the last one it must have room in its list for all that it finds.
+pub fn key_plan(a: &Words, p: u32, room: usize) -> Plan {
+    let i = next_of(a, p);
+    let count = found(a, p);
+    let is_short = is_last(a, p) & (room < plus(count, count) as usize);
+    Plan {
+        parties: others(get(a, UPDATES, i), p),
+        event: 25,
+        refusal: unless(!is_short, 12),
+        beside: count,
+        lock: plus(LOCATES, i),
     }
-    hold_entry(a, EXCLUSIVES, e, p);
-    let key = field(a, p, FIRST);
-    descend_to(a, p, key)
 }
 
-// The last step of an insert or remove: the group's lock and the change together.
-pub fn change(a: &mut [u32], p: u32) -> Said {
-    let key = field(a, p, FIRST);
-    let parties = others(of_key(a, LOCATES, key) | of_key(a, UPDATES, key), p);
-    if parties != 0 {
-        return wait(a, 25, parties);
+// Is the key that a locate takes next its last?
+fn is_last(a: &Words, p: u32) -> bool {
+    get(a, KEYS, next_of(a, p)) == field(a, p, SECOND)
+}
+
+// How many memberships a locate finds.
+fn found(a: &Words, p: u32) -> u32 {
+    count_members(a, group_of(a, p), rank(a, field(a, p, SECOND)))
+}
+
+// The event that counts a request that is done in its first step: a tidy with nothing above its first, a read, a write.
+fn start_event(code: u32) -> u32 {
+    match code {
+        READ => 17,
+        WRITE => 18,
+        _ => 12,
     }
-    let is_member = of_key(a, GROUPS, key) & bit(field(a, p, ENTRY)) != 0;
+}
+
+// The first step of a request, with the entry's lock.
+pub fn start(a: &mut Words, p: u32) -> Said {
+    let code = field(a, p, CODE);
+    if (code == INSERT) | (code == REMOVE) {
+        return reply(a, p, NO_EVENT, ENTER, MORE, 0, 0);
+    }
+    let i = element_of(a, p);
+    let value = get(a, VALUES, i);
+    if code == WRITE {
+        let new = field(a, p, FIRST);
+        change_word(a, p, 20, VALUES, i, new);
+    }
+    reply(a, p, start_event(code), IDLE, DONE, unless(code != READ, value), 0)
+}
+
+// What the group is once the entry has come in or gone out.
+fn turned(a: &Words, p: u32) -> u32 {
+    get(a, GROUPS, group_of(a, p)) ^ bit(field(a, p, ENTRY))
+}
+
+// The event that counts an insert or remove: 13 of an entry that comes in, 14 of one that is in, 15 of one that goes out, 16 of one that is out.
+fn change_event(a: &Words, p: u32) -> u32 {
+    let is_member = turned(a, p) < get(a, GROUPS, group_of(a, p));
     if field(a, p, CODE) == INSERT {
-        return insert(a, p, key, is_member);
+        return plus(13, is_member as u32);
     }
-    remove(a, p, key, is_member)
+    minus(16, is_member as u32)
 }
 
-fn insert(a: &mut [u32], p: u32, key: u32, is_member: bool) -> Said {
-    if is_member {
-        note(a, 14);
-        add_bits(a, UPDATES, key, bit(p));
-        return done(a, p, 0, 0);
+// The last step of an insert or remove, with the group's lock.
+pub fn change(a: &mut Words, p: u32) -> Said {
+    let event = change_event(a, p);
+    if event % 2 == 1 {
+        let key = field(a, p, FIRST);
+        let group = turned(a, p);
+        change_word(a, p, plus(21, (event == 15) as u32), GROUPS, key, group);
     }
-    if get(a, FREE) < 2 {
-        return fail(a, p, 11, 0);
-    }
-    note(a, 13);
-    lower(a, FREE, 2);
-    change_member(a, p, key, ADDED);
-    done(a, p, 1, 0)
+    reply(a, p, event, IDLE, DONE, event % 2, 0)
 }
 
-// The membership's record becomes the undo record: no free record is needed.
-fn remove(a: &mut [u32], p: u32, key: u32, is_member: bool) -> Said {
-    if is_member {
-        note(a, 15);
-        change_member(a, p, key, REMOVED);
-        return done(a, p, 1, 0);
+// A locate takes a key: with its last it is done, else it takes the gap behind it too and goes on.
+pub fn take(a: &mut Words, p: u32) -> Said {
+    if is_last(a, p) {
+        let count = found(a, p);
+        return reply(a, p, 19, IDLE, DONE, count, 0);
     }
-    note(a, 16);
-    add_bits(a, UPDATES, key, bit(p));
-    done(a, p, 0, 0)
+    let i = next_of(a, p);
+    take_gap(a, p, i)
 }
 
-// Puts the entry into the group or takes it out, under the update lock, and logs this.
-fn change_member(a: &mut [u32], p: u32, key: u32, kind: u32) {
-    let e = field(a, p, ENTRY);
-    add_bits(a, UPDATES, key, bit(p));
-    log(a, p, kind, key, e, 0);
-    turn_member(a, key, bit(e));
-}
-
-// The key that a locate takes next: first's own, then the lowest stored one above the last.
-fn next_key(a: &[u32], p: u32) -> u32 {
-    if field(a, p, HAS_LAST) == 0 {
-        return field(a, p, FIRST);
-    }
-    item(a, KEYS, rank(a, field(a, p, LAST)))
-}
-
-// A locate takes a key.
-pub fn take(a: &mut [u32], list: &mut [u32], p: u32) -> Said {
-    let key = next_key(a, p);
-    let parties = others(of_key(a, UPDATES, key), p);
-    if parties != 0 {
-        return wait(a, 25, parties);
-    }
-    if key == field(a, p, SECOND) {
-        return take_last(a, list, p, key);
-    }
-    note(a, 27);
-    add_bits(a, LOCATES, key, bit(p));
-    add_bits(a, GAPS, key, bit(p));
-    set_field(a, p, HAS_LAST, 1);
+fn take_gap(a: &mut Words, p: u32, i: u32) -> Said {
+    let key = get(a, KEYS, i);
+    add_bits(a, GAPS, i, bit(p));
     set_field(a, p, LAST, key);
-    more()
+    reply(a, p, 27, TAKE, MORE, 0, 0)
 }
 
-fn is_short(list: &[u32], count: u32) -> bool {
-    list.len() < plus(count, count) as usize
-}
-
-// The step at second: the memberships of the range are listed.
-fn take_last(a: &mut [u32], list: &mut [u32], p: u32, key: u32) -> Said {
-    let from = place(a, field(a, p, FIRST));
-    let to = rank(a, key);
-    let count = count_members(a, from, to);
-    if is_short(list, count) {
-        return fail(a, p, 12, count);
+// Word k of a list of all entries of all groups, each with its key before it; 0 for those that are no members.
+fn listed(a: &Words, k: u32) -> u32 {
+    let e = (k >> 1) % 32;
+    if (get(a, GROUPS, k >> 6) >> e) % 2 == 0 {
+        return 0;
     }
-    note(a, 19);
-    add_bits(a, LOCATES, key, bit(p));
-    list_groups(a, list, from, to);
-    done(a, p, count, 0)
+    if k % 2 == 0 {
+        return get(a, KEYS, k >> 6);
+    }
+    e + 1
 }
 
-// Lists the memberships of the descriptors at places from..to.
-fn list_groups(a: &[u32], list: &mut [u32], from: u32, to: u32) {
+fn list_word(list: &mut [u32], n: u32, x: u32) {
+    let i = n as usize;
+    if i < list.len() {
+        list[i] = x;
+    }
+}
+
+// Lists the memberships that a locate found, rising by key and by entry, each as its key and its entry. What is no member goes behind every list.
+pub fn list_groups(a: &Words, list: &mut [u32], p: u32) {
+    let from = group_of(a, p) << 6;
+    let end = rank(a, field(a, p, SECOND)) << 6;
     let mut n = 0;
-    for i in 0..SLOTS {
-        let j = plus(from, i);
-        if to <= j {
-            return;
-        }
-        n = list_group(list, n, item(a, KEYS, j), item(a, GROUPS, j));
+    for k in from..end {
+        let x = listed(a, k);
+        list_word(list, n | ((x == 0) as u32) << 31, x);
+        n = plus(n, (x != 0) as u32);
     }
-}
-
-// Lists a group behind n words; gives how many words are listed then.
-fn list_group(list: &mut [u32], n: u32, key: u32, group: u32) -> u32 {
-    if group == 0 {
-        return n;
-    }
-    let mut m = n;
-    for i in 0..ENTRY_SLOTS {
-        m = list_entry(list, m, key, plus(i, 1), group);
-    }
-    m
-}
-
-fn list_entry(list: &mut [u32], n: u32, key: u32, e: u32, group: u32) -> u32 {
-    if group & bit(e) == 0 {
-        return n;
-    }
-    set(list, n, key);
-    set(list, plus(n, 1), e);
-    plus(n, 2)
-}
-
-// A tidy with nothing above its first.
-pub fn tidy_nothing(a: &mut [u32]) -> Said {
-    note(a, 12);
-    done(a, 0, 0, 0)
 }

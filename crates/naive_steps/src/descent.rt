@@ -1,258 +1,257 @@
 // Descent: the way of a party from the root to the lowest node of its key, a step a level.
 use super::party::AT;
 use super::party::CHANGE;
+use super::party::DONE;
 use super::party::ENTER;
+use super::party::IDLE;
 use super::party::LOCATE;
+use super::party::MORE;
+use super::party::Plan;
 use super::party::Said;
 use super::party::TAKE;
-use super::party::done;
-use super::party::fail;
 use super::party::is_pinned;
+use super::party::lack;
 use super::party::latched_by_others;
-use super::party::more;
-use super::party::wait;
+use super::party::reply;
+use naive_tree::arrays::CHILDREN;
 use naive_tree::arrays::CODE;
-use naive_tree::arrays::FREE;
+use naive_tree::arrays::COUNTERS;
+use naive_tree::arrays::FANOUTS;
 use naive_tree::arrays::GAPS;
 use naive_tree::arrays::GROUPS;
-use naive_tree::arrays::LATCHED;
+use naive_tree::arrays::HEADER;
+use naive_tree::arrays::LEVELS;
 use naive_tree::arrays::LOCATES;
+use naive_tree::arrays::NO_EVENT;
+use naive_tree::arrays::NOWHERE;
 use naive_tree::arrays::ROOT;
 use naive_tree::arrays::SECOND;
-use naive_tree::arrays::STAGE;
 use naive_tree::arrays::TARGET;
 use naive_tree::arrays::UPDATES;
+use naive_tree::arrays::Words;
 use naive_tree::arrays::field;
 use naive_tree::arrays::get;
+use naive_tree::arrays::minus;
 use naive_tree::arrays::note;
-use naive_tree::arrays::note_if;
 use naive_tree::arrays::plus;
+use naive_tree::arrays::raise;
 use naive_tree::arrays::set;
 use naive_tree::arrays::set_field;
-use naive_tree::keys::add_descriptor;
 use naive_tree::keys::gap_below;
 use naive_tree::keys::is_stored;
-use naive_tree::keys::of_key;
-use naive_tree::keys::remove_descriptor;
-use naive_tree::tree::add_key;
-use naive_tree::tree::adopt;
+use naive_tree::keys::place;
+use naive_tree::tree::add_descriptor;
 use naive_tree::tree::below_lone_root;
 use naive_tree::tree::branch;
-use naive_tree::tree::fanout;
-use naive_tree::tree::fourth_boundary;
 use naive_tree::tree::free_node;
-use naive_tree::tree::grow;
 use naive_tree::tree::join;
-use naive_tree::tree::level;
-use naive_tree::tree::move_left;
-use naive_tree::tree::move_right;
-use naive_tree::tree::remove_key;
-use naive_tree::tree::son;
+use naive_tree::tree::move_one;
+use naive_tree::tree::remove_descriptor;
 use naive_tree::tree::split;
+use naive_tree::tree::split_root;
 
-// The next step enters the root, on the way to this key.
-pub fn descend_to(a: &mut [u32], p: u32, key: u32) -> Said {
-    set_field(a, p, STAGE, ENTER);
-    set_field(a, p, TARGET, key);
-    more()
+// What is done to a node before a party enters it, by its event: a session splits a full one; the housekeeper joins one with three sons with its left
+// neighbour or with its right one, or moves a son to it from one of them.
+const SPLIT: u32 = 1;
+
+const JOIN: u32 = 2;
+
+const MOVE: u32 = 4;
+
+// Must a session split the node that it enters?
+fn is_full(a: &Words, p: u32, n: u32) -> bool {
+    (p != 0) & (get(a, FANOUTS, n) == 8)
 }
 
-// Latches a node. The latch that the party had before ends.
-fn latch(a: &mut [u32], p: u32, n: u32) -> Said {
-    set_field(a, p, STAGE, AT);
-    set_field(a, p, LATCHED, n);
-    more()
+// The place of the son of a node to which the party goes.
+fn way(a: &Words, p: u32, n: u32) -> u32 {
+    branch(a, n, field(a, p, TARGET))
 }
 
-// The half of a split node that a key lies in.
-fn half(left: u32, right: u32, bound: u32, key: u32) -> u32 {
-    if key <= bound { left } else { right }
+// The left place of the two that are joined or between which a son moves: the neighbour is the node to the left, of the first node the one to the right.
+fn left_place(at: u32) -> u32 {
+    minus(at, (at % 8 != 0) as u32)
 }
 
-fn is_full(a: &[u32], p: u32, n: u32) -> bool {
-    p != 0 && fanout(a, n) == 8
+fn neighbour(at: u32) -> u32 {
+    let left = left_place(at);
+    plus(left, (left == at) as u32)
+}
+
+// Which of the two events it is: that of the right neighbour is one more.
+fn sided(event: u32, at: u32) -> u32 {
+    plus(event, (at % 8 == 0) as u32)
+}
+
+// What is done to the node at a place before the party enters it.
+fn due(a: &Words, p: u32, at: u32) -> u32 {
+    let n = get(a, CHILDREN, at);
+    if is_full(a, p, n) {
+        return SPLIT;
+    }
+    if (p != 0) | (get(a, FANOUTS, n) != 3) {
+        return NO_EVENT;
+    }
+    if get(a, FANOUTS, get(a, CHILDREN, neighbour(at))) <= 5 {
+        return sided(JOIN, at);
+    }
+    sided(MOVE, at)
+}
+
+// The other place of two that are joined or between which a son moves, or the same place.
+fn other_place(at: u32, event: u32) -> u32 {
+    if minus(event, JOIN) < 4 {
+        return neighbour(at);
+    }
+    at
+}
+
+// The step into the root. A split of it needs two records, and one becomes free where a root whose lone son is a node is dropped.
+pub fn root_plan(a: &Words, p: u32) -> Plan {
+    let top = get(a, HEADER, ROOT);
+    let n = below_lone_root(a);
+    let is_full = is_full(a, p, n);
+    Plan {
+        parties: latched_by_others(a, p, top) | latched_by_others(a, p, n),
+        event: 26,
+        refusal: lack(a, plus(is_full as u32, (is_full & (n == top)) as u32)),
+        beside: 0,
+        lock: NOWHERE,
+    }
+}
+
+// The step down from node n. A split needs a record, and at a lowest node a descriptor.
+pub fn way_plan(a: &Words, p: u32, n: u32) -> Plan {
+    if get(a, LEVELS, n) == 1 {
+        let is_new = (p != 0) & !is_stored(a, field(a, p, TARGET));
+        return Plan {
+            parties: 0,
+            event: 26,
+            refusal: lack(a, is_new as u32),
+            beside: 0,
+            lock: NOWHERE,
+        };
+    }
+    let at = way(a, p, n);
+    let event = due(a, p, at);
+    let other = other_place(at, event);
+    Plan {
+        parties: latched_by_others(a, p, get(a, CHILDREN, at))
+            | latched_by_others(a, p, get(a, CHILDREN, other)),
+        event: 26,
+        refusal: lack(a, (event == SPLIT) as u32),
+        beside: 0,
+        lock: NOWHERE,
+    }
 }
 
 // Enters the root: one whose lone son is a node is dropped first, and a full one split.
-pub fn enter(a: &mut [u32], p: u32) -> Said {
-    let top = get(a, ROOT);
+pub fn enter(a: &mut Words, p: u32) -> Said {
     let n = below_lone_root(a);
-    let parties = latched_by_others(a, p, top) | latched_by_others(a, p, n);
-    if parties != 0 {
-        return wait(a, 26, parties);
+    let is_full = is_full(a, p, n);
+    drop_root(a, n, is_full);
+    if is_full {
+        let top = split_root(a, n);
+        return enter_son(a, p, 0, top);
     }
-    if is_full(a, p, n) {
-        return enter_full_root(a, p, top, n);
-    }
-    drop_root(a, top, n);
-    latch(a, p, n)
+    reply(a, p, NO_EVENT, plus(AT, n), MORE, 0, 0)
 }
 
 // The root becomes n; if it was another, that one is dropped.
-fn drop_root(a: &mut [u32], top: u32, n: u32) {
+fn drop_root(a: &mut Words, n: u32, is_split: bool) {
+    let top = get(a, HEADER, ROOT);
     if top != n {
         note(a, 6);
+        raise(a, COUNTERS, 7, is_split as u32);
         free_node(a, top);
-        set(a, ROOT, n);
-        return;
+        set(a, HEADER, ROOT, n);
     }
 }
 
-fn room(a: &[u32], top: u32, n: u32) -> u32 {
-    if top == n {
-        return get(a, FREE);
-    }
-    plus(get(a, FREE), 1)
+// Latches the son of node n that the key lies in, after an event. The latch that the party had before ends.
+fn enter_son(a: &mut Words, p: u32, event: u32, n: u32) -> Said {
+    let at = way(a, p, n);
+    let son = get(a, CHILDREN, at);
+    reply(a, p, event, plus(AT, son), MORE, 0, 0)
 }
 
-fn enter_full_root(a: &mut [u32], p: u32, top: u32, n: u32) -> Said {
-    if room(a, top, n) < 2 {
-        return fail(a, p, 11, 0);
-    }
-    note_if(a, top != n, 7);
-    drop_root(a, top, n);
-    split_root(a, p, n)
-}
-
-fn split_root(a: &mut [u32], p: u32, n: u32) -> Said {
-    note(a, 0);
-    let right = split(a, n);
-    let bound = fourth_boundary(a, n);
-    grow(a, n, right, bound);
-    let key = field(a, p, TARGET);
-    latch(a, p, half(n, right, bound, key))
-}
-
-// One step further down from the latched node.
-pub fn go_down(a: &mut [u32], p: u32) -> Said {
-    let n = field(a, p, LATCHED);
-    if level(a, n) == 1 {
+// One step further down from node n, which is latched.
+pub fn go_down(a: &mut Words, p: u32, n: u32) -> Said {
+    if get(a, LEVELS, n) == 1 {
         return arrive(a, p, n);
     }
-    let i = branch(a, n, field(a, p, TARGET));
-    let below = son(a, n, i);
-    if p == 0 && fanout(a, below) == 3 {
-        return enter_poor(a, n, i);
-    }
-    let parties = latched_by_others(a, p, below);
-    if parties != 0 {
-        return wait(a, 26, parties);
-    }
-    if is_full(a, p, below) {
-        return enter_full(a, p, n, i);
-    }
-    latch(a, p, below)
+    let at = way(a, p, n);
+    let event = due(a, p, at);
+    rebuild(a, at, event);
+    enter_son(a, p, event, n)
 }
 
-// Son i of node n is full.
-fn enter_full(a: &mut [u32], p: u32, n: u32, i: u32) -> Said {
-    if get(a, FREE) < 1 {
-        return fail(a, p, 11, 0);
+// Does to the node at a place what is due.
+fn rebuild(a: &mut Words, at: u32, event: u32) {
+    if event == SPLIT {
+        split(a, at);
     }
-    note(a, 1);
-    let left = son(a, n, i);
-    let right = split(a, left);
-    let bound = fourth_boundary(a, left);
-    adopt(a, n, i, right, bound);
-    let key = field(a, p, TARGET);
-    latch(a, p, half(left, right, bound, key))
-}
-
-// The housekeeper enters son i of node n, which has three sons.
-fn enter_poor(a: &mut [u32], n: u32, i: u32) -> Said {
-    let me = son(a, n, i);
-    let place = if i == 0 { 1 } else { i - 1 };
-    let neighbour = son(a, n, place);
-    let parties = latched_by_others(a, 0, me) | latched_by_others(a, 0, neighbour);
-    if parties != 0 {
-        return wait(a, 26, parties);
+    if minus(event, JOIN) < 2 {
+        join(a, left_place(at));
     }
-    if fanout(a, neighbour) <= 5 {
-        return join_with(a, n, i);
+    if minus(event, MOVE) < 2 {
+        move_one(a, left_place(at), event == MOVE);
     }
-    if i == 0 {
-        note(a, 5);
-        move_left(a, n, 0);
-        return latch(a, 0, me);
-    }
-    note(a, 4);
-    move_right(a, n, place);
-    latch(a, 0, me)
-}
-
-// Joins son i of node n with its left neighbour, the first one with its right neighbour.
-fn join_with(a: &mut [u32], n: u32, i: u32) -> Said {
-    if i == 0 {
-        let me = son(a, n, 0);
-        note(a, 3);
-        join(a, n, 0);
-        return latch(a, 0, me);
-    }
-    let left = son(a, n, i - 1);
-    note(a, 2);
-    join(a, n, i - 1);
-    latch(a, 0, left)
 }
 
 // The last step of a descent, at the lowest node.
-fn arrive(a: &mut [u32], p: u32, n: u32) -> Said {
-    if p == 0 {
-        return tidy(a, n);
-    }
+fn arrive(a: &mut Words, p: u32, n: u32) -> Said {
     let key = field(a, p, TARGET);
-    if is_stored(a, key) {
-        return pin(a, p);
+    if p == 0 {
+        return tidy(a, n, key);
     }
-    if get(a, FREE) < 1 {
-        return fail(a, p, 11, 0);
+    if !is_stored(a, key) {
+        make_descriptor(a, n, key);
     }
-    make_descriptor(a, n, key);
     pin(a, p)
 }
 
-fn make_descriptor(a: &mut [u32], n: u32, key: u32) {
+fn make_descriptor(a: &mut Words, n: u32, key: u32) {
     let holders = gap_below(a, key);
     note(a, 8);
-    note_if(a, holders != 0, 9);
-    add_descriptor(a, key, holders);
-    add_key(a, n, key);
+    raise(a, COUNTERS, 9, (holders != 0) as u32);
+    add_descriptor(a, n, key, holders);
 }
 
-// Pins the descriptor of the target: an insert or remove comes to its change, a locate goes on to its second key or takes its keys.
-fn pin(a: &mut [u32], p: u32) -> Said {
+// The stage of a party that has arrived: an insert or remove comes to its change, a locate goes on to its second key or takes its keys.
+fn stage_after(a: &Words, p: u32) -> u32 {
     if field(a, p, CODE) != LOCATE {
-        set_field(a, p, STAGE, CHANGE);
-        return more();
+        return CHANGE;
     }
-    let second = field(a, p, SECOND);
-    if field(a, p, TARGET) != second {
-        return descend_to(a, p, second);
+    if field(a, p, TARGET) != field(a, p, SECOND) {
+        return ENTER;
     }
-    set_field(a, p, STAGE, TAKE);
-    more()
+    TAKE
 }
 
-// Is the descriptor of this key of no use?
-fn is_useless(a: &[u32], key: u32) -> bool {
-    if key == 0 || is_pinned(a, key) {
-        return false;
-    }
-    if of_key(a, GROUPS, key) != 0 || of_key(a, UPDATES, key) != 0 {
-        return false;
-    }
+// Pins the descriptor of the target.
+fn pin(a: &mut Words, p: u32) -> Said {
+    let stage = stage_after(a, p);
+    let second = field(a, p, SECOND);
+    set_field(a, p, TARGET, second);
+    reply(a, p, NO_EVENT, stage, MORE, 0, 0)
+}
+
+// Is the descriptor of this key of no use? Nobody needs it, and it holds what the gap before it holds.
+fn is_useless(a: &Words, key: u32) -> bool {
+    let i = place(a, key);
+    let is_empty = get(a, GROUPS, i) | get(a, UPDATES, i) == 0;
     let gap = gap_below(a, key);
-    of_key(a, LOCATES, key) == gap && of_key(a, GAPS, key) == gap
+    let is_same = (get(a, LOCATES, i) == gap) & (get(a, GAPS, i) == gap);
+    (key != 0) & is_empty & is_same & !is_pinned(a, key)
 }
 
 // Tidy's last step.
-fn tidy(a: &mut [u32], n: u32) -> Said {
-    let key = field(a, 0, TARGET);
-    if is_useless(a, key) {
-        note(a, 10);
-        remove_descriptor(a, key);
-        remove_key(a, n, key);
-        return done(a, 0, key, 1);
+fn tidy(a: &mut Words, n: u32, key: u32) -> Said {
+    let is_useless = is_useless(a, key);
+    if is_useless {
+        remove_descriptor(a, n, key);
     }
-    note(a, 11);
-    done(a, 0, key, 0)
+    let removed = is_useless as u32;
+    reply(a, 0, minus(11, removed), IDLE, DONE, key, removed)
 }

@@ -1,6 +1,13 @@
 // Arrays: where the parts of the model lie in its words, and how they are read and written.
 //
-// A word that is not there reads as 0, and a write to it does nothing. Sums wrap round: the model never makes one that does.
+// A word that is not there reads as 0, and a write to it does nothing. Sums wrap round.
+pub use std::num::wrapping_add_u32 as plus;
+pub use std::num::wrapping_sub_u32 as minus;
+
+// How many words the model has.
+pub const SIZE: usize = 68376;
+
+pub type Words = [u32; SIZE];
 
 // How many of each the model has room for.
 pub const ENTRY_SLOTS: u32 = 32;
@@ -11,72 +18,69 @@ pub const SLOTS: u32 = 4096;
 
 pub const PARTIES: u32 = 17;
 
-pub const SONS: u32 = 8;
-
-// The parts, each an array of words. Format clears those from HEADER up to CLEARED.
+// The parts, each an array of words. Format clears those from HEADER on.
 pub const COUNTERS: u32 = 0;
 
 pub const HEADER: u32 = 32;
 
 pub const VALUES: u32 = 48;
 
-pub const SHARES: u32 = 80;
-
-pub const EXCLUSIVES: u32 = 112;
-
-pub const SESSIONS: u32 = 144;
+pub const SESSIONS: u32 = 80;
 
 // The level of each node, 1 for the lowest; 0 marks a free slot. Slot 0 is never used.
-pub const LEVELS: u32 = 416;
+pub const LEVELS: u32 = 352;
 
-pub const CLEARED: u32 = 1916;
+// How many sons each node has.
+pub const FANOUTS: u32 = 1852;
 
-pub const FANOUTS: u32 = 1916;
-
-pub const BOUNDARIES: u32 = 3416;
+// The boundary before each son of a node.
+pub const BOUNDARIES: u32 = 3352;
 
 // The sons of a lowest node are keys of descriptors, those of another node are node slots.
-pub const CHILDREN: u32 = 15416;
+pub const CHILDREN: u32 = 15352;
 
-// The descriptors, rising by key.
-pub const KEYS: u32 = 27416;
+// The undo log, in order of time: five arrays of SLOTS words, one behind another.
+pub const UNDO_SESSIONS: u32 = 27352;
 
-pub const LOCATES: u32 = 31512;
+pub const UNDO_EVENTS: u32 = 31448;
 
-pub const UPDATES: u32 = 35608;
+pub const UNDO_ARRAYS: u32 = 35544;
 
-pub const GAPS: u32 = 39704;
+pub const UNDO_MARKS: u32 = 39640;
 
-pub const GROUPS: u32 = 43800;
+pub const UNDO_WORDS: u32 = 43736;
 
-// The undo log, in order of time.
-pub const UNDO_SESSIONS: u32 = 47896;
+// The descriptors, rising by key: five such arrays.
+pub const GROUPS: u32 = 47832;
 
-pub const UNDO_KINDS: u32 = 51992;
+pub const KEYS: u32 = 51928;
 
-pub const UNDO_KEYS: u32 = 56088;
+pub const LOCATES: u32 = 56024;
 
-pub const UNDO_ENTRIES: u32 = 60184;
+pub const UPDATES: u32 = 60120;
 
-pub const UNDO_VALUES: u32 = 64280;
+pub const GAPS: u32 = 64216;
 
-// The words of the header.
-pub const M: u32 = 32;
+// The holders of the entries. So the holders of all are one behind another.
+pub const SHARES: u32 = 68312;
 
-pub const R: u32 = 33;
+pub const EXCLUSIVES: u32 = 68344;
 
-pub const FREE: u32 = 34;
+// The words of the header: M, R and the root; how many nodes, descriptors and undo records there are.
+pub const M: u32 = 0;
 
-pub const ROOT: u32 = 35;
+pub const R: u32 = 1;
 
-pub const NODES: u32 = 36;
+pub const ROOT: u32 = 2;
 
-pub const DESCRIPTORS: u32 = 37;
+pub const NODES: u32 = 3;
 
-pub const UNDOS: u32 = 38;
+pub const DESCRIPTORS: u32 = 4;
 
-// The fields of a session. A code of 0 says that no request is in hand.
-pub const BEGUN: u32 = 0;
+pub const UNDOS: u32 = 5;
+
+// The fields of a party: how far it is, and its request as it was put.
+pub const STAGE: u32 = 0;
 
 pub const CODE: u32 = 1;
 
@@ -86,159 +90,130 @@ pub const FIRST: u32 = 3;
 
 pub const SECOND: u32 = 4;
 
-pub const STAGE: u32 = 5;
+// The key that the descent goes to, and the last key that a locate took.
+pub const TARGET: u32 = 5;
 
-// The key that the descent goes to, and the node that it has latched.
-pub const TARGET: u32 = 6;
+pub const LAST: u32 = 6;
 
-pub const LATCHED: u32 = 7;
+// A number that is added to take one away, the number of no event, and an element that no array has.
+pub const LESS: u32 = 4294967295;
 
-// Whether a locate has taken a key, and the last one it took.
-pub const HAS_LAST: u32 = 8;
+pub const NO_EVENT: u32 = 4294967295;
 
-pub const LAST: u32 = 9;
-
-// A word that is never there.
-const NOWHERE: u32 = 4294967295;
-
-// The word at a place.
-pub fn get(a: &[u32], at: u32) -> u32 {
-    let i = at as usize;
-    if i < a.len() { a[i] } else { 0 }
-}
-
-pub fn set(a: &mut [u32], at: u32, x: u32) {
-    let i = at as usize;
-    if i < a.len() {
-        a[i] = x;
-    }
-}
-
-pub fn plus(x: u32, y: u32) -> u32 {
-    std::num::wrapping_add_u32(x, y)
-}
-
-pub fn minus(x: u32, y: u32) -> u32 {
-    std::num::wrapping_sub_u32(x, y)
-}
+pub const NOWHERE: u32 = 68376;
 
 // Element i of the array at base.
-pub fn item(a: &[u32], base: u32, i: u32) -> u32 {
-    get(a, plus(base, i))
-}
-
-pub fn set_item(a: &mut [u32], base: u32, i: u32, x: u32) {
-    set(a, plus(base, i), x);
-}
-
-pub fn raise(a: &mut [u32], at: u32, by: u32) {
-    let x = plus(get(a, at), by);
-    set(a, at, x);
-}
-
-pub fn lower(a: &mut [u32], at: u32, by: u32) {
-    let x = minus(get(a, at), by);
-    set(a, at, x);
-}
-
-// Counts an event, by the numbers that `counted` takes.
-pub fn note(a: &mut [u32], event: u32) {
-    raise(a, plus(COUNTERS, event), 1);
-}
-
-pub fn note_if(a: &mut [u32], is_so: bool, event: u32) {
-    if is_so {
-        note(a, event);
-    }
-}
-
-// Puts x before element i of an array of so many words.
-pub fn insert_item(a: &mut [u32], base: u32, count: u32, i: u32, x: u32) {
-    let mut carried = x;
-    for k in 0..SLOTS {
-        let j = plus(i, k);
-        if count < j {
-            return;
-        }
-        let next = item(a, base, j);
-        set_item(a, base, j, carried);
-        carried = next;
-    }
-}
-
-// Takes element i out of an array of so many words.
-pub fn remove_item(a: &mut [u32], base: u32, count: u32, i: u32) {
-    for k in 0..SLOTS {
-        let j = plus(plus(i, k), 1);
-        if count <= j {
-            return;
-        }
-        let x = item(a, base, j);
-        set_item(a, base, minus(j, 1), x);
-    }
-}
-
-fn session_word(p: u32, field: u32) -> u32 {
-    if p < PARTIES {
-        return plus(SESSIONS + 16 * p, field);
-    }
-    NOWHERE
-}
-
-pub fn field(a: &[u32], p: u32, f: u32) -> u32 {
-    get(a, session_word(p, f))
-}
-
-pub fn set_field(a: &mut [u32], p: u32, f: u32, x: u32) {
-    set(a, session_word(p, f), x);
-}
-
-// Where the word of entry e is in an array of entries.
-pub fn entry_word(base: u32, e: u32) -> u32 {
-    if e < 1 {
-        return NOWHERE;
-    }
-    if ENTRY_SLOTS < e {
-        return NOWHERE;
-    }
-    plus(base, e - 1)
-}
-
-// The bit of entry e in a group, of session s in a holders word.
-pub fn bit(e: u32) -> u32 {
-    if e < 1 {
-        return 0;
-    }
-    if 32 < e {
-        return 0;
-    }
-    1 << (e - 1)
-}
-
-// The bit of party p in a set of parties.
-pub fn party_bit(p: u32) -> u32 {
-    if p < PARTIES {
-        return 1 << p;
+pub fn get(a: &Words, base: u32, i: u32) -> u32 {
+    let at = plus(base, i) as usize;
+    if at < SIZE {
+        return a[at];
     }
     0
 }
 
-pub fn without(x: u32, bits: u32) -> u32 {
-    x ^ (x & bits)
-}
-
-// Takes bits out of so many words.
-pub fn clear_bits(a: &mut [u32], base: u32, count: u32, bits: u32) {
-    for i in 0..SLOTS {
-        if count <= i {
-            return;
-        }
-        let x = without(item(a, base, i), bits);
-        set_item(a, base, i, x);
+pub fn set(a: &mut Words, base: u32, i: u32, x: u32) {
+    let at = plus(base, i) as usize;
+    if at < SIZE {
+        a[at] = x;
     }
 }
 
-// Clears so many words.
-pub fn clear(a: &mut [u32], base: u32, count: u32) {
-    clear_bits(a, base, count, 4294967295);
+pub fn raise(a: &mut Words, base: u32, i: u32, by: u32) {
+    let x = plus(get(a, base, i), by);
+    set(a, base, i, x);
+}
+
+pub fn add_bits(a: &mut Words, base: u32, i: u32, bits: u32) {
+    let x = get(a, base, i) | bits;
+    set(a, base, i, x);
+}
+
+// Counts an event, by the numbers that `counted` takes.
+pub fn note(a: &mut Words, event: u32) {
+    raise(a, COUNTERS, event, 1);
+}
+
+// The first place from..end of the array at base with a word above x, or end.
+pub fn next_above(a: &Words, base: u32, from: u32, end: u32, x: u32) -> u32 {
+    for i in from..end {
+        if x < get(a, base, i) {
+            return i;
+        }
+    }
+    end
+}
+
+// Puts x before element i of an array; what stands from there on up to end moves up by one, and the last of it is lost.
+pub fn insert_item(a: &mut Words, base: u32, i: u32, end: u32, x: u32) {
+    let mut carried = x;
+    for j in i..end {
+        let next = get(a, base, j);
+        set(a, base, j, carried);
+        carried = next;
+    }
+}
+
+// Takes element i out of an array: what stands behind it moves down by one.
+pub fn remove_item(a: &mut Words, base: u32, i: u32, end: u32) {
+    for j in i..end {
+        let x = get(a, base, plus(j, 1));
+        set(a, base, j, x);
+    }
+}
+
+// Puts a word into each of the five arrays from base on, at place i. The header counts what they hold.
+pub fn insert_row(a: &mut Words, base: u32, counter: u32, i: u32, row: [u32; 5]) {
+    raise(a, HEADER, counter, 1);
+    let end = get(a, HEADER, counter);
+    let mut part = base;
+    for k in 0..5 {
+        let x = row[k];
+        insert_item(a, part, i, end, x);
+        part = plus(part, SLOTS);
+    }
+}
+
+// Takes place i out of each of the five arrays from base on.
+pub fn remove_row(a: &mut Words, base: u32, counter: u32, i: u32) {
+    let end = get(a, HEADER, counter);
+    for k in 0..5 {
+        remove_item(a, plus(base, k << 12), i, end);
+    }
+    raise(a, HEADER, counter, LESS);
+}
+
+// Takes bits out of so many words.
+pub fn clear_bits(a: &mut Words, base: u32, count: u32, bits: u32) {
+    for i in 0..count {
+        let x = get(a, base, i);
+        set(a, base, i, x ^ (x & bits));
+    }
+}
+
+// Field f of party p, whose words are sixteen.
+pub fn field(a: &Words, p: u32, f: u32) -> u32 {
+    get(a, plus(SESSIONS, p << 4), f)
+}
+
+pub fn set_field(a: &mut Words, p: u32, f: u32, x: u32) {
+    set(a, plus(SESSIONS, p << 4), f, x);
+}
+
+// Sets the fields of party p.
+pub fn set_fields(a: &mut Words, p: u32, words: [u32; 7]) {
+    let mut f = 0;
+    for k in 0..7 {
+        let x = words[k];
+        set_field(a, p, f, x);
+        f = plus(f, 1);
+    }
+}
+
+// The bit of entry e in a group, of session s in a holders word.
+pub fn bit(e: u32) -> u32 {
+    let i = minus(e, 1);
+    if i < 32 {
+        return 1 << i;
+    }
+    0
 }

@@ -13,11 +13,17 @@ abbrev μ-loop : tie.MeasureT-loop
 loop-holds : tie.Need-loop-holds Inv-loop μ-loop
 loop-holds c = search needs
 
-is-latched-requires : tie.Need-is-latched-requires Inv-loop μ-loop
-is-latched-requires c κs = search needs
+field-requires : tie.Need-field-requires Inv-loop μ-loop
+field-requires c κs = search needs
 
-party-bit-requires : tie.Need-party-bit-requires Inv-loop μ-loop
-party-bit-requires c κs = search needs
+wrapping-add-u32-requires : tie.Need-wrapping-add-u32-requires Inv-loop μ-loop
+wrapping-add-u32-requires c κs = search needs
+
+cast-parties : tie.Need-cast-parties Inv-loop μ-loop
+cast-parties c = search needs
+
+shl-parties : tie.Need-shl-parties Inv-loop μ-loop
+shl-parties c = search needs
 
 add-q : tie.Need-add-q Inv-loop μ-loop
 add-q c = search needs
@@ -38,8 +44,10 @@ latched-by-others-spec =
     Inv-loop
     μ-loop
     loop-holds
-    is-latched-requires
-    party-bit-requires
+    field-requires
+    wrapping-add-u32-requires
+    cast-parties
+    shl-parties
     add-q
     loop-less
     loop-again

@@ -1,43 +1,29 @@
 -- `naive_tree::arrays::remove_item` is safe and ends.
 use borrow.Author.Needs.{needs}
 use Prim.Native.Nat.{_-_}
-use lib.ListN.{length}
-use mathlib.Core.Path.{_≡_}
 use Rattle.naive_tree.proofs.arrays.remove_item.Statement.{statement}
 use Rattle.naive_tree.proofs.arrays.remove_item.Tie as tie
 
 abbrev Inv-loop : tie.InvT-loop
-Inv-loop a₀ base count i k₀ a k = (length a ≡ length a₀)
+Inv-loop a₀ base i end j₀ a j = Unit {0}
 
 abbrev μ-loop : tie.MeasureT-loop
-μ-loop a₀ base count i k₀ a k = 4096 - k
+μ-loop a₀ base i end j₀ a j = end - j
 
 loop-holds : tie.Need-loop-holds Inv-loop μ-loop
 loop-holds c = search needs
 
-plus-requires : tie.Need-plus-requires Inv-loop μ-loop
-plus-requires c κs = search needs
+wrapping-add-u32-requires : tie.Need-wrapping-add-u32-requires Inv-loop μ-loop
+wrapping-add-u32-requires c κs = search needs
 
-plus-requires-2 : tie.Need-plus-requires-2 Inv-loop μ-loop
-plus-requires-2 c κs = search needs
+get-requires : tie.Need-get-requires Inv-loop μ-loop
+get-requires c κs = search needs
 
-same-length : tie.Need-same-length Inv-loop μ-loop
-same-length c = cc
+set-requires : tie.Need-set-requires Inv-loop μ-loop
+set-requires c κs = search needs
 
-returns : tie.Need-returns Inv-loop μ-loop
-returns c = search needs
-
-item-requires : tie.Need-item-requires Inv-loop μ-loop
-item-requires c κs = search needs
-
-minus-requires : tie.Need-minus-requires Inv-loop μ-loop
-minus-requires c κs = search needs
-
-set-item-requires : tie.Need-set-item-requires Inv-loop μ-loop
-set-item-requires c κs = search needs
-
-add-k : tie.Need-add-k Inv-loop μ-loop
-add-k c = search needs
+add-j : tie.Need-add-j Inv-loop μ-loop
+add-j c = search needs
 
 loop-less : tie.Need-loop-less Inv-loop μ-loop
 loop-less c = search needs
@@ -45,11 +31,8 @@ loop-less c = search needs
 loop-again : tie.Need-loop-again Inv-loop μ-loop
 loop-again c = search needs
 
-same-length-2 : tie.Need-same-length-2 Inv-loop μ-loop
-same-length-2 c = cc
-
-returns-2 : tie.Need-returns-2 Inv-loop μ-loop
-returns-2 c = search needs
+returns : tie.Need-returns Inv-loop μ-loop
+returns c = search needs
 
 pub remove-item-spec : {M : Type 1} → statement M
 remove-item-spec =
@@ -58,15 +41,10 @@ remove-item-spec =
     Inv-loop
     μ-loop
     loop-holds
-    plus-requires
-    plus-requires-2
-    same-length
-    returns
-    item-requires
-    minus-requires
-    set-item-requires
-    add-k
+    wrapping-add-u32-requires
+    get-requires
+    set-requires
+    add-j
     loop-less
     loop-again
-    same-length-2
-    returns-2)
+    returns)

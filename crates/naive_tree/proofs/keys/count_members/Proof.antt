@@ -8,22 +8,16 @@ abbrev Inv-loop : tie.InvT-loop
 Inv-loop a from to n₀ i₀ n i = Unit {0}
 
 abbrev μ-loop : tie.MeasureT-loop
-μ-loop a from to n₀ i₀ n i = 4096 - i
+μ-loop a from to n₀ i₀ n i = to - i
 
 loop-holds : tie.Need-loop-holds Inv-loop μ-loop
 loop-holds c = search needs
 
-plus-requires : tie.Need-plus-requires Inv-loop μ-loop
-plus-requires c κs = search needs
+get-requires : tie.Need-get-requires Inv-loop μ-loop
+get-requires c κs = search needs
 
-returns : tie.Need-returns Inv-loop μ-loop
-returns c = search needs
-
-item-requires : tie.Need-item-requires Inv-loop μ-loop
-item-requires c κs = search needs
-
-plus-requires-2 : tie.Need-plus-requires-2 Inv-loop μ-loop
-plus-requires-2 c κs = search needs
+wrapping-add-u32-requires : tie.Need-wrapping-add-u32-requires Inv-loop μ-loop
+wrapping-add-u32-requires c κs = search needs
 
 add-i : tie.Need-add-i Inv-loop μ-loop
 add-i c = search needs
@@ -34,8 +28,8 @@ loop-less c = search needs
 loop-again : tie.Need-loop-again Inv-loop μ-loop
 loop-again c = search needs
 
-returns-2 : tie.Need-returns-2 Inv-loop μ-loop
-returns-2 c = search needs
+returns : tie.Need-returns Inv-loop μ-loop
+returns c = search needs
 
 pub count-members-spec : {M : Type 1} → statement M
 count-members-spec =
@@ -44,11 +38,9 @@ count-members-spec =
     Inv-loop
     μ-loop
     loop-holds
-    plus-requires
-    returns
-    item-requires
-    plus-requires-2
+    get-requires
+    wrapping-add-u32-requires
     add-i
     loop-less
     loop-again
-    returns-2)
+    returns)
