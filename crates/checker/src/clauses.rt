@@ -1,40 +1,35 @@
 // Clauses: the paragraph's clauses by number, in its order, and what each asks of records, parties and entries.
-use super::groups::is_entry_listed;
-use super::groups::is_linked_back;
-use super::groups::is_listed_once;
-use super::groups::is_zero_empty;
-use super::groups::is_zero_stored;
-use super::holders::are_entry_holders_begun;
-use super::holders::are_group_holders_begun;
-use super::holders::is_entry_agreed;
-use super::holders::is_group_agreed;
+use super::holders::agree;
+use super::holders::are_begun;
+use super::reach::BEFORE;
+use super::reach::DESCRIPTOR;
+use super::reach::FROM;
+use super::reach::KIND;
 use super::reach::List;
-use super::reach::is_reached_once;
-use super::requests::are_arguments;
-use super::requests::are_passed_held;
-use super::requests::are_pins_named;
-use super::requests::is_choice_stored;
-use super::requests::is_code;
-use super::requests::is_entry_locked;
-use super::requests::is_latch_on_path;
-use super::requests::is_latch_owned;
-use super::requests::is_latched;
-use super::requests::is_latched_fanout;
-use super::requests::is_level;
-use super::requests::is_pin_count;
-use super::requests::is_stage;
-use super::requests::is_target;
+use super::reach::MEMBERSHIP;
+use super::reach::NODE;
+use super::reach::RECORD;
+use super::reach::UNDO;
+use super::reach::found;
+use super::reach::item;
+use super::reach::place_of;
+use super::requests::party_keeps;
 use super::table::Table;
-use super::tree::are_bounds_keys;
-use super::tree::is_chained;
-use super::tree::is_fanout;
-use super::tree::is_rising;
-use super::tree::is_root_node;
-use super::tree::is_separated;
+use super::tree::descriptor_keeps;
+use super::tree::node_keeps;
 use super::undos::is_undo_locked;
 use super::undos::is_undone;
-use super::words::entries;
-use super::words::sizes;
+use super::words::BACK;
+use super::words::ENTRIES;
+use super::words::ENTRY;
+use super::words::EXCLUSIVE;
+use super::words::RECORDS;
+use super::words::SHARE;
+use super::words::are_sizes;
+use super::words::entry_field;
+use super::words::field;
+use super::words::records;
+use super::words::word;
 
 pub const SIZES: u32 = 0;
 
@@ -98,53 +93,37 @@ pub const UNDONE: u32 = 29;
 
 pub const CLAUSES: u32 = 30;
 
+// Does the membership in record i, at place j, keep clause c?
+fn member_keeps(s: &[u32], list: &List, n: u32, c: u32, j: u32, i: u32) -> bool {
+    let entry = field(s, i, ENTRY);
+    match c {
+        // "no group lists an entry twice"
+        LISTED_ONCE => found(s, list, n, MEMBERSHIP, item(list, j, FROM), entry) == i,
+        // "or one outside 1 to M"
+        LISTED_ENTRY => (1 <= entry) & (entry <= word(s, ENTRIES)),
+        // A membership's link back names the member before it.
+        LINKED_BACK => field(s, i, BACK) == item(list, j, BEFORE),
+        _ => true,
+    }
+}
+
 // Does what was reached at place j keep clause c?
 fn item_keeps(s: &[u32], t: &Table, list: &List, n: u32, c: u32, j: u32) -> bool {
-    match c {
-        REACHED => is_reached_once(s, list, n, j),
-        RISING => is_rising(s, list, j),
-        CHAINED => is_chained(s, list, j),
-        SEPARATED => is_separated(s, list, j),
-        LOWEST => are_bounds_keys(s, list, j),
-        FANOUT => is_fanout(s, list, j),
-        ZERO_EMPTY => is_zero_empty(s, list, j),
-        LISTED_ONCE => is_listed_once(s, list, n, j),
-        LISTED_ENTRY => is_entry_listed(s, list, j),
-        LINKED_BACK => is_linked_back(s, list, j),
-        BEGUN => are_group_holders_begun(s, t, list, j),
-        AGREED => is_group_agreed(s, list, j),
-        PIN_COUNTS => is_pin_count(s, t, list, j),
-        LATCHES => is_latch_owned(s, t, list, j),
-        UNDO_LOCKS => is_undo_locked(s, list, n, j),
-        UNDONE => is_undone(s, list, n, j),
-        _ => true,
+    let i = item(list, j, RECORD);
+    let kind = item(list, j, KIND);
+    // "every record is reached exactly once": there are R in the list, all of them records, none of them twice
+    if c == REACHED {
+        return (n == records(s)) & (1 <= i) & (i <= n) & (place_of(list, n, 0, i) == j);
     }
-}
-
-// Does party p keep clause c?
-fn party_keeps(s: &[u32], t: &Table, list: &List, n: u32, c: u32, p: u32) -> bool {
-    match c {
-        PINS_NAMED => are_pins_named(s, t, list, n, p),
-        LATCHES => is_latched(s, t, list, n, p),
-        TARGETS => is_target(t, p),
-        LEVELS => is_level(t, list, n, p),
-        ON_PATH => is_latch_on_path(s, t, list, n, p),
-        CODES => is_code(t, p),
-        ARGUMENTS => are_arguments(s, t, p),
-        STAGES => is_stage(t, p),
-        ENTRY_LOCKS => is_entry_locked(s, t, p),
-        LATCHED_FANOUT => is_latched_fanout(s, t, list, n, p),
-        CHOICE => is_choice_stored(s, t, list, n, p),
-        PASSED => are_passed_held(s, t, list, n, p),
-        _ => true,
-    }
-}
-
-// Does entry e keep clause c?
-fn entry_keeps(s: &[u32], t: &Table, c: u32, e: u32) -> bool {
-    match c {
-        BEGUN => are_entry_holders_begun(s, t, e),
-        AGREED => is_entry_agreed(s, e),
+    match kind {
+        NODE => node_keeps(s, t, list, c, j, i),
+        DESCRIPTOR => descriptor_keeps(s, t, list, c, j, i),
+        MEMBERSHIP => member_keeps(s, list, n, c, j, i),
+        UNDO => match c {
+            UNDO_LOCKS => is_undo_locked(s, list, n, item(list, j, FROM), i),
+            UNDONE => is_undone(s, list, n, j, i),
+            _ => true,
+        },
         _ => true,
     }
 }
@@ -161,6 +140,9 @@ fn all_items_keep(s: &[u32], t: &Table, list: &List, n: u32, c: u32) -> bool {
 }
 
 fn all_parties_keep(s: &[u32], t: &Table, list: &List, n: u32, c: u32) -> bool {
+    if c < PINS_NAMED {
+        return true;
+    }
     let mut p = 0;
     while p < 17 {
         if !party_keeps(s, t, list, n, c, p) {
@@ -172,11 +154,18 @@ fn all_parties_keep(s: &[u32], t: &Table, list: &List, n: u32, c: u32) -> bool {
 }
 
 fn all_entries_keep(s: &[u32], t: &Table, c: u32) -> bool {
-    let m = entries(s);
+    let m = word(s, ENTRIES);
     let mut e = 0;
     while e < m && e < 1024 {
         e += 1;
-        if !entry_keeps(s, t, c, e) {
+        let share = entry_field(s, e, SHARE);
+        let exclusive = entry_field(s, e, EXCLUSIVE);
+        let is_kept = match c {
+            BEGUN => are_begun(t, share | exclusive),
+            AGREED => agree(share, exclusive),
+            _ => return true,
+        };
+        if !is_kept {
             return false;
         }
     }
@@ -186,9 +175,11 @@ fn all_entries_keep(s: &[u32], t: &Table, c: u32) -> bool {
 // Does the whole keep clause c?
 pub fn keeps(s: &[u32], t: &Table, list: &List, n: u32, c: u32) -> bool {
     match c {
-        SIZES => sizes(s),
-        ROOT => is_root_node(list),
-        ZERO_STORED => is_zero_stored(s, list, n),
+        SIZES => are_sizes(s.len(), word(s, ENTRIES), word(s, RECORDS)),
+        // "the root .. never a descriptor"
+        ROOT => item(list, 0, KIND) == NODE,
+        // "key 0 is stored"
+        ZERO_STORED => found(s, list, n, DESCRIPTOR, 0, 0) != 0,
         _ => {
             all_items_keep(s, t, list, n, c)
                 && all_parties_keep(s, t, list, n, c)

@@ -5,7 +5,6 @@
 // shares no code with the store's own test, so that the two can be held against each other. It takes any words and any session records, and
 // its contracts say only that it is safe and ends. It rests on sessions for the session record.
 pub mod clauses;
-mod groups;
 mod holders;
 mod reach;
 mod requests;
@@ -15,36 +14,26 @@ mod undos;
 mod words;
 
 use clauses::CLAUSES;
-use clauses::REACHED;
 use clauses::SIZES;
 use clauses::keeps;
 use reach::reach;
 use sessions::Session;
-use table::flat;
-use words::sizes;
+use table::rows;
+use words::ENTRIES;
+use words::RECORDS;
+use words::are_sizes;
+use words::word;
 
-// Are store and session table sound? The clauses one after the other, up to the first that refuses.
+// Are store and session table sound? No clause refuses.
 pub fn sound_by_paper(store: &[u32], t: [Session; 17]) -> bool {
-    if !sizes(store) {
-        return false;
-    }
-    let table = flat(t);
-    let mut list = [0u32; 20500];
-    let n = reach(store, &table, &mut list);
-    let mut c = REACHED;
-    while c < CLAUSES {
-        if !keeps(store, &table, &list, n, c) {
-            return false;
-        }
-        c += 1;
-    }
-    true
+    are_sizes(store.len(), word(store, ENTRIES), word(store, RECORDS))
+        && is_only_refusal(store, t, CLAUSES)
 }
 
-// Does this clause, and no other, refuse store and table?
+// Does this clause, and no other, refuse store and table? The clauses one after the other, up to the first that says otherwise.
 pub fn is_only_refusal(store: &[u32], t: [Session; 17], clause: u32) -> bool {
-    let table = flat(t);
-    let mut list = [0u32; 20500];
+    let table = rows(t);
+    let mut list = [[0u32; 4]; 4100];
     let n = reach(store, &table, &mut list);
     let mut c = SIZES;
     while c < CLAUSES {

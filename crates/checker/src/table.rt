@@ -1,9 +1,35 @@
-// Table: the session table as one run of words, 13 to a party, so that it can be lent.
+// Table: the session table as rows of words, so that it can be lent.
 use super::words::wide;
-use super::words::word;
 use sessions::Session;
 
-pub type Table = [u32; 221];
+pub type Table = [[u32; 13]; 17];
+
+// The fields of a party's row.
+pub const BEGUN: usize = 0;
+
+pub const CODE: usize = 1;
+
+pub const ENTRY: usize = 2;
+
+pub const FIRST: usize = 3;
+
+pub const SECOND: usize = 4;
+
+pub const STAGE: usize = 5;
+
+pub const TARGET: usize = 6;
+
+pub const AT_NODE: usize = 7;
+
+pub const AT_LEVEL: usize = 8;
+
+pub const LOW: usize = 9;
+
+pub const HIGH: usize = 10;
+
+pub const LAST: usize = 11;
+
+pub const UNDO: usize = 12;
 
 // The stages of a request in hand.
 pub const NONE: u32 = 0;
@@ -18,56 +44,35 @@ pub const CHANGE: u32 = 4;
 
 pub const TAKE: u32 = 5;
 
-fn save(w: &mut Table, p: usize, x: Session) {
-    if 16 < p {
-        return;
-    }
-    let at = 13 * p;
-    w[at] = x.begun;
-    w[at + 1] = x.code;
-    w[at + 2] = x.entry;
-    w[at + 3] = x.first;
-    w[at + 4] = x.second;
-    w[at + 5] = x.stage;
-    w[at + 6] = x.target;
-    w[at + 7] = x.at;
-    w[at + 8] = x.level;
-    w[at + 9] = x.low;
-    w[at + 10] = x.high;
-    w[at + 11] = x.last;
-    w[at + 12] = x.undo;
+fn row(x: Session) -> [u32; 13] {
+    [
+        x.begun,
+        x.code,
+        x.entry,
+        x.first,
+        x.second,
+        x.stage,
+        x.target,
+        x.at,
+        x.level,
+        x.low,
+        x.high,
+        x.last,
+        x.undo,
+    ]
 }
 
-pub fn flat(t: [Session; 17]) -> Table {
-    let mut w = [0u32; 221];
+pub fn rows(t: [Session; 17]) -> Table {
+    let mut w = [[0u32; 13]; 17];
     let mut p = 0;
     while p < 17 {
-        save(&mut w, p, t[p]);
+        w[p] = row(t[p]);
         p += 1;
     }
     w
 }
 
-// Field k of party p's record.
-fn party_field(t: &Table, p: u32, k: u32) -> u32 {
-    word(t, 13 * wide(p) + wide(k))
-}
-
-// The record of party p.
-pub fn party(t: &Table, p: u32) -> Session {
-    Session {
-        begun: party_field(t, p, 0),
-        code: party_field(t, p, 1),
-        entry: party_field(t, p, 2),
-        first: party_field(t, p, 3),
-        second: party_field(t, p, 4),
-        stage: party_field(t, p, 5),
-        target: party_field(t, p, 6),
-        at: party_field(t, p, 7),
-        level: party_field(t, p, 8),
-        low: party_field(t, p, 9),
-        high: party_field(t, p, 10),
-        last: party_field(t, p, 11),
-        undo: party_field(t, p, 12),
-    }
+// Field k of party p's row; 0 for a party that there is not.
+pub fn said(t: &Table, p: u32, k: usize) -> u32 {
+    if p < 17 { t[wide(p)][k % 13] } else { 0 }
 }

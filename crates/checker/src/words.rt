@@ -1,5 +1,19 @@
 // Words: where the words of a store lie (docs/STORE.md). A word that is not there reads as 0.
 ghost use mathlib.Core.Path.{_≡_};
+ghost use Prim.Native.Nat.{_≤_};
+
+// The words of the header.
+pub const ENTRIES: usize = 0;
+
+pub const RECORDS: usize = 1;
+
+pub const ROOT: usize = 2;
+
+pub const HEIGHT: usize = 3;
+
+pub const FIRST_DESCRIPTOR: usize = 4;
+
+pub const FIRST_FREE: usize = 5;
 
 // The words of records.
 pub const NEXT: u32 = 0;
@@ -7,6 +21,10 @@ pub const NEXT: u32 = 0;
 pub const LATCH: u32 = 0;
 
 pub const COUNT: u32 = 1;
+
+pub const BOUND: u32 = 1;
+
+pub const SON: u32 = 8;
 
 pub const KEY: u32 = 1;
 
@@ -48,30 +66,12 @@ pub fn word(s: &[u32], at: usize) -> u32 {
     if at < s.len() { s[at] } else { 0 }
 }
 
-pub fn entries(s: &[u32]) -> u32 {
-    word(s, 0)
-}
-
 // Never more than a store can have.
-pub fn records(s: &[u32]) -> u32 {
-    let r = word(s, 1);
+pub fn records(s: &[u32]) -> u32
+    ensures { λ r. ⌜ r ≤ 4096 ⌝ }
+{
+    let r = word(s, RECORDS);
     if r < 4096 { r } else { 4096 }
-}
-
-pub fn root(s: &[u32]) -> u32 {
-    word(s, 2)
-}
-
-pub fn height(s: &[u32]) -> u32 {
-    word(s, 3)
-}
-
-pub fn first_descriptor(s: &[u32]) -> u32 {
-    word(s, 4)
-}
-
-pub fn first_free(s: &[u32]) -> u32 {
-    word(s, 5)
 }
 
 // Word k of record i.
@@ -82,7 +82,7 @@ pub fn field(s: &[u32], i: u32, k: u32) -> u32 {
     if records(s) < i {
         return 0;
     }
-    word(s, 16 + 3 * wide(entries(s)) + 20 * (wide(i) - 1) + wide(k))
+    word(s, 3 * wide(word(s, ENTRIES)) + 20 * wide(i) + wide(k) - 4)
 }
 
 // Word k of entry e.
@@ -90,55 +90,30 @@ pub fn entry_field(s: &[u32], e: u32, k: u32) -> u32 {
     if e < 1 {
         return 0;
     }
-    if entries(s) < e {
+    if word(s, ENTRIES) < e {
         return 0;
     }
-    word(s, 16 + 3 * (wide(e) - 1) + wide(k))
+    word(s, 13 + 3 * wide(e) + wide(k))
 }
 
-// Boundary i of a node, 1 to 7, and its son i, 1 to 8.
-pub fn bound(s: &[u32], node: u32, i: u32) -> u32 {
-    if 7 < i {
-        return 0;
-    }
-    field(s, node, 1 + i)
-}
-
-pub fn son(s: &[u32], node: u32, i: u32) -> u32 {
-    if 8 < i {
-        return 0;
-    }
-    field(s, node, 8 + i)
-}
-
-// The bit of session p in a holders word.
-pub fn bit(p: u32) -> u32 {
+// Is session p among the holders?
+pub fn is_holder(holders: u32, p: u32) -> bool {
     if p < 1 {
-        return 0;
+        return false;
     }
     if 16 < p {
-        return 0;
+        return false;
     }
-    1 << (p - 1)
-}
-
-pub fn is_holder(holders: u32, p: u32) -> bool {
-    holders & bit(p) != 0
+    holders & (1 << (p - 1)) != 0
 }
 
 // "the header's M and R are those format gives for this length"
-pub fn sizes(s: &[u32]) -> bool {
-    let m = wide(entries(s));
-    if m < 1 || 1024 < m || s.len() < 16 + 3 * m {
+pub fn are_sizes(words: usize, m: u32, r: u32) -> bool {
+    let start = 16 + 3 * wide(m);
+    if words < start {
         return false;
     }
-    let r = (s.len() - (16 + 3 * m)) / 20;
-    if r < 8 {
-        return false;
-    }
-    if r < 4096 {
-        wide(word(s, 1)) == r
-    } else {
-        word(s, 1) == 4096
-    }
+    let room = (words - start) / 20;
+    let most = if room < 4096 { room } else { 4096 };
+    1 <= m && m <= 1024 && 8 <= room && wide(r) == most
 }

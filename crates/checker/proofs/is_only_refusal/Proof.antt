@@ -1,6 +1,6 @@
 -- `checker::is_only_refusal` is safe and ends.
-use borrow.Author.Needs.{needs}
 use Prim.Native.Nat.{_-_}
+use borrow.Author.Needs.{needs}
 use Rattle.checker.proofs.is_only_refusal.Statement.{statement}
 use Rattle.checker.proofs.is_only_refusal.Tie as tie
 
@@ -10,8 +10,8 @@ Inv-loop store clause table list n c₀ c = Unit {0}
 abbrev μ-loop : tie.MeasureT-loop
 μ-loop store clause table list n c₀ c = 30 - c
 
-flat-requires : tie.Need-flat-requires Inv-loop μ-loop
-flat-requires c κs = search needs
+rows-requires : tie.Need-rows-requires Inv-loop μ-loop
+rows-requires c κs = search needs
 
 reach-requires : tie.Need-reach-requires Inv-loop μ-loop
 reach-requires c κs = search needs
@@ -43,7 +43,7 @@ is-only-refusal-spec =
     (tie.spec
     Inv-loop
     μ-loop
-    flat-requires
+    rows-requires
     reach-requires
     loop-holds
     keeps-requires

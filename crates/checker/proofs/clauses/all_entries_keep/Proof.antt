@@ -1,6 +1,6 @@
 -- `checker::clauses::all_entries_keep` is safe and ends.
-use borrow.Author.Needs.{needs}
 use Prim.Native.Nat.{_-_}
+use borrow.Author.Needs.{needs}
 use Rattle.checker.proofs.clauses.all_entries_keep.Statement.{statement}
 use Rattle.checker.proofs.clauses.all_entries_keep.Tie as tie
 
@@ -10,8 +10,8 @@ Inv-loop s t c m e₀ e = Unit {0}
 abbrev μ-loop : tie.MeasureT-loop
 μ-loop s t c m e₀ e = m - e
 
-entries-requires : tie.Need-entries-requires Inv-loop μ-loop
-entries-requires c κs = search needs
+word-requires : tie.Need-word-requires Inv-loop μ-loop
+word-requires c κs = search needs
 
 loop-holds : tie.Need-loop-holds Inv-loop μ-loop
 loop-holds c = search needs
@@ -19,11 +19,23 @@ loop-holds c = search needs
 add-e : tie.Need-add-e Inv-loop μ-loop
 add-e c = search needs
 
-entry-keeps-requires : tie.Need-entry-keeps-requires Inv-loop μ-loop
-entry-keeps-requires c κs = search needs
+entry-field-requires : tie.Need-entry-field-requires Inv-loop μ-loop
+entry-field-requires c κs = search needs
+
+entry-field-requires-2 : tie.Need-entry-field-requires-2 Inv-loop μ-loop
+entry-field-requires-2 c κs = search needs
+
+are-begun-requires : tie.Need-are-begun-requires Inv-loop μ-loop
+are-begun-requires c κs = search needs
+
+agree-requires : tie.Need-agree-requires Inv-loop μ-loop
+agree-requires c κs = search needs
 
 returns : tie.Need-returns Inv-loop μ-loop
 returns c = search needs
+
+returns-2 : tie.Need-returns-2 Inv-loop μ-loop
+returns-2 c = search needs
 
 loop-less : tie.Need-loop-less Inv-loop μ-loop
 loop-less c = search needs
@@ -31,11 +43,11 @@ loop-less c = search needs
 loop-again : tie.Need-loop-again Inv-loop μ-loop
 loop-again c = search needs
 
-returns-2 : tie.Need-returns-2 Inv-loop μ-loop
-returns-2 c = search needs
-
 returns-3 : tie.Need-returns-3 Inv-loop μ-loop
 returns-3 c = search needs
+
+returns-4 : tie.Need-returns-4 Inv-loop μ-loop
+returns-4 c = search needs
 
 pub all-entries-keep-spec : {M : Type 1} → statement M
 all-entries-keep-spec =
@@ -43,12 +55,16 @@ all-entries-keep-spec =
     (tie.spec
     Inv-loop
     μ-loop
-    entries-requires
+    word-requires
     loop-holds
     add-e
-    entry-keeps-requires
+    entry-field-requires
+    entry-field-requires-2
+    are-begun-requires
+    agree-requires
     returns
+    returns-2
     loop-less
     loop-again
-    returns-2
-    returns-3)
+    returns-3
+    returns-4)

@@ -1,6 +1,6 @@
 -- `checker::clauses::all_items_keep` is safe and ends.
-use borrow.Author.Needs.{needs}
 use Prim.Native.Nat.{_-_}
+use borrow.Author.Needs.{needs}
 use Rattle.checker.proofs.clauses.all_items_keep.Statement.{statement}
 use Rattle.checker.proofs.clauses.all_items_keep.Tie as tie
 

@@ -1,6 +1,6 @@
 -- `checker::clauses::all_parties_keep` is safe and ends.
-use borrow.Author.Needs.{needs}
 use Prim.Native.Nat.{_-_}
+use borrow.Author.Needs.{needs}
 use Rattle.checker.proofs.clauses.all_parties_keep.Statement.{statement}
 use Rattle.checker.proofs.clauses.all_parties_keep.Tie as tie
 
@@ -10,14 +10,17 @@ Inv-loop s t list n c p₀ p = Unit {0}
 abbrev μ-loop : tie.MeasureT-loop
 μ-loop s t list n c p₀ p = 17 - p
 
+returns : tie.Need-returns Inv-loop μ-loop
+returns c = search needs
+
 loop-holds : tie.Need-loop-holds Inv-loop μ-loop
 loop-holds c = search needs
 
 party-keeps-requires : tie.Need-party-keeps-requires Inv-loop μ-loop
 party-keeps-requires c κs = search needs
 
-returns : tie.Need-returns Inv-loop μ-loop
-returns c = search needs
+returns-2 : tie.Need-returns-2 Inv-loop μ-loop
+returns-2 c = search needs
 
 add-p : tie.Need-add-p Inv-loop μ-loop
 add-p c = search needs
@@ -28,8 +31,8 @@ loop-less c = search needs
 loop-again : tie.Need-loop-again Inv-loop μ-loop
 loop-again c = search needs
 
-returns-2 : tie.Need-returns-2 Inv-loop μ-loop
-returns-2 c = search needs
+returns-3 : tie.Need-returns-3 Inv-loop μ-loop
+returns-3 c = search needs
 
 pub all-parties-keep-spec : {M : Type 1} → statement M
 all-parties-keep-spec =
@@ -37,10 +40,11 @@ all-parties-keep-spec =
     (tie.spec
     Inv-loop
     μ-loop
+    returns
     loop-holds
     party-keeps-requires
-    returns
+    returns-2
     add-p
     loop-less
     loop-again
-    returns-2)
+    returns-3)

@@ -1,6 +1,6 @@
 -- `checker::reach::place_of` is safe and ends.
-use borrow.Author.Needs.{needs}
 use Prim.Native.Nat.{_-_}
+use borrow.Author.Needs.{needs}
 use Rattle.checker.proofs.reach.place_of.Statement.{statement}
 use Rattle.checker.proofs.reach.place_of.Tie as tie
 
@@ -13,8 +13,11 @@ abbrev μ-loop : tie.MeasureT-loop
 loop-holds : tie.Need-loop-holds Inv-loop μ-loop
 loop-holds c = search needs
 
-item-at-requires : tie.Need-item-at-requires Inv-loop μ-loop
-item-at-requires c κs = search needs
+item-requires : tie.Need-item-requires Inv-loop μ-loop
+item-requires c κs = search needs
+
+item-requires-2 : tie.Need-item-requires-2 Inv-loop μ-loop
+item-requires-2 c κs = search needs
 
 returns : tie.Need-returns Inv-loop μ-loop
 returns c = search needs
@@ -38,7 +41,8 @@ place-of-spec =
     Inv-loop
     μ-loop
     loop-holds
-    item-at-requires
+    item-requires
+    item-requires-2
     returns
     add-j
     loop-less

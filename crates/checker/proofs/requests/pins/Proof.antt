@@ -1,6 +1,6 @@
 -- `checker::requests::pins` is safe and ends.
-use borrow.Author.Needs.{needs}
 use Prim.Native.Nat.{_-_}
+use borrow.Author.Needs.{needs}
 use Rattle.checker.proofs.requests.pins.Statement.{statement}
 use Rattle.checker.proofs.requests.pins.Tie as tie
 
@@ -13,14 +13,17 @@ abbrev μ-loop : tie.MeasureT-loop
 loop-holds : tie.Need-loop-holds Inv-loop μ-loop
 loop-holds c = search needs
 
-party-requires : tie.Need-party-requires Inv-loop μ-loop
-party-requires c κs = search needs
+pinned-requires : tie.Need-pinned-requires Inv-loop μ-loop
+pinned-requires c κs = search needs
 
-is-pinned-requires : tie.Need-is-pinned-requires Inv-loop μ-loop
-is-pinned-requires c κs = search needs
+said-requires : tie.Need-said-requires Inv-loop μ-loop
+said-requires c κs = search needs
 
-add-count : tie.Need-add-count Inv-loop μ-loop
-add-count c = search needs
+said-requires-2 : tie.Need-said-requires-2 Inv-loop μ-loop
+said-requires-2 c κs = search needs
+
+wrapping-add-u32-requires : tie.Need-wrapping-add-u32-requires Inv-loop μ-loop
+wrapping-add-u32-requires c κs = search needs
 
 add-p : tie.Need-add-p Inv-loop μ-loop
 add-p c = search needs
@@ -41,9 +44,10 @@ pins-spec =
     Inv-loop
     μ-loop
     loop-holds
-    party-requires
-    is-pinned-requires
-    add-count
+    pinned-requires
+    said-requires
+    said-requires-2
+    wrapping-add-u32-requires
     add-p
     loop-less
     loop-again

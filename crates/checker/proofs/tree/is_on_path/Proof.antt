@@ -15,14 +15,23 @@ records-requires c κs = search needs
 loop-holds : tie.Need-loop-holds Inv-loop μ-loop
 loop-holds c = search needs
 
-item-at-requires : tie.Need-item-at-requires Inv-loop μ-loop
-item-at-requires c κs = search needs
+item-requires : tie.Need-item-requires Inv-loop μ-loop
+item-requires c κs = search needs
 
-item-at-requires-2 : tie.Need-item-at-requires-2 Inv-loop μ-loop
-item-at-requires-2 c κs = search needs
+item-requires-2 : tie.Need-item-requires-2 Inv-loop μ-loop
+item-requires-2 c κs = search needs
 
-is-between-requires : tie.Need-is-between-requires Inv-loop μ-loop
-is-between-requires c κs = search needs
+add-field : tie.Need-add-field Inv-loop μ-loop
+add-field c = search needs
+
+field-requires : tie.Need-field-requires Inv-loop μ-loop
+field-requires c κs = search needs
+
+field-requires-2 : tie.Need-field-requires-2 Inv-loop μ-loop
+field-requires-2 c κs = search needs
+
+field-requires-3 : tie.Need-field-requires-3 Inv-loop μ-loop
+field-requires-3 c κs = search needs
 
 returns : tie.Need-returns Inv-loop μ-loop
 returns c = search needs
@@ -47,9 +56,12 @@ is-on-path-spec =
     μ-loop
     records-requires
     loop-holds
-    item-at-requires
-    item-at-requires-2
-    is-between-requires
+    item-requires
+    item-requires-2
+    add-field
+    field-requires
+    field-requires-2
+    field-requires-3
     returns
     sub-left
     loop-less

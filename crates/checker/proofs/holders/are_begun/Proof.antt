@@ -1,26 +1,26 @@
--- `checker::reach::reached_at` is safe and ends.
-use borrow.Author.Needs.{needs}
+-- `checker::holders::are_begun` is safe and ends.
 use Prim.Native.Nat.{_-_}
-use Rattle.checker.proofs.reach.reached_at.Statement.{statement}
-use Rattle.checker.proofs.reach.reached_at.Tie as tie
+use borrow.Author.Needs.{needs}
+use Rattle.checker.proofs.holders.are_begun.Statement.{statement}
+use Rattle.checker.proofs.holders.are_begun.Tie as tie
 
 abbrev Inv-loop : tie.InvT-loop
-Inv-loop list n «record» j₀ j = Unit {0}
+Inv-loop t holders left₀ p₀ left p = Unit {0}
 
 abbrev μ-loop : tie.MeasureT-loop
-μ-loop list n «record» j₀ j = n - j
+μ-loop t holders left₀ p₀ left p = 17 - p
 
 loop-holds : tie.Need-loop-holds Inv-loop μ-loop
 loop-holds c = search needs
 
-item-at-requires : tie.Need-item-at-requires Inv-loop μ-loop
-item-at-requires c κs = search needs
+said-requires : tie.Need-said-requires Inv-loop μ-loop
+said-requires c κs = search needs
 
 returns : tie.Need-returns Inv-loop μ-loop
 returns c = search needs
 
-add-j : tie.Need-add-j Inv-loop μ-loop
-add-j c = search needs
+add-p : tie.Need-add-p Inv-loop μ-loop
+add-p c = search needs
 
 loop-less : tie.Need-loop-less Inv-loop μ-loop
 loop-less c = search needs
@@ -31,16 +31,16 @@ loop-again c = search needs
 returns-2 : tie.Need-returns-2 Inv-loop μ-loop
 returns-2 c = search needs
 
-pub reached-at-spec : {M : Type 1} → statement M
-reached-at-spec =
+pub are-begun-spec : {M : Type 1} → statement M
+are-begun-spec =
     tie.close
     (tie.spec
     Inv-loop
     μ-loop
     loop-holds
-    item-at-requires
+    said-requires
     returns
-    add-j
+    add-p
     loop-less
     loop-again
     returns-2)

@@ -1,20 +1,26 @@
--- `checker::reach::stored` is safe and ends.
-use borrow.Author.Needs.{needs}
+-- `checker::reach::found` is safe and ends.
 use Prim.Native.Nat.{_-_}
-use Rattle.checker.proofs.reach.stored.Statement.{statement}
-use Rattle.checker.proofs.reach.stored.Tie as tie
+use borrow.Author.Needs.{needs}
+use Rattle.checker.proofs.reach.found.Statement.{statement}
+use Rattle.checker.proofs.reach.found.Tie as tie
 
 abbrev Inv-loop : tie.InvT-loop
-Inv-loop s list n key j₀ j = Unit {0}
+Inv-loop s list n kind group x k j₀ j = Unit {0}
 
 abbrev μ-loop : tie.MeasureT-loop
-μ-loop s list n key j₀ j = n - j
+μ-loop s list n kind group x k j₀ j = n - j
 
 loop-holds : tie.Need-loop-holds Inv-loop μ-loop
 loop-holds c = search needs
 
-item-at-requires : tie.Need-item-at-requires Inv-loop μ-loop
-item-at-requires c κs = search needs
+item-requires : tie.Need-item-requires Inv-loop μ-loop
+item-requires c κs = search needs
+
+item-requires-2 : tie.Need-item-requires-2 Inv-loop μ-loop
+item-requires-2 c κs = search needs
+
+item-requires-3 : tie.Need-item-requires-3 Inv-loop μ-loop
+item-requires-3 c κs = search needs
 
 field-requires : tie.Need-field-requires Inv-loop μ-loop
 field-requires c κs = search needs
@@ -34,14 +40,16 @@ loop-again c = search needs
 returns-2 : tie.Need-returns-2 Inv-loop μ-loop
 returns-2 c = search needs
 
-pub stored-spec : {M : Type 1} → statement M
-stored-spec =
+pub found-spec : {M : Type 1} → statement M
+found-spec =
     tie.close
     (tie.spec
     Inv-loop
     μ-loop
     loop-holds
-    item-at-requires
+    item-requires
+    item-requires-2
+    item-requires-3
     field-requires
     returns
     add-j
