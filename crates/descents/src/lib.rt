@@ -5,12 +5,13 @@
 // else the party and 1. The functions write what they are told to: whether a step is the right one is not decided here.
 //
 // Each function promises that the words it leaves, and what it answers, EQUAL a definition of specs/Descents, where also stands what it
-// asks for. It rests on the crates words, kinds, nodes, reshaping and chain.
+// asks for. It rests on the crates words, nodes, reshaping and chain, and on locks for how many sessions there are.
 ghost use mathlib.Core.Path.{_≡_};
 ghost use Prim.Native.Nat.{_≤_, _<_};
 ghost use Rattle.words.specs.Store.{HasRecord};
 ghost use Rattle.nodes.specs.Paths.{sonToward};
 ghost use Rattle.chain.specs.Free.{Poppable};
+ghost use Rattle.locks.specs.Holders.{width};
 ghost use Rattle.descents.specs.Descents.{Toward, plainSon, CanInsert, beside, insertLeaf, CanRemove, removeLeaf, hasFree, inWay, firstInWay};
 use nodes::Node;
 
@@ -18,7 +19,7 @@ use nodes::Node;
 
 // The party and 1 whose latch word w is in party p's way, 0 for none.
 pub fn in_way(p: u32, w: u32) -> u32
-    requires { ⌜ p ≤ 16 ⌝ }
+    requires { ⌜ p ≤ width ⌝ }
     ensures { λ r. ⌜ r ≡ inWay p w ⌝ }
 {
     if w == 0 {
@@ -32,7 +33,7 @@ pub fn in_way(p: u32, w: u32) -> u32
 
 // Of two latch words the first that is in party p's way.
 pub fn first_in_way(p: u32, v: u32, w: u32) -> u32
-    requires { ⌜ p ≤ 16 ⌝ }
+    requires { ⌜ p ≤ width ⌝ }
     ensures { λ r. ⌜ r ≡ firstInWay p v w ⌝ }
 {
     let first = in_way(p, v);

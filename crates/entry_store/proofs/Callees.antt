@@ -34,7 +34,7 @@ use denote.Triple.Clauses.{closing, ensured, lasts}
 use Rattle.sessions.specs.declared.Session.{Session}
 use Rattle.outcomes.specs.declared.Answer.{Answer}
 use Rattle.outcomes.specs.Said.{said}
-use Rattle.store.specs.Lent.{Effect, On17}
+use Rattle.store.specs.Lent.{Effect, OnTable}
 use Rattle.tables.proofs.Row.{R}
 use Rattle.store.proofs.Answers.{AnswerR, answerVal, answer-tell, answer-make}
 use Rattle.store.proofs.Thin.{P, PlainLaws, thinS, thinE, thinC}
@@ -74,7 +74,7 @@ module _ (D : Type 0) (τ : Ty) (wr : Written) (rs : List (Written × List Ty)) 
     pub calls-lent : K → FmC 𝓤 H (W .laws) C → Triple 𝓤 (C key) (Lent 𝓤 H A)
         → {κ₀ κ₁ : Lft} {q₀ q₁ : Share} {γ₀ γ : GName} (b₀ o₀ : ℕ) (st : List ℕ) (b o : ℕ) (ys : List Session) (k : D) → Is Q k (L .val k ∷ [])
         → Opds K W (raw (Lent 𝓤 H A .pre (to-lent 𝓤 H A κ₀ κ₁ q₀ q₁ γ₀ γ b₀ o₀ st b o ys k)) ∷ Γ) E ops (sliceVal (b₀, o₀) (length st) ∷ sliceVal (b, o) (length ys) ∷ L .val k ∷ [])
-        → ((a : Answer) (st′ : List ℕ) (zs : List Session) → length st′ ≡ length st → length zs ≡ length ys → Is AnswerR a (answerVal a ∷ []) → On17 Φ st ys k a st′ zs
+        → ((a : Answer) (st′ : List ℕ) (zs : List Session) → length st′ ≡ length st → length zs ≡ length ys → Is AnswerR a (answerVal a ∷ []) → OnTable Φ st ys k a st′ zs
         → Seq K W (‵ (finally u32 γ₀ st′) ∷ ‵ (flft κ₀ q₀) ∷ ‵ (finally R γ zs) ∷ ‵ (flft κ₁ q₁) ∷ Γ) (lands C Λ E d (answerVal a) rest p))
         → Seq K W (‵ (MutSlice (named 0) κ₀ u32 .own (record { ptr = (b₀, o₀); name = γ₀; now = st }) (sliceVal (b₀, o₀) (length st) ∷ [])) ∷ ‵ (flft κ₀ q₀) ∷ ‵ (MutSlice (named 1) κ₁ R .own (record { ptr = (b, o); name = γ; now = ys }) (sliceVal (b, o) (length ys) ∷ [])) ∷ ‵ (flft κ₁ q₁) ∷ Γ)
         (runs C Λ E (seq (call key ops d) rest) p)
@@ -82,8 +82,8 @@ module _ (D : Type 0) (τ : Ty) (wr : Written) (rs : List (Written × List Ty)) 
         join t $ use3 W (raw (Lent 𝓤 H A .pre (to-lent 𝓤 H A κ₀ κ₁ q₀ q₁ γ₀ γ b₀ o₀ st b o ys k))) (goes-lent 𝓤 H A κ₀ κ₁ q₀ q₁ γ₀ γ b₀ o₀ st b o ys k W gk) $
         calls-at t fm (Lent 𝓤 H A) known (to-lent 𝓤 H A κ₀ κ₁ q₀ q₁ γ₀ γ b₀ o₀ st b o ys k) os (λ w.
         use1 W (later (some (λ (r : Answer). ((‵ (flft κ₀ q₀) ⊛ ‵ (flft κ₁ q₁) ⊛ ‵ ftrue) ⊛ ‵ (AnswerR .own r (w ∷ []))) ⊛ raw (ensured 𝓤 H A (thinE D τ wr rs own cd L key Φ) (thinC D τ wr rs own cd L key Φ 𝓤) (κ₀, (κ₁, tt)) (args 𝓤 H A κ₀ κ₁ q₀ q₁ γ₀ γ b₀ o₀ st b o ys k) tt r)))) (id⊢ 𝓤 _) $ await t tt $ pick t (λ r.
-        split t $ move t (1 ∷ []) $ use1 W (some (λ (zs : List ℕ × (List Session × (Unit {0} × Unit {0}))). ‵ (lasts (thinE D τ wr rs own cd L key Φ) (κ₀, (κ₁, tt)) (args 𝓤 H A κ₀ κ₁ q₀ q₁ γ₀ γ b₀ o₀ st b o ys k) zs) ⊛ raw (fact 𝓤 (On17 Φ st ys k r (zs .0) (zs .1 .0))))) (id⊢ 𝓤 _) $ pick t (λ zs.
-        split t $ move t (1 ∷ []) $ heard t (On17 Φ st ys k r (zs .0) (zs .1 .0)) (λ e. fsplit t $ fsplit t $ move t (1 ∷ []) $ feqL t (λ e₀. move t (1 ∷ []) $ fsplit t $ fsplit t $ move t (1 ∷ []) $ feqL t (λ e₁.
+        split t $ move t (1 ∷ []) $ use1 W (some (λ (zs : List ℕ × (List Session × (Unit {0} × Unit {0}))). ‵ (lasts (thinE D τ wr rs own cd L key Φ) (κ₀, (κ₁, tt)) (args 𝓤 H A κ₀ κ₁ q₀ q₁ γ₀ γ b₀ o₀ st b o ys k) zs) ⊛ raw (fact 𝓤 (OnTable Φ st ys k r (zs .0) (zs .1 .0))))) (id⊢ 𝓤 _) $ pick t (λ zs.
+        split t $ move t (1 ∷ []) $ heard t (OnTable Φ st ys k r (zs .0) (zs .1 .0)) (λ e. fsplit t $ fsplit t $ move t (1 ∷ []) $ feqL t (λ e₀. move t (1 ∷ []) $ fsplit t $ fsplit t $ move t (1 ∷ []) $ feqL t (λ e₁.
         -- [the table's last list; …; the store's; the tokens and the result; Γ]
         move t (1 ∷ []) $ drop t $ move t (2 ∷ []) $ split t $ split3 t $ move t (2 ∷ []) $ drop t $ move t (2 ∷ []) $ facts t AnswerR (Is AnswerR) (shows 𝓤 H A AnswerR) r (w ∷ []) (λ is. move t (3 ∷ 0 ∷ 2 ∷ 1 ∷ []) $
         subst (λ (u : Val). Seq K W (‵ (finally u32 γ₀ (zs .0)) ∷ ‵ (flft κ₀ q₀) ∷ ‵ (finally R γ (zs .1 .0)) ∷ ‵ (flft κ₁ q₁) ∷ Γ) (lands C Λ E d u rest p)) (sym (ap only (answer-tell r _ is))) (go r (zs .0) (zs .1 .0) e₀ e₁ (answer-spelled r w is) e))))))))

@@ -15,7 +15,7 @@ use Rattle.soundness.specs.Sounds.{Table}
 use Rattle.soundness.specs.Exactly.{test-sound, sound-test}
 use Rattle.outcomes.specs.declared.Answer.{Answer}
 use Rattle.outcomes.specs.Said.{said}
-use Rattle.store.specs.Lent.{Effect, On17, Stepped17}
+use Rattle.store.specs.Lent.{Effect, OnTable, SteppedOnTable}
 use Rattle.packing.specs.Packed.{Packs}
 
 -- Store and table as they were, the argument, the number that is returned, store and table as they are left.
@@ -23,14 +23,14 @@ pub record Told {D : Type 0} (E : Effect D) (s : List ℕ) (t : List Session) (k
   pub answer : Answer
   pub packs : Packs (said answer) r
   pub table-long : length t′ ≡ length t
-  pub does : On17 E s t k answer s′ t′
+  pub does : OnTable E s t k answer s′ t′
 
 -- A step has a lent list too.
 pub record Stepped (s : List ℕ) (t : List Session) (l : List ℕ) (p : ℕ) (r : ℕ) (s′ : List ℕ) (t′ : List Session) (l′ : List ℕ) : Type 0 where
   pub answer : Answer
   pub packs : Packs (said answer) r
   pub table-long : length t′ ≡ length t
-  pub does : Stepped17 s t l p answer s′ t′ l′
+  pub does : SteppedOnTable s t l p answer s′ t′ l′
 
 -- The first part of soundness that store and table break (sound, specs/Faults), 0 for none; 11 where the table is not of 17 records.
 abbrev pub fault-of : List ℕ → List Session → ℕ

@@ -4,7 +4,7 @@ use mathlib.Core.Path.{_≡_, refl, sym, ap, ap₂, subst, _∙_}
 use mathlib.Core.Bool.{Bool, true, false, cond, not, _&&_, _||_, and-false, or-true}
 use mathlib.Core.List.{List, [], _∷_, _++_, map-append}
 use mathlib.Core.Logic.{inl, inr}
-use Prim.Native.Nat.{ℕ, zero, suc, _+_, _≤_, _<_}
+use Prim.Native.Nat.{ℕ, zero, suc, _+_, _-_, _≤_, _<_}
 use native.Mathlib.Omega.{arith}
 use lib.Dec.{eqb}
 use lib.ListN.{length, getD}
@@ -76,7 +76,7 @@ pub same-blockers : (k : Kind) (m : Mode) (p hw hs : ℕ) → Narrow hw → Narr
 unfolding W.blockers blockers
 same-blockers k m p hw hs a b =
     same-passing (W.in-the-way (kind-number k) (mode-number m) p hw hs) (in-the-way rule k m p hw hs) 1 word-bits (λ t l. same-way k m p hw hs t)
-    ∙ nobody-more (in-the-way rule k m p hw hs) 1 16 16 (λ t l. far t (omega arith))
+    ∙ nobody-more (in-the-way rule k m p hw hs) 1 width (word-bits - width) (λ t l. far t (omega arith))
   where
     far : (t : ℕ) → width < t → in-the-way rule k m p hw hs t ≡ false
     far t l = ap₂ (λ x y. not (eqb t p) && ((x && not (rule k weak m)) || (y && not (rule k strong m)))) (a t l) (b t l) ∙ and-false (not (eqb t p))

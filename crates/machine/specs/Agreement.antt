@@ -68,7 +68,7 @@ unblocked k m p hw hs e q a b ne =
     let c : Bool = holds hw q && not (rule k weak m) in
     let d : Bool = holds hs q && not (rule k strong m) in
     let i : not (eqb q p) ≡ true = ap not (eqb-no q p (λ z. ne (sym z))) in
-    let n = neither c d (not-both (not (eqb q p)) (c || d) i (filter-none (in-the-way rule k m p hw hs) 1 16 e q a (omega (arith, b)))) in (
+    let n = neither c d (not-both (not (eqb q p)) (c || d) i (filter-none (in-the-way rule k m p hw hs) 1 width e q a (omega (arith, b)))) in (
       (λ h. not-false (rule k weak m) (not-both (holds hw q) (not (rule k weak m)) h (n .0))),
       (λ h. not-false (rule k strong m) (not-both (holds hs q) (not (rule k strong m)) h (n .1))),
     )

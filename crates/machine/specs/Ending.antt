@@ -11,6 +11,7 @@ use lib.Dec.{ltb, eqb, nltb→le, eqb·zero-suc}
 use lib.ListN.{length, set, length-set, length-replicate}
 use Rattle.serial.specs.Serial.{true≢false, not-true}
 use Rattle.serial.specs.Locks.{Kind, Mode}
+use Rattle.machine.specs.Holders.{width}
 use Rattle.machine.specs.Logic.{eqb-yes, eqb-no, neither, not-false, eqb-not, eqb-is}
 use Rattle.machine.specs.Tree.{leaves}
 use Rattle.machine.specs.State.{Desc, Stage, start, enter, Request, Session, State, top, no-entry, idle, sessionOf, fresh, lowest-from, with-table, on-session, on-desc, pin-desc, set-hand, in-stage, at, stored, ok}
@@ -305,7 +306,7 @@ module _ (m r : ℕ) where
   fresh-sound a b c d = record {
     sizes = (omega (arith, length-replicate m no-entry), omega (arith, length-replicate m no-entry), c, d);
     seats = refl;
-    counted = omega (arith, total-none (λ y. length (y .undos)) idle refl 17);
+    counted = omega (arith, total-none (λ y. length (y .undos)) idle refl (suc width));
     shaped = (omega arith, omega arith, tt, ((omega arith, omega arith), refl));
     zero-stored = refl;
     zero-empty = refl;
@@ -317,7 +318,7 @@ module _ (m r : ℕ) where
     unbegun-hand = λ p e. ap (λ y. y .hand) (fresh-session m r (suc p));
     unbegun-undos = λ p e. ap (λ y. y .undos) (fresh-session m r p);
     zero-unmarked = ap (λ y. y .begun) (fresh-session m r 0);
-    pins-match = λ k. no-pins (eqb 0 k) ∙ sym (total-none (pins-by k) idle refl 17);
+    pins-match = λ k. no-pins (eqb 0 k) ∙ sym (total-none (pins-by k) idle refl (suc width));
     latches-match = λ p. ap (λ b. cond {A = ℕ} b 1 0 + 0) (eqb·zero-suc p) ∙ sym (ap (λ y. hand-stands (y .hand)) (fresh-session m r p));
     placed = λ p q x e f. no-hand p q e;
     checked = λ p q e. no-hand p q e;

@@ -102,7 +102,7 @@ abort-moves p s S = refusing-cases (λ o. Moves s o (abort p)) (abort-checks p s
 -- An abort of a session that is begun is accepted.
 pub abort-accepted : (m : ℕ) (s : State) → suc m ≤ width → sessionOf (suc m) s .begun ≡ true → call (abort (suc m)) s .answer ≡ ok
 unfolding call refusing
-abort-accepted m s h e = rw (eqb·suc-zero m, leb-no 17 (suc m) (omega (arith, h)), e) refl
+abort-accepted m s h e = rw (eqb·suc-zero m, leb-no (suc width) (suc m) (omega (arith, h)), e) refl
 
 put-moves : (p c e f g : ℕ) (s : State) → Moves s (call (put p c e f g) s) (put p c e f g)
 unfolding call accepted

@@ -9,11 +9,6 @@
 // for its arrays, descriptors and tree, on naive_steps for the descent, the parties and the undo log.
 mod request;
 
-pub use naive_steps::party::is_begun as begun;
-pub use naive_steps::party::is_in_hand as in_hand;
-pub use naive_tree::keys::free;
-pub use naive_tree::keys::is_stored as stored;
-pub use naive_tree::keys::locate_holders;
 use crate::request::change;
 use crate::request::element;
 use crate::request::entry_plan;
@@ -44,6 +39,8 @@ use naive_steps::party::TAKE;
 use naive_steps::party::TIDY;
 use naive_steps::party::WAIT;
 use naive_steps::party::WRITE;
+pub use naive_steps::party::is_begun as begun;
+pub use naive_steps::party::is_in_hand as in_hand;
 use naive_steps::party::is_in_hand;
 use naive_steps::party::reply;
 use naive_steps::party::say;
@@ -59,9 +56,9 @@ use naive_tree::arrays::KEYS;
 use naive_tree::arrays::LEVELS;
 use naive_tree::arrays::LOCATES;
 use naive_tree::arrays::M;
+use naive_tree::arrays::NO_EVENT;
 use naive_tree::arrays::NODES;
 use naive_tree::arrays::NOWHERE;
-use naive_tree::arrays::NO_EVENT;
 use naive_tree::arrays::PARTIES;
 use naive_tree::arrays::R;
 use naive_tree::arrays::ROOT;
@@ -81,6 +78,9 @@ use naive_tree::arrays::raise;
 use naive_tree::arrays::set;
 use naive_tree::arrays::set_field;
 use naive_tree::arrays::set_fields;
+pub use naive_tree::keys::free;
+pub use naive_tree::keys::is_stored as stored;
+pub use naive_tree::keys::locate_holders;
 use naive_tree::keys::of_key;
 use naive_tree::keys::rank;
 use naive_tree::tree::add_descriptor;
@@ -179,7 +179,10 @@ fn first_key(a: &Words, code: u32, first: u32) -> u32 {
 // The first stage of a request. A tidy with nothing above its first has no descent.
 fn first_stage(a: &Words, code: u32, first: u32) -> u32 {
     let is_above = rank(a, first) < get(a, HEADER, DESCRIPTORS);
-    plus(START, ((code == LOCATE) | ((code == TIDY) & is_above)) as u32)
+    plus(
+        START,
+        ((code == LOCATE) | ((code == TIDY) & is_above)) as u32,
+    )
 }
 
 // Puts a request. Its descent goes to its first key, and a locate takes the lowest one above the one before that.

@@ -25,8 +25,8 @@ use naive_tree::arrays::GROUPS;
 use naive_tree::arrays::KEYS;
 use naive_tree::arrays::LAST;
 use naive_tree::arrays::LOCATES;
-use naive_tree::arrays::NOWHERE;
 use naive_tree::arrays::NO_EVENT;
+use naive_tree::arrays::NOWHERE;
 use naive_tree::arrays::SECOND;
 use naive_tree::arrays::SHARES;
 use naive_tree::arrays::UPDATES;
@@ -140,7 +140,15 @@ pub fn start(a: &mut Words, p: u32) -> Said {
         let new = field(a, p, FIRST);
         change_word(a, p, 20, VALUES, i, new);
     }
-    reply(a, p, start_event(code), IDLE, DONE, unless(code != READ, value), 0)
+    reply(
+        a,
+        p,
+        start_event(code),
+        IDLE,
+        DONE,
+        unless(code != READ, value),
+        0,
+    )
 }
 
 // What the group is once the entry has come in or gone out.

@@ -90,7 +90,15 @@ pub fn lack(a: &Words, need: u32) -> u32 {
 }
 
 // The end of a step: an event is counted, the party comes to a stage, and this is told. A latch and pins follow from the stage, and so end with it.
-pub fn reply(a: &mut Words, p: u32, event: u32, stage: u32, word: u32, first: u32, second: u32) -> Said {
+pub fn reply(
+    a: &mut Words,
+    p: u32,
+    event: u32,
+    stage: u32,
+    word: u32,
+    first: u32,
+    second: u32,
+) -> Said {
     note(a, event);
     set_field(a, p, STAGE, stage);
     say(word, first, second)

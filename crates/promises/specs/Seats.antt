@@ -1,4 +1,4 @@
--- Every array of 17 session records is a table of words.
+-- Every array of session records, one for each party, is a table of words.
 use mathlib.Core.List.{List, [], _∷_}
 use Prim.Native.Nat.{ℕ, zero, suc, _<_}
 use native.Mathlib.Omega.{arith}
@@ -10,7 +10,7 @@ use denote.Array.{Array, each}
 use denote.Struct.Declared.{row}
 use Rattle.sessions.proofs.Session.{the-type}
 use Rattle.sessions.specs.declared.Session.{Session}
-use Rattle.sessions.specs.Sessions.{session-at}
+use Rattle.sessions.specs.Sessions.{session-at, parties}
 use Rattle.soundness.specs.PartyPass.{Worded}
 use Rattle.soundness.specs.Sounds.{Table}
 
@@ -27,5 +27,5 @@ all-worded (x ∷ xs) [] g p l = absurd g
 all-worded (x ∷ xs) (u ∷ us) g zero l = one-worded x (u ∷ []) (g .0)
 all-worded (x ∷ xs) (u ∷ us) g (suc p) l = all-worded xs us (g .1) p (omega (arith, l))
 
-pub table-of : (t : List Session) (v : List Val) → Is (Array (row the-type) 17) t v → Table t
+pub table-of : (t : List Session) (v : List Val) → Is (Array (row the-type) parties) t v → Table t
 table-of t v g = record { seats = g .1 .0 .1; words = λ p l. all-worded t (g .0) (g .1 .1) p (omega (arith, l, g .1 .0 .1)) }

@@ -233,14 +233,14 @@ pub abort-refuses : (s : List ℕ) (t : List Session) (p n : ℕ) → Sound s t 
 unfolding call
 abort-refuses s t p n A e z = let o = answer ok (aborts p (meaning s t)) in serve-refused (C.abort p) s t n (first-of (abort-list t p)) o A e z (first-not-ending (abort-list t p) (refl, (refl, tt))) (abort-refused s t A p o)
 
--- The party is one of the 17.
-pub session-party : (p : ℕ) (cs : List (ℕ × Bool)) → first-of ((4, no-session p) ∷ cs) ≡ 0 → p ≤ 16
+-- The party is one of those that there are.
+pub session-party : (p : ℕ) (cs : List (ℕ × Bool)) → first-of ((4, no-session p) ∷ cs) ≡ 0 → p ≤ width
 session-party p cs e = session-number p (none-true 4 (no-session p) cs (λ q. omega (arith, q)) e .0) .1
 
 pub session-least : (p : ℕ) (cs : List (ℕ × Bool)) → first-of ((4, no-session p) ∷ cs) ≡ 0 → 1 ≤ p
 session-least p cs e = session-number p (none-true 4 (no-session p) cs (λ q. omega (arith, q)) e .0) .0
 
-pub any-party : (p : ℕ) (cs : List (ℕ × Bool)) → first-of ((4, no-party p) ∷ cs) ≡ 0 → p ≤ 16
+pub any-party : (p : ℕ) (cs : List (ℕ × Bool)) → first-of ((4, no-party p) ∷ cs) ≡ 0 → p ≤ width
 any-party p cs e = omega (arith, leb-not (suc width) p (none-true 4 (no-party p) cs (λ q. omega (arith, q)) e .0))
 
 pub begin-run : (s : List ℕ) (t : List Session) (p : ℕ) {x y : Session} {u : List Session} → Sound s t → first-of (begin-list t p) ≡ 0

@@ -11,6 +11,7 @@ ghost use Prim.Native.Nat.{_≤_};
 ghost use lib.Dec.{eqb, ltb};
 ghost use lib.ListN.{set};
 ghost use Rattle.sessions.specs.Sessions.{session-at};
+ghost use Rattle.machine.specs.Holders.{width};
 ghost use Rattle.machine.specs.Calls.{infinite, no-party, no-session, format-checks};
 ghost use Rattle.refusals.specs.Refusing.{first-of, begun-in, hand-in, begin-list, step-list, commit-list, abort-list, request-list, put-list};
 ghost use Rattle.refusals.specs.Coded.{value-list, change-list, locate-list, tidy-list};
@@ -32,7 +33,7 @@ pub fn seat(t: [Session; PARTIES], p: u32) -> Session
 
 // The table with record x for party p.
 pub fn settle(mut t: [Session; PARTIES], p: u32, x: Session) -> [Session; PARTIES]
-    requires { ⌜ p ≤ 16 ⌝ }
+    requires { ⌜ p ≤ width ⌝ }
     ensures { λ r. ⌜ r ≡ set t p x ⌝ }
 {
     let at = p as usize;

@@ -4,6 +4,7 @@ use mathlib.Core.Bool.{Bool, true, false, cond}
 use mathlib.Core.List.{List}
 use Prim.Native.Nat.{ℕ, _+_, _-_, _≤_}
 use lib.Dec.{leb, eqb}
+use Rattle.machine.specs.Holders.{width}
 use Rattle.words.specs.Store.{HasRecord}
 use Rattle.words.specs.Header.{headerWord, rootPlace, heightPlace}
 use Rattle.nodes.specs.Node.{nodeAt}
@@ -83,7 +84,7 @@ enterStep s m p x = cond (eqb (rootInWay s m p) 0) (enterFree s m p x) (rootWait
 
 -- The root and the node that is entered are there.
 pub record RootReady (s : List ℕ) (m p : ℕ) : Type 0 where
-  pub party : p ≤ 16
+  pub party : p ≤ width
   pub root : HasRecord s m (headerWord s rootPlace)
   pub entered : HasRecord s m (enteredNode s m)
   pub free : Poppable s m

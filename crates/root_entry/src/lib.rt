@@ -9,6 +9,7 @@
 // asks for. It rests on the crates that read and write nodes, on `finishing` for the end of a request, on `walking` for the effects.
 ghost use mathlib.Core.Path.{_≡_};
 ghost use Prim.Native.Nat.{_≤_};
+ghost use Rattle.machine.specs.Holders.{width};
 ghost use Rattle.words.specs.Store.{HasRecord};
 ghost use Rattle.words.specs.Header.{headerWord, rootPlace};
 ghost use Rattle.chain.specs.Free.{Poppable};
@@ -113,7 +114,7 @@ fn at_node(mut x: Session, i: u32, level: u32) -> Session
 
 // The root gets the latch.
 fn enter_whole(store: &mut [u32], m: usize, p: u32, x: Session) -> Moved
-    requires { ⌜ HasRecord (now store) m (headerWord (now store) rootPlace) × (p ≤ 16) ⌝ }
+    requires { ⌜ HasRecord (now store) m (headerWord (now store) rootPlace) × (p ≤ width) ⌝ }
     ensures { λ r. ⌜ (now (store .exit) ≡ enterWhole (now (store .entry)) m p x .words) × (r ≡ moved (enterWhole (now (store .entry)) m p x)) ⌝ }
 {
     let root = words::root(store);
@@ -127,7 +128,7 @@ fn enter_whole(store: &mut [u32], m: usize, p: u32, x: Session) -> Moved
 
 // The root is split, and the half of the key gets the latch.
 fn enter_halves(store: &mut [u32], m: usize, p: u32, x: Session) -> Moved
-    requires { ⌜ CanSplitRoot (now store) m × (p ≤ 16) ⌝ }
+    requires { ⌜ CanSplitRoot (now store) m × (p ≤ width) ⌝ }
     ensures { λ r. ⌜ (now (store .exit) ≡ enterHalves (now (store .entry)) m p x .words) × (r ≡ moved (enterHalves (now (store .entry)) m p x)) ⌝ }
 {
     let height = words::height(store);

@@ -1,12 +1,13 @@
 -- The session table: a list of session records, party p's at place p.
 use mathlib.Core.List.{List}
-use Prim.Native.Nat.{ℕ}
+use Prim.Native.Nat.{ℕ, suc}
 use lib.ListN.{getD}
+use Rattle.locks.specs.Holders.{width}
 use Rattle.sessions.specs.declared.Session.{Session}
 
 -- how many parties there are: the sessions and the housekeeper
 abbrev pub parties : ℕ
-parties = 17
+parties = suc width
 
 -- not begun, no request in hand, no undo record
 abbrev pub idle-session : Session

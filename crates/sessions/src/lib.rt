@@ -1,7 +1,7 @@
 // Sessions: the record of the session table that each party has.
 //
 // Party 0 is the housekeeper, 1 to 16 are sessions; record p is party p's. A field that is not in use for the request and stage in hand
-// may have any value. Nothing here says which records are sound. It rests on no other crate.
+// may have any value. Nothing here says which records are sound. It rests on `locks` for how many sessions there are.
 
 // How many parties there are: the sessions and the housekeeper.
 pub const PARTIES: usize = 17;

@@ -9,6 +9,7 @@ use borrow.Author.Tests.{ne-eqb}
 use Rattle.words.specs.Store.{wordOf}
 use Rattle.sessions.specs.declared.Session.{Session}
 use Rattle.machine.specs.State.{Desc}
+use Rattle.sessions.specs.Sessions.{parties}
 use Rattle.machine.specs.Holders.{elem}
 use Rattle.machine.specs.Sound.{members-many, records-used}
 use Rattle.machine.specs.Keys.{elem-with}
@@ -46,7 +47,7 @@ module _ (s : List ℕ) (t : List Session) where
       let i = members-count ls (a .1) (b .1) in
       omega arith
 
-  pub met-many : length t ≡ 17 → All (λ l. Single s (l .num)) (leaves-of s) → length (free-chain s) + records-used (meaning s t) ≡ length (met s t)
+  pub met-many : length t ≡ parties → All (λ l. Single s (l .num)) (leaves-of s) → length (free-chain s) + records-used (meaning s t) ≡ length (met s t)
   unfolding meaning
   met-many table b =
       let a = length-append (tree-records s t) (undo-records s t ++ (member-records s t ++ free-chain s)) in

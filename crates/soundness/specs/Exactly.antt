@@ -165,7 +165,7 @@ module _ (s : List ℕ) (t : List Session) (T : Table t) (D : S.Sound s t) where
   by-session : By-session s t
   by-session = sound-sessions s t (D .undo-words) (D .state .undoable)
 
-  each : Each-session s m r t (toured s .seen) 1 16
+  each : Each-session s m r t (toured s .seen) 1 width
   each = sessions-need s t (toured s .seen) (tells s t K) 0 4294967296 rises (D .undos-end) by-session
 
   setting : Setting s t (toured s .seen)

@@ -83,9 +83,9 @@ with-is f t word p (suc n) q h =
 
 pub sessions-is : (f : Session → Bool) (t : List Session) (p : ℕ) → (holds (sessionsWith f t) p ≡ true) ↔ ((1 ≤ p) × (p ≤ width) × (f (session-at t p) ≡ true))
 unfolding sessionsWith
-sessions-is f t p = (λ e. there (with-is f t 0 1 16 p (omega arith) .0 e), λ e. with-is f t 0 1 16 p (omega arith) .1 (inr (e .0, omega (arith, e .1), e .2)))
+sessions-is f t p = (λ e. there (with-is f t 0 1 width p (omega arith) .0 e), λ e. with-is f t 0 1 width p (omega arith) .1 (inr (e .0, omega (arith, e .1), e .2)))
   where
-    there : (holds 0 p ≡ true) ⊎ ((1 ≤ p) × (p < 1 + 16) × (f (session-at t p) ≡ true)) → (1 ≤ p) × (p ≤ width) × (f (session-at t p) ≡ true)
+    there : (holds 0 p ≡ true) ⊎ ((1 ≤ p) × (p < 1 + width) × (f (session-at t p) ≡ true)) → (1 ≤ p) × (p ≤ width) × (f (session-at t p) ≡ true)
     there (inl e) = absurd (false≢true (sym (holds-none p) ∙ e))
     there (inr e) = (e .0, omega (arith, e .1), e .2)
 

@@ -13,7 +13,7 @@ use lib.ListN.{length, getD, replicate, length-replicate, getD-replicate, List·
 use borrow.Author.Tests.{eq-eqb, ne-eqb, eqb-true, not-false}
 use Rattle.words.specs.Store.{wordOf}
 use Rattle.sessions.specs.declared.Session.{Session}
-use Rattle.sessions.specs.Sessions.{session-at, idle-session}
+use Rattle.sessions.specs.Sessions.{session-at, idle-session, parties}
 use Rattle.machine.specs.Holders.{width, latch-word}
 use Rattle.machine.specs.State.{Stage, start, enter, at, change, take, Request, State, Tree, sessionOf}
 use Rattle.machine.specs.Descent.{sons-of}
@@ -109,7 +109,7 @@ at-stage x y e = go (ℕ-discrete (x .stage) 3)
     go (no n) = absurd (let z : _≡_ {A = ℕ} 0 1 = sym (stage-stands x n) ∙ ap stands e in omega (arith, z))
 
 -- No request beyond the table.
-beyond : (t : List Session) → length t ≡ 17 → (p : ℕ) → 17 ≤ p → session-at t p .stage ≡ 0
+beyond : (t : List Session) → length t ≡ parties → (p : ℕ) → parties ≤ p → session-at t p .stage ≡ 0
 beyond t e p h = ap (λ (x : Session). x .stage) (List·getD-eq-default t idle-session (omega (arith, e, h)))
 
 -- ---- how many parties are at a node
@@ -127,9 +127,9 @@ standing-sums t (suc n) p =
     let b : sums (stand t) (suc p + n) ≡ sums (stand t) (p + suc n) = ap (sums (stand t)) q in
     omega (arith, a, b, standing-sums t n (suc p))
 
-pub standing-is : (t : List Session) → standingAtNodes t ≡ sums (stand t) 17
+pub standing-is : (t : List Session) → standingAtNodes t ≡ sums (stand t) parties
 unfolding standingAtNodes
-standing-is t = omega (arith, standing-sums t 17 0, sums-zero (stand t))
+standing-is t = omega (arith, standing-sums t parties 0, sums-zero (stand t))
 
 -- ---- room at a node
 
@@ -196,7 +196,7 @@ Those s t p n = (q : ℕ) → p ≤ q → q < p + n → Party s t q (session-at 
 abbrev pub passed : List ℕ → List ℕ → List Session → Turn (List ℕ)
 passed s seen t = partiesOk s seen (M-of s) (R-of s) t (replicate 4097 0)
 
-module _ (s seen : List ℕ) (t : List Session) (K : TreeKnown s seen) (seats : length t ≡ 17) (words : (p : ℕ) → p ≤ width → Worded (session-at t p)) where
+module _ (s seen : List ℕ) (t : List Session) (K : TreeKnown s seen) (seats : length t ≡ parties) (words : (p : ℕ) → p ≤ width → Worded (session-at t p)) where
   abbrev m : ℕ
   m = M-of s
 
@@ -219,7 +219,7 @@ module _ (s seen : List ℕ) (t : List Session) (K : TreeKnown s seen) (seats : 
       go (yes e) = subst (λ (i : ℕ). Party s t i (session-at t i)) e a
       go (no k) = b q (omega (arith, k, l)) (omega (arith, h))
 
-  does-from : (n p : ℕ) → p + n ≤ 17 → (tally : List ℕ) → Does (partiesFrom s seen m r t tally p n) (Those s t p n) (tally-pins (leaves-of s) (pins-from t p n) tally)
+  does-from : (n p : ℕ) → p + n ≤ parties → (tally : List ℕ) → Does (partiesFrom s seen m r t tally p n) (Those s t p n) (tally-pins (leaves-of s) (pins-from t p n) tally)
   unfolding partiesFrom pins-from
   does-from zero p few tally = does-as (λ u q l h. absurd (omega (arith, l, h))) (λ f. tt) (does-yes tally)
   does-from (suc n) p few tally =
@@ -233,15 +233,15 @@ module _ (s seen : List ℕ) (t : List Session) (K : TreeKnown s seen) (seats : 
       (does-party s seen t K p (session-at t p) (words p (omega (arith, few))) tally)
       (does-from n (suc p) (omega (arith, few)) v))))
 
-  pins-all : pins-from t 0 17 ≡ all-pins t
+  pins-all : pins-from t 0 parties ≡ all-pins t
   pins-all = ap (pins-from t 0) (sym seats) ∙ pins-whole t
 
   -- The turns of all parties.
   pub does-parties : (tally : List ℕ) → Does (partiesOk s seen (M-of s) (R-of s) t tally) (Parties s t) (tally-pins (leaves-of s) (all-pins t) tally)
   unfolding partiesOk
   does-parties tally =
-      subst (λ (l : List ℕ). Does (partiesFrom s seen m r t tally 0 17) (Parties s t) (tally-pins (leaves-of s) l tally)) pins-all
-      (does-as (λ f q h. f q (omega arith) (omega (arith, h))) (λ f q l h. f q (omega (arith, h))) (does-from 17 0 (omega arith) tally))
+      subst (λ (l : List ℕ). Does (partiesFrom s seen m r t tally 0 parties) (Parties s t) (tally-pins (leaves-of s) l tally)) pins-all
+      (does-as (λ f q h. f q (omega arith) (omega (arith, h))) (λ f q l h. f q (omega (arith, h))) (does-from parties 0 (omega arith) tally))
 
   -- ---- latches
 
@@ -255,7 +255,7 @@ module _ (s seen : List ℕ) (t : List Session) (K : TreeKnown s seen) (seats : 
   stood-has : (p : ℕ) (x : Session) → Room-at s p x → Node-at (x .level) (x .target) (Has (latch-word p) (x .level) (x .target)) (levels s) (shape s)
   stood-has p x o = node-as (x .level) (x .target) (Stood s p) (Has (latch-word p) (x .level) (x .target)) (λ h u e q. q .0) (levels s) (shape s) o
 
-  stands-count : Parties s t → (p : ℕ) → p < 17 → stand t p ≤ count p
+  stands-count : Parties s t → (p : ℕ) → p < parties → stand t p ≤ count p
   stands-count f p h = go (ℕ-discrete (session-at t p .stage) 3)
     where
       x : Session
@@ -266,18 +266,18 @@ module _ (s seen : List ℕ) (t : List Session) (K : TreeKnown s seen) (seats : 
       go (no n) = omega (arith, stand-no t p n)
 
   module _ (f : Parties s t) (many : standingAtNodes t ≡ latched-many (levels s) (shape s)) where
-    tight : sums count 17 ≤ sums (stand t) 17
-    tight = omega (arith, standing-is t, many, latches-few 17 (levels s) (shape s))
+    tight : sums count parties ≤ sums (stand t) parties
+    tight = omega (arith, standing-is t, many, latches-few parties (levels s) (shape s))
 
     counts : (p : ℕ) → count p ≡ stand t p
     counts p = go (decLe p width)
       where
         go : Dec (p ≤ width) → count p ≡ stand t p
-        go (yes h) = sym (sums-tight (stand t) count 17 (stands-count f) tight p (omega (arith, h)))
+        go (yes h) = sym (sums-tight (stand t) count parties (stands-count f) tight p (omega (arith, h)))
         go (no n) =
-            let a = sums-past count 17 p (omega (arith, n)) in
+            let a = sums-past count parties p (omega (arith, n)) in
             let b = latches-few (suc p) (levels s) (shape s) in
-            let c = sums-le (stand t) count 17 (stands-count f) in
+            let c = sums-le (stand t) count parties (stands-count f) in
             let d = idle-past p n in
             omega (arith, a, b, c, many, standing-is t, stand-no t p (λ q. omega (arith, d, q)))
 
@@ -297,7 +297,7 @@ module _ (s seen : List ℕ) (t : List Session) (K : TreeKnown s seen) (seats : 
   Stored k = stored-in k (lvs S) ≡ true
 
   all-stored : Parties s t → All Stored (all-pins t)
-  all-stored f = subst (All Stored) pins-all (pins-each Stored t 17 0 (λ q l h. f q (omega (arith, h)) .stored))
+  all-stored f = subst (All Stored) pins-all (pins-each Stored t parties 0 (λ q l h. f q (omega (arith, h)) .stored))
 
   found-unbegun : Parties s t → (p : ℕ) → sessionOf (suc p) S .begun ≡ false → sessionOf (suc p) S .hand ≡ none
   found-unbegun f p e = go (decLe (suc p) width) (ℕ-discrete (session-at t (suc p) .stage) 0)
@@ -355,9 +355,9 @@ module _ (s seen : List ℕ) (t : List Session) (K : TreeKnown s seen) (seats : 
 
     standing-from : standingAtNodes t ≡ latched-many (levels s) (shape s)
     standing-from =
-        let a = latches-few 17 (levels s) (shape s) in
-        let b = latches-many 17 (levels s) (shape s) (λ p h. kept-count p ∙ stand-no t p (λ q. let z = beyond t seats p h in omega (arith, z, q))) in
-        omega (arith, a, b, standing-is t, sums-same count (stand t) 17 (λ p h. kept-count p))
+        let a = latches-few parties (levels s) (shape s) in
+        let b = latches-many parties (levels s) (shape s) (λ p h. kept-count p ∙ stand-no t p (λ q. let z = beyond t seats p h in omega (arith, z, q))) in
+        omega (arith, a, b, standing-is t, sums-same count (stand t) parties (λ p h. kept-count p))
 
     kept-begun : (p : ℕ) → ¬ (p ≡ 0) → ¬ (session-at t p .stage ≡ 0) → ¬ (session-at t p .begun ≡ 0)
     kept-begun zero n k z = n refl
@@ -406,7 +406,7 @@ module _ (s seen : List ℕ) (t : List Session) (K : TreeKnown s seen) (seats : 
         checked = λ n. Q .checked p (request-of x) (in-hand n);
         standing = λ n. Q .standing p (request-of x) (in-hand n);
         room = kept-room;
-        stored = each-pins Stored t 17 0 (subst (All Stored) (sym pins-all) all-kept) p (omega arith) (omega (arith, h));
+        stored = each-pins Stored t parties 0 (subst (All Stored) (sym pins-all) all-kept) p (omega arith) (omega (arith, h));
       }
         where
           all-kept : All Stored (all-pins t)

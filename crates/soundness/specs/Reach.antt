@@ -5,7 +5,8 @@ use Prim.Native.Nat.{ℕ, suc, _+_, _≤_, _<_}
 use native.Mathlib.Omega.{arith}
 use lib.ListN.{length, getD, replicate, getD-replicate}
 use Rattle.sessions.specs.declared.Session.{Session}
-use Rattle.sessions.specs.Sessions.{session-at}
+use Rattle.sessions.specs.Sessions.{session-at, parties}
+use Rattle.machine.specs.Holders.{width}
 use Rattle.machine.specs.Sound.{times}
 use Rattle.meaning.specs.Reading.{chain, member-chain, Leaf, numbers, M-of, R-of, height-of, tree-of, free-chain}
 use Rattle.meaning.specs.Sound.{All, leaves-of, joined, undo-chains, owners}
@@ -36,7 +37,7 @@ module _ (s : List ℕ) (t : List Session) where
   leaf-records = map (λ l. l .num) (leaves-of s)
 
   abbrev pub undo-records : List ℕ
-  undo-records = chains-from s m r t 1 16
+  undo-records = chains-from s m r t 1 width
 
   abbrev pub member-records : List ℕ
   member-records = members-of s m r leaf-records
@@ -58,13 +59,13 @@ module _ (s : List ℕ) (t : List Session) where
       ap (λ (x : Session). chain s m r (x .undo) ++ joined (map (λ y. chain s m r (y .undo)) u)) (sym a)
       ∙ ap (λ (x : List ℕ). chain s m r (session-at t p .undo) ++ x) (chains-same (p + 1) u (λ k l. ap (session-at t) (let e : p + 1 + k ≡ p + suc k = omega arith in e) ∙ h (suc k) (omega (arith, l))))
 
-pub undos-joined : (s : List ℕ) (t : List Session) → length t ≡ 17 → joined (undo-chains s t) ≡ undo-records s t
+pub undos-joined : (s : List ℕ) (t : List Session) → length t ≡ parties → joined (undo-chains s t) ≡ undo-records s t
 undos-joined s [] e = absurd (omega (arith, e))
 undos-joined s (x ∷ t) e =
-    let n : length t ≡ 16 = omega (arith, e) in
+    let n : length t ≡ width = omega (arith, e) in
     chains-same s (x ∷ t) 1 t (λ k l. ap (session-at (x ∷ t)) (let e : 1 + k ≡ suc k = omega arith in e)) ∙ ap (chains-from s (M-of s) (R-of s) (x ∷ t) 1) n
 
-module _ (s : List ℕ) (t : List Session) (table : length t ≡ 17) where
+module _ (s : List ℕ) (t : List Session) (table : length t ≡ parties) where
   abbrev owned : List ℕ
   owned = joined (owners s t)
 

@@ -53,9 +53,9 @@ use Rattle.soundness.specs.Tested.{toured, stood}
 use Rattle.soundness.specs.Reach.{met, reach-once, reach-inside}
 use Rattle.soundness.specs.Walked.{unmet, group-undos, Walked, tour-marks}
 
--- A table of 17 records, of words.
+-- A table of a record for each party, of words.
 pub record Table (t : List Session) : Type 0 where
-  pub seats : length t ≡ 17
+  pub seats : length t ≡ suc width
   pub words : (p : ℕ) → p ≤ width → Worded (session-at t p)
 
 pub zeros : (j : ℕ) → _≡_ {A = ℕ} (getD unmet j 0) 0
@@ -79,7 +79,7 @@ module _ (s : List ℕ) (t : List Session) where
   unfolding meaning Ordered
   rising h = ordered-rises σ (shaped-ordered (suc (height-of s)) 1 0 top (erase (suc (height-of s)) (tree-of s)) h)
 
-  seats-meant : length t ≡ 17 → length (σ .table) ≡ suc width
+  seats-meant : length t ≡ suc width → length (σ .table) ≡ suc width
   unfolding meaning
   seats-meant e = go 0 t ∙ e
     where
@@ -122,7 +122,7 @@ pub record In-hand (t : List Session) (p : ℕ) (r : Request) : Type 0 where
   pub busy : ¬ (session-at t p .stage ≡ 0)
   pub is : request-of (session-at t p) ≡ r
 
-pub in-hand : (s : List ℕ) (t : List Session) → length t ≡ 17 → (p : ℕ) (r : Request) → sessionOf p (meaning s t) .hand ≡ some r → In-hand t p r
+pub in-hand : (s : List ℕ) (t : List Session) → length t ≡ suc width → (p : ℕ) (r : Request) → sessionOf p (meaning s t) .hand ≡ some r → In-hand t p r
 in-hand s t table p r e = record { seat = seat (decLe p width); busy = busy; is = ap (of-hand (request-of (session-at t p)) (λ q. q)) (sym (hand-some (session-at t p) busy) ∙ h) }
   where
     h : hand-of (session-at t p) ≡ some r

@@ -12,7 +12,7 @@ use Rattle.words.specs.Header.{headerWord, freePlace}
 use Rattle.words.specs.Entries.{entryWord}
 use Rattle.groups.specs.Descriptor.{descriptorAt}
 use Rattle.undos.specs.Undo.{undoAt}
-use Rattle.locks.specs.Holders.{holds}
+use Rattle.locks.specs.Holders.{width, holds}
 use Rattle.sessions.specs.declared.Session.{Session}
 use Rattle.marks.specs.Marks.{entryOk, isMet, descriptor-mark, undo-mark, membership-mark, free-mark}
 use Rattle.marks.specs.Steps.{both, met-in}
@@ -53,7 +53,7 @@ pub record Walked (s : List ℕ) (t : List Session) : Type 0 where
   pub tree : RootInOrder s (M-of s) (R-of s) unmet
   pub requests : stood s t .ok ≡ true
   pub latches : standingAtNodes t ≡ latched-many (suc (height-of s)) (erase (suc (height-of s)) (tree-of s))
-  pub undos : Each-session s (M-of s) (R-of s) t (toured s .seen) 1 16
+  pub undos : Each-session s (M-of s) (R-of s) t (toured s .seen) 1 width
   pub groups : Groups s (M-of s) (R-of s) (sizes .entries .1) (group-undos s t) (stood s t .held) (begunMask t) t (leaf-records s t)
   pub free : Chained s (M-of s) (headerWord s freePlace) (free-chain s)
   pub once : Fresh unmet (R-of s) (met s t)
@@ -186,10 +186,10 @@ module _ (s : List ℕ) (t : List Session) (Z : Sizes s) where
     all-named zero p e = tt
     all-named (suc n) p e = all-append (Names s m) (chain-of s m r t p) (chains-from s m r t (p + 1) n) (all-as (named p) (chain-of s m r t p) (e .1)) (all-named n (p + 1) (e .2))
 
-    files : Each-session s m r t (toured s .seen) 1 16 → All (Among r) (undo-records s t) → Once (undo-records s t)
+    files : Each-session s m r t (toured s .seen) 1 width → All (Among r) (undo-records s t) → Once (undo-records s t)
         → Files (file-all s m no-files (undo-records s t)) (group-undos s t)
     files E a o =
-        files-all s m (undo-records s t) no-files (λ d. []) none-filed (all-as (λ i b. (b .0, omega (arith, b .1, few))) (undo-records s t) a) (all-named 16 1 E) o (λ c rc j w. tt)
+        files-all s m (undo-records s t) no-files (λ d. []) none-filed (all-as (λ i b. (b .0, omega (arith, b .1, few))) (undo-records s t) a) (all-named width 1 E) o (λ c rc j w. tt)
 
     undos-long : r < length (mark-all (toured s .seen) (undo-records s t) undo-mark)
     undos-long = omega (arith, tour-long, mark-length (toured s .seen) (undo-records s t) undo-mark)
@@ -218,7 +218,7 @@ module _ (s : List ℕ) (t : List Session) (Z : Sizes s) where
     groups-walk tally left =
         allGroups s (toured s .order) tally (file-all s m no-files (undo-records s t)) m r (begunMask t) t (toured s .walk .count) before (replicate 2050 0) left
 
-    module _ (E : Each-session s m r t (toured s .seen) 1 16) (a : All (Among r) (undo-records s t)) (o : Once (undo-records s t)) (tally : List ℕ) (left : ℕ) where
+    module _ (E : Each-session s m r t (toured s .seen) 1 width) (a : All (Among r) (undo-records s t)) (o : Once (undo-records s t)) (tally : List ℕ) (left : ℕ) where
       found-groups : groups-walk tally left .ok ≡ true
           → GroupsFound s m r (Z .entries .1) (group-undos s t) tally (begunMask t) t before left (leaf-records s t) (groups-walk tally left)
       found-groups =
@@ -242,7 +242,7 @@ module _ (s : List ℕ) (t : List Session) where
       let m = M-of s in
       let r = R-of s in
       let K = root-found s m r unmet unmet (Z .records .1) (long s t Z) (T .tree) in
-      let U = undos-found s m r t 16 1 (toured s .walk .left) (toured s .seen) no-files (tour-long s t Z K) (T .undos) in
+      let U = undos-found s m r t width 1 (toured s .walk .left) (toured s .seen) no-files (tour-long s t Z K) (T .undos) in
       let g : grouped s t ≡ groups-walk s t Z K (stood s t .held) (filed s t .left) =
       ap (λ (f : List ℕ). allGroups s (toured s .order) (stood s t .held) f m r (begunMask t) t (toured s .walk .count) (filed s t .seen) (replicate 2050 0) (filed s t .left)) (U .filed-is)
       ∙ ap (λ (x : List ℕ). allGroups s (toured s .order) (stood s t .held) (file-all s m no-files (undo-records s t)) m r (begunMask t) t (toured s .walk .count) x (replicate 2050 0) (filed s t .left)) (U .seen-is) in
@@ -291,7 +291,7 @@ module _ (s : List ℕ) (t : List Session) where
       let f3 = fresh-rest (before s t Z K) r (member-records s t) (free-chain s) (behind-marked s t Z K) f2 in
       let u0 = fresh-left (toured s .seen) r (undo-records s t) rest f1 in
       let U : filed s t ≡ ends true (toured s .walk .left - length (undo-records s t)) (before s t Z K) (file-all s m no-files (undo-records s t)) =
-      undos-walks s m r t 16 1 (toured s .walk .left) (toured s .seen) no-files (tour-long s t Z K) (W .undos) u0 (omega (arith, W .many, a, b, tour-left s t Z K)) in
+      undos-walks s m r t width 1 (toured s .walk .left) (toured s .seen) no-files (tour-long s t Z K) (W .undos) u0 (omega (arith, W .many, a, b, tour-left s t Z K)) in
       let left : ℕ = toured s .walk .left - length (undo-records s t) in
       let g : grouped s t ≡ groups-walk s t Z K (stood s t .held) left =
       ap (λ (v : Trail (List ℕ)). allGroups s (toured s .order) (stood s t .held) (v .held) m r (begunMask t) t (toured s .walk .count) (v .seen) (replicate 2050 0) (v .left)) U in

@@ -26,7 +26,7 @@ use Rattle.outcomes.proofs.Served.Laws as Se′
 use Rattle.seats.specs.declared.Seat.{Seat}
 use Rattle.seats.proofs.Seat as Sa
 use Rattle.seats.proofs.Seat.Laws as Sa′
-use Rattle.tables.proofs.Row.{R, valsOf, tell, R17, valsOf17, spelled17}
+use Rattle.tables.proofs.Row.{R, valsOf, tell, Rows, valsOfRows, spelled-rows}
 
 abbrev pub AnswerR : RattleType
 AnswerR = An.the-row
@@ -64,10 +64,10 @@ each-record [] (u ∷ us) s = s
 each-record (x ∷ xs) [] s = s
 each-record (x ∷ xs) (u ∷ us) s = (s .0, each-record xs us (s .1))
 
-pub served-table : (d : Served) (v : Val) → Is ServedR d (v ∷ []) → Is R17 (d .table) (valsOf17 (d .table))
+pub served-table : (d : Served) (v : Val) → Is ServedR d (v ∷ []) → Is Rows (d .table) (valsOfRows (d .table))
 served-table d v g =
     let f = LL.owed Se.the-type Se′.the-laws d (v ∷ []) g .0 in
-    spelled17 (d .table) (arrayVal (f .0)) (f .0, ((refl, sym (length-map (d .table) (S.the-type .to)) ∙ f .1 .0 .1), each-record (d .table) (f .0) (f .1 .1)))
+    spelled-rows (d .table) (arrayVal (f .0)) (f .0, ((refl, sym (length-map (d .table) (S.the-type .to)) ∙ f .1 .0 .1), each-record (d .table) (f .0) (f .1 .1)))
 
 pub served-answer : (d : Served) (v : Val) → Is ServedR d (v ∷ []) → Is AnswerR (d .answer) (answerVal (d .answer) ∷ [])
 served-answer d v g = let f = LL.owed Se.the-type Se′.the-laws d (v ∷ []) g .1 .0 in subst (Is AnswerR (d .answer)) (answer-tell (d .answer) _ f) f

@@ -42,7 +42,8 @@ use denote.Triple.Statement.{Contract, Triple}
 use denote.Triple.Call.{calls-at}
 use denote.Triple.Clauses.{Ended, Clauses, closing, ensured, lasts}
 use denote.Triple.Walked.{says, Stays, gave-slice, stay-none, walkOf, goes-gave-slice, goes-none, Walks, ends-at, walked, walk-meets}
-use Rattle.store.specs.Lent.{Effect, On17}
+use Rattle.store.specs.Lent.{Effect, OnTable}
+use Rattle.sessions.specs.Sessions.{parties}
 use Rattle.sessions.specs.declared.Session.{Session}
 use Rattle.store.specs.OneRecord.{seated}
 use Rattle.seats.specs.declared.Seat.{Seat}
@@ -54,22 +55,22 @@ use Rattle.outcomes.proofs.Answer.Laws as An′
 use Rattle.tables.proofs.Again.{given-up}
 use Rattle.tables.proofs.Callees.{Load, Store, calls-load, calls-store}
 use Rattle.store.proofs.Callees.{Wrong, calls-wrong}
-use Rattle.tables.proofs.Row.{R, R17, valsOf17, make17, typed, typed17, homes}
+use Rattle.tables.proofs.Row.{R, Rows, valsOfRows, make-rows, typed, typed-rows, homes}
 use Rattle.store.proofs.Answers.{AnswerR, answerVal, answer-make, answer-typed, SeatR, seat-tell, seat-typed, seat-party, seat-session, seat-answer}
 use Rattle.seats.proofs.wrong_table.Symbol.{name as #seats·wrong-table}
 use Rattle.tables.proofs.load_all.Symbol.{name as #tables·load-all}
 use Rattle.tables.proofs.store_session.Symbol.{name as #tables·store-session}
 
 -- the test `t.len() != 17`
-pub is-17 : (n : ℕ) → T (not (not (eqb n 17))) → n ≡ 17
-is-17 n h = eqb→eq n 17 (twice-not (eqb n 17) h)
+pub is-parties : (n : ℕ) → T (not (not (eqb n parties))) → n ≡ parties
+is-parties n h = eqb→eq n parties (twice-not (eqb n parties) h)
   where
     twice-not : (b : Bool) → T (not (not b)) → T b
     twice-not true _ = tt
     twice-not false z = z
 
-pub not-17 : (n : ℕ) → T (not (eqb n 17)) → n ≡ 17 → ⊥
-not-17 n h e = T-not (eqb n 17) h (subst (λ (m : ℕ). T (eqb m 17)) (sym e) tt)
+pub not-parties : (n : ℕ) → T (not (eqb n parties)) → n ≡ parties → ⊥
+not-parties n h e = T-not (eqb n parties) h (subst (λ (m : ℕ). T (eqb m parties)) (sym e) tt)
 
 module _ (D : Type 0) (τ : Ty) (wr : Written) (rs : List (Written × List Ty)) (own : D → List Val → Fml) (cd : Coded D) where
   abbrev pub P : RattleType
@@ -87,7 +88,7 @@ module _ (D : Type 0) (τ : Ty) (wr : Written) (rs : List (Written × List Ty)) 
     sliceT = sliceTy (tyRef (named 1) mut (pointee (R .written)))
 
     abbrev arrT : Ty
-    arrT = tyArray S′.mir 17
+    arrT = tyArray S′.mir parties
 
     abbrev rest : Body
     rest =
@@ -112,7 +113,7 @@ module _ (D : Type 0) (τ : Ty) (wr : Written) (rs : List (Written × List Ty)) 
           ∷ local (tyRef erased imm (pointee (R .written))) valueLocal ∷ local (sliceTy (tyRef erased imm (pointee (R .written)))) valueLocal ∷ local (tyRef erased mut (tyInt w32)) valueLocal ∷ local (sliceTy (tyRef erased mut (tyInt w32))) valueLocal ∷ local tyUnit valueLocal
           ∷ local (tyRef erased mut (pointee (R .written))) valueLocal ∷ local (sliceTy (tyRef erased mut (pointee (R .written)))) valueLocal ∷ [];
       body = seq (assign (place 7 []) (rvOpd (copy (place 2 (field 1 ∷ [])))))
-          (seq (assign (place 8 []) (op2 ne (copy (place 7 [])) (int w64 17)))
+          (seq (assign (place 8 []) (op2 ne (copy (place 7 [])) (int w64 parties)))
           (seq (cond (copy (place 8 [])) (seq (call #seats·wrong-table [] (place 0 [])) return) skipᴹ) rest));
     }
 
@@ -124,14 +125,14 @@ module _ (D : Type 0) (τ : Ty) (wr : Written) (rs : List (Written × List Ty)) 
     thinE = record { signature = thinS; kept = (yes, (yes, (yes, tt))) }
 
     abbrev pub coreS : Signature
-    coreS = record { lifetimes = 1; outlives = []; params = SliceRefMutOf (0 ∷ []) tt (plain (λ κs. u32)) (λ κs. tt) ∷ ArrayOf (plain (λ κs. R)) (λ κs. tt) 17 ∷ plain (λ κs. P) ∷ []; result = plain (λ κs. SeatR) }
+    coreS = record { lifetimes = 1; outlives = []; params = SliceRefMutOf (0 ∷ []) tt (plain (λ κs. u32)) (λ κs. tt) ∷ ArrayOf (plain (λ κs. R)) (λ κs. tt) parties ∷ plain (λ κs. P) ∷ []; result = plain (λ κs. SeatR) }
 
     abbrev pub coreE : Ended
     coreE = record { signature = coreS; kept = (yes, (yes, (yes, tt))) }
 
     module _ {M : Type 1} (𝓤 : URA M) where
       abbrev pub thinC : Clauses 𝓤 thinE
-      thinC κs a = record { ghost = Unit {0}; requires = λ _. emp 𝓤; ensures = λ _ r e. fact 𝓤 (On17 Φ (a .0 .now) (a .1 .0 .now) (a .1 .1 .0) r (e .0 .now) (e .1 .0 .now)) }
+      thinC κs a = record { ghost = Unit {0}; requires = λ _. emp 𝓤; ensures = λ _ r e. fact 𝓤 (OnTable Φ (a .0 .now) (a .1 .0 .now) (a .1 .1 .0) r (e .0 .now) (e .1 .0 .now)) }
 
       abbrev pub coreC : Clauses 𝓤 coreE
       coreC κs a = record { ghost = Unit {0}; requires = λ _. emp 𝓤; ensures = λ _ r e. fact 𝓤 (Φ (a .0 .now) (a .1 .0) (a .1 .1 .0) (r .answer) (e .0 .now) (seated (a .1 .0) r)) }
@@ -163,7 +164,7 @@ module _ (D : Type 0) (τ : Ty) (wr : Written) (rs : List (Written × List Ty)) 
       abbrev Post : Val → SProp 𝓤
       Post = walkOf 𝓤 H A thinE stayed (thinC 𝓤) .post bound
 
-      exits : (r : Answer) (st′ : List ℕ) (zs : List Session) → length st′ ≡ length st → length zs ≡ length ys → Is AnswerR r (answerVal r ∷ []) → On17 Φ st ys k r st′ zs
+      exits : (r : Answer) (st′ : List ℕ) (zs : List Session) → length st′ ≡ length st → length zs ≡ length ys → Is AnswerR r (answerVal r ∷ []) → OnTable Φ st ys k r st′ zs
           → ent 𝓤 (⋆ 𝓤 H A (‵ (finally u32 γ₀ st′) ∷ ‵ (flft κ₀ q₀) ∷ ‵ (finally R γ zs) ∷ ‵ (flft κ₁ q₁) ∷ [])) (Post (answerVal r))
       exits r st′ zs e₀ e g said =
           qed W (‵ (finally u32 γ₀ st′) ∷ ‵ (flft κ₀ q₀) ∷ ‵ (finally R γ zs) ∷ ‵ (flft κ₁ q₁) ∷ []) ∵
@@ -172,11 +173,11 @@ module _ (D : Type 0) (τ : Ty) (wr : Written) (rs : List (Written × List Ty)) 
           nothing ! $ owned ! P (Is P) (L .make 𝓤 H A W) k _ gk $ fjoin ! $ move ! (2 ∷ 0 ∷ []) $ fjoin ! $ move ! (1 ∷ 0 ∷ []) $ fjoin ! $ frame ! $ owned ! AnswerR (Is AnswerR) (answer-make 𝓤 H A) r _ g $ done !
 
       abbrev to-core : Core 𝓤 H A .Ghost
-      to-core = (((κ₀, tt), (q₀, tt), tt, (store st, (ys, (k, tt))), (sliceVal (b₀, o₀) (length st) ∷ [], (valsOf17 ys, (L .val k ∷ [], tt)))), tt)
+      to-core = (((κ₀, tt), (q₀, tt), tt, (store st, (ys, (k, tt))), (sliceVal (b₀, o₀) (length st) ∷ [], (valsOfRows ys, (L .val k ∷ [], tt)))), tt)
 
-      goes : Is R17 ys (valsOf17 ys) → ent 𝓤 (sep 𝓤 (sem 𝓤 H A (MutSlice (named 0) κ₀ u32 .own (store st) (at .0))) (A .lft κ₀ q₀)) (Core 𝓤 H A .pre to-core)
+      goes : Is Rows ys (valsOfRows ys) → ent 𝓤 (sep 𝓤 (sem 𝓤 H A (MutSlice (named 0) κ₀ u32 .own (store st) (at .0))) (A .lft κ₀ q₀)) (Core 𝓤 H A .pre to-core)
       goes g =
-          qed W (‵ (MutSlice (named 0) κ₀ u32 .own (store st) (at .0)) ∷ ‵ (flft κ₀ q₀) ∷ []) ∵ nothing ! $ owned ! P (Is P) (L .make 𝓤 H A W) k _ gk $ fjoin ! $ owned ! R17 (Is R17) (make17 𝓤 H A W) ys _ g $ fjoin ! $ move ! (1 ∷ 0 ∷ []) $ fjoin ! $
+          qed W (‵ (MutSlice (named 0) κ₀ u32 .own (store st) (at .0)) ∷ ‵ (flft κ₀ q₀) ∷ []) ∵ nothing ! $ owned ! P (Is P) (L .make 𝓤 H A W) k _ gk $ fjoin ! $ owned ! Rows (Is Rows) (make-rows 𝓤 H A W) ys _ g $ fjoin ! $ move ! (1 ∷ 0 ∷ []) $ fjoin ! $
           nothing ! $ move ! (2 ∷ 0 ∷ []) $ join ! $ join ! $ frame ! $ done !
 
       module _ (C : Calls 𝓤 H) (Λ : Loops 𝓤 H) (fm : FmC 𝓤 H (W .laws) C) (known-wrong : Triple 𝓤 (C #seats·wrong-table) (Wrong 𝓤 H A mem run)) (known-load : Triple 𝓤 (C #tables·load-all) (Load 𝓤 H A mem run))
@@ -200,17 +201,17 @@ module _ (D : Type 0) (τ : Ty) (wr : Written) (rs : List (Written × List Ty)) 
             move ! (30 ∷ 31 ∷ []) $ free1 ! $ move ! (28 ∷ 29 ∷ []) $ free1 ! $ move ! (26 ∷ 27 ∷ []) $ free1 ! $ move ! (24 ∷ 25 ∷ []) $ free1 ! $ move ! (22 ∷ 23 ∷ []) $ free1 ! $ move ! (20 ∷ 21 ∷ []) $ free1 ! $ move ! (18 ∷ 19 ∷ []) $ free1 ! $ move ! (16 ∷ 17 ∷ []) $ free1 ! $
             move ! (14 ∷ 15 ∷ []) $ free1 ! $ move ! (12 ∷ 13 ∷ []) $ free1 ! $ move ! (10 ∷ 11 ∷ []) $ free1 ! $ move ! (8 ∷ 9 ∷ []) $ free1 ! $ move ! (6 ∷ 7 ∷ []) $ free1 ! $ move ! (4 ∷ 5 ∷ []) $ free1 ! $ move ! (2 ∷ 3 ∷ []) $ free1 ! $ free1 ! $ free0 ! $
             use1 W (‵ (finally u32 γ₀ st)) (given-up u32 κ₀ κ₀ q₀ γ₀ b₀ o₀ st 𝓤 H A W (named 0) (named 0)) $ move ! (2 ∷ []) $ use1 W (‵ (finally R γ ys)) (given-up R κ₁ κ₁ q₁ γ b o ys 𝓤 H A W (named 1) (named 1)) $ move ! (1 ∷ 2 ∷ 0 ∷ []) $
-            by ! (exits (Refused 1 0) st ys refl refl g (λ e. absurd (not-17 (length ys) h e), λ _. (refl, refl, refl)))))
+            by ! (exits (Refused 1 0) st ys refl refl g (λ e. absurd (not-parties (length ys) h e), λ _. (refl, refl, refl)))))
             -- 17 records
-            (λ h. let l17 = is-17 (length ys) h in skips ! $ exec ! C Λ En rest (atRet En Post) $
+            (λ h. let full = is-parties (length ys) h in skips ! $ exec ! C Λ En rest (atRet En Post) $
             assigns ! (addr ! (from ! (fld ! refl (hop ! (look-in ! 26 (sub ! 0 refl (whole !))) (stop !))))) (from ! (stop !)) (init ! 12 refl (tt, tt)) $
             assigns ! (agg ! (and-then ! (load ! (from ! (stop !)) (look ! 12 refl)) (and-then ! (load ! (from ! (fld ! refl (stop !))) (look-in ! 26 (sub ! 1 refl (whole !)))) (no-more !)))) (from ! (stop !)) (init ! 10 refl (tt, (tt, (record { fits = room .0 }, tt)))) $
-            move ! (34 ∷ 35 ∷ []) $ calls-load ! mem run fm known-load (named 1) b o ys room l17 (λ ν δ. and-then ! (load ! (from ! (stop !)) (look ! 12 refl)) (no-more !)) (λ g17.
-            land ! (from ! (stop !)) (init ! 24 refl (typed17 𝓤 H A W ys g17)) $
+            move ! (34 ∷ 35 ∷ []) $ calls-load ! mem run fm known-load (named 1) b o ys room full (λ ν δ. and-then ! (load ! (from ! (stop !)) (look ! 12 refl)) (no-more !)) (λ all-rows.
+            land ! (from ! (stop !)) (init ! 24 refl (typed-rows 𝓤 H A W ys all-rows)) $
             -- [what the table owns; its token; _15 at 2; …; _0 at 32; what the store owns at 34; its token]
             assigns ! (addr ! (from ! (fld ! refl (hop ! (look-in ! 30 (sub ! 0 refl (whole !))) (stop !))))) (from ! (stop !)) (init ! 10 refl (tt, tt)) $
             assigns ! (agg ! (and-then ! (load ! (from ! (stop !)) (look ! 10 refl)) (and-then ! (load ! (from ! (fld ! refl (stop !))) (look-in ! 30 (sub ! 1 refl (whole !)))) (no-more !)))) (from ! (stop !)) (init ! 8 refl (tt, (tt, (record { fits = room₀ .0 }, tt)))) $
-            move ! (34 ∷ 35 ∷ []) $ use2 W (raw (Core 𝓤 H A .pre to-core)) (goes g17) $
+            move ! (34 ∷ 35 ∷ []) $ use2 W (raw (Core 𝓤 H A .pre to-core)) (goes all-rows) $
             -- [what the core asks; what the table owns; its token; _15 at 3; …; _0 at 33]
             calls-at ! fm (Core 𝓤 H A) known to-core (and-then ! (load ! (from ! (stop !)) (look ! 9 refl)) (and-then ! (load ! (from ! (stop !)) (look ! 25 refl)) (and-then ! (load ! (from ! (stop !)) (look ! 27 refl)) (no-more !)))) (λ w.
             use1 W (later (some (λ (r : Seat). ((‵ (flft κ₀ q₀) ⊛ ‵ ftrue) ⊛ ‵ (SeatR .own r (w ∷ []))) ⊛ raw (ensured 𝓤 H A coreE (coreC 𝓤) (κ₀, tt) (store st, (ys, (k, tt))) tt r)))) (id⊢ 𝓤 _) $ await ! tt $ pick ! (λ r.
@@ -223,14 +224,14 @@ module _ (D : Type 0) (τ : Ty) (wr : Written) (rs : List (Written × List Ty)) 
             assigns ! (of-opd ! (load ! (from ! (fld ! refl (stop !))) (look-in ! 24 (sub ! 1 refl (whole !))))) (from ! (stop !)) (init ! 22 refl (typed 𝓤 H A W (r .session) (seat-session r w is))) $
             assigns ! (addr ! (from ! (fld ! refl (hop ! (look-in ! 30 (sub ! 0 refl (whole !))) (stop !))))) (from ! (stop !)) (init ! 6 refl (tt, tt)) $
             assigns ! (agg ! (and-then ! (load ! (from ! (stop !)) (look ! 6 refl)) (and-then ! (load ! (from ! (fld ! refl (stop !))) (look-in ! 30 (sub ! 1 refl (whole !)))) (no-more !)))) (from ! (stop !)) (init ! 4 refl (tt, (tt, (record { fits = room .0 }, tt)))) $
-            move ! (2 ∷ 3 ∷ []) $ calls-store ! mem run fm known-store (named 1) b o ys (r .party) (r .session) l17 (seat-party r w is) (seat-session r w is) (and-then ! (load ! (from ! (stop !)) (look ! 3 refl)) (and-then ! (load ! (from ! (fld ! refl (stop !))) (look-in ! 23 (sub ! 0 refl (whole !)))) (and-then ! (load ! (from ! (stop !)) (look ! 21 refl)) (no-more !)))) $
+            move ! (2 ∷ 3 ∷ []) $ calls-store ! mem run fm known-store (named 1) b o ys (r .party) (r .session) full (seat-party r w is) (seat-session r w is) (and-then ! (load ! (from ! (stop !)) (look ! 3 refl)) (and-then ! (load ! (from ! (fld ! refl (stop !))) (look-in ! 23 (sub ! 0 refl (whole !)))) (and-then ! (load ! (from ! (stop !)) (look ! 21 refl)) (no-more !)))) $
             -- [the table's last list; its token; the store's token; its last list; _15 at 4; …; _0 at 34]
             land ! (from ! (stop !)) (init ! 8 refl (tt, tt)) $
             assigns ! (of-opd ! (load ! (from ! (fld ! refl (stop !))) (look-in ! 24 (sub ! 2 refl (whole !))))) (from ! (stop !)) (init ! 34 refl (answer-typed 𝓤 H A W (r .answer) _ (seat-answer r w is))) $
             returns ! (look ! 34 refl) $ forget ! 4 refl $ forget ! 6 refl $ forget ! 8 refl $ forget ! 10 refl $ forget ! 12 refl $ forget ! 14 refl $ forget ! 16 refl $ forget ! 18 refl $ forget ! 20 refl $ forget ! 22 refl $ forget ! 24 refl $ forget ! 26 refl $ forget ! 28 refl $ forget ! 30 refl $ forget ! 32 refl $ forget ! 34 refl $
             move ! (34 ∷ 35 ∷ []) $ free1 ! $ move ! (32 ∷ 33 ∷ []) $ free1 ! $ move ! (30 ∷ 31 ∷ []) $ free1 ! $ move ! (28 ∷ 29 ∷ []) $ free1 ! $ move ! (26 ∷ 27 ∷ []) $ free1 ! $ move ! (24 ∷ 25 ∷ []) $ free1 ! $ move ! (22 ∷ 23 ∷ []) $ free1 ! $ move ! (20 ∷ 21 ∷ []) $ free1 ! $
             move ! (18 ∷ 19 ∷ []) $ free1 ! $ move ! (16 ∷ 17 ∷ []) $ free1 ! $ move ! (14 ∷ 15 ∷ []) $ free1 ! $ move ! (12 ∷ 13 ∷ []) $ free1 ! $ move ! (10 ∷ 11 ∷ []) $ free1 ! $ move ! (8 ∷ 9 ∷ []) $ free1 ! $ move ! (6 ∷ 7 ∷ []) $ free1 ! $ move ! (4 ∷ 5 ∷ []) $ free1 ! $ free0 ! $
-            move ! (3 ∷ 2 ∷ 0 ∷ 1 ∷ []) $ by ! (exits (r .answer) (zs .0) (seated ys r) e₀ (length-set ys (r .party) (r .session)) (seat-answer r w is) (λ _. e, λ n. absurd (n l17)))))))))))))))))))))))))))
+            move ! (3 ∷ 2 ∷ 0 ∷ 1 ∷ []) $ by ! (exits (r .answer) (zs .0) (seated ys r) e₀ (length-set ys (r .party) (r .session)) (seat-answer r w is) (λ _. e, λ n. absurd (n full)))))))))))))))))))))))))))
 
     module _ {M : Type 1} (𝓤 : URA M) (H : Heap 𝓤) (A : Atoms 𝓤) (W : Given 𝓤 H A) (mem : Memory → SProp 𝓤) (run : Routine → Fun 𝓤) (𝓣 : Tables 𝓤 H)
         (known-wrong : Triple 𝓤 (𝓣 .C #seats·wrong-table) (Wrong 𝓤 H A mem run)) (known-load : Triple 𝓤 (𝓣 .C #tables·load-all) (Load 𝓤 H A mem run)) (known : Triple 𝓤 (𝓣 .C key) (Core 𝓤 H A)) (known-store : Triple 𝓤 (𝓣 .C #tables·store-session) (Store 𝓤 H A mem run)) where

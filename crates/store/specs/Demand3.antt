@@ -12,7 +12,7 @@ use Rattle.outcomes.specs.Said.{said}
 use Rattle.refusals.specs.Refusing.{first-of, abort-list}
 use Rattle.promises.specs.Demands.{Lending, words}
 use Rattle.promises.specs.Ways.{Serves, abort-done, abort-refuses}
-use Rattle.store.specs.Lent.{Formatted, Aborted, On17}
+use Rattle.store.specs.Lent.{Formatted, Aborted, OnTable}
 use Rattle.store.specs.Turns.{turn, Lends, aborts, Lendings, Sound-lent, sound-long, lends-return, lends-sound, lendings-sound, format-sound, lent-demand-3}
 
 -- The machine of words whose calls are the six functions, each as its contract says.
@@ -34,7 +34,7 @@ runs-same S (next {x} {y} {z} {k} {ks} d r) = next (lends-return (sound-long x S
 abort-returns : (p : ℕ) (x : Lending) → Sound-lent x → (a : Answer) × (y : Lending) × Lends x (turn (C.abort p) a []) y
 abort-returns p x S = go (ℕ-discrete (first-of (abort-list (x .table) p)) 0)
   where
-    does : (a : Answer) (s′ : List ℕ) (t′ : List Session) → Serves (C.abort p) (x .store) (x .table) (said a) [] s′ t′ → On17 Aborted (x .store) (x .table) p a s′ t′
+    does : (a : Answer) (s′ : List ℕ) (t′ : List Session) → Serves (C.abort p) (x .store) (x .table) (said a) [] s′ t′ → OnTable Aborted (x .store) (x .table) p a s′ t′
     does a s′ t′ h = (λ n. record { answers = λ A. h; refuses = λ z. absurd (z S) }, λ z. absurd (z (sound-long x S)))
 
     go : Dec (first-of (abort-list (x .table) p) ≡ 0) → (a : Answer) × (y : Lending) × Lends x (turn (C.abort p) a []) y
@@ -51,7 +51,7 @@ aborts-return (s ∷ ss) x S =
     record { turns = turn (C.abort s) (o .0) [] ∷ m .turns; last = m .last; run = next (o .2) (m .run); as-called = ap (λ z. C.abort s ∷ z) (m .as-called) }
 
 -- A format that was accepted; then any list of calls: it keeps demand 3.
-pub functions-demand-3 : (m : ℕ) (a : Answer) (x x′ : Lending) → On17 Formatted (x .store) (x .table) m a (x′ .store) (x′ .table) → said a ≡ C.ok
+pub functions-demand-3 : (m : ℕ) (a : Answer) (x x′ : Lending) → OnTable Formatted (x .store) (x .table) m a (x′ .store) (x′ .table) → said a ≡ C.ok
     → (ks : List Turn) (y : Lending) → Lendings x′ ks y → Demand-3 functions (told nothing ks) y
 functions-demand-3 m a x x′ h e ks y r =
     let D = lent-demand-3 m a x x′ h e ks y r in

@@ -36,8 +36,8 @@ abbrev pub Stepped : List ℕ → List Session → List ℕ → ℕ → Answer �
 Stepped s t l p a s′ t′ l′ = Calls (C.step p l) s t (said a) l′ s′ t′
 
 -- Over a table of any length.
-abbrev pub On17 : {D : Type 0} → Effect D → Effect D
-On17 E s t k a s′ t′ = (length t ≡ parties → E s t k a s′ t′) × (¬ (length t ≡ parties) → (a ≡ Refused 1 0) × (s′ ≡ s) × (t′ ≡ t))
+abbrev pub OnTable : {D : Type 0} → Effect D → Effect D
+OnTable E s t k a s′ t′ = (length t ≡ parties → E s t k a s′ t′) × (¬ (length t ≡ parties) → (a ≡ Refused 1 0) × (s′ ≡ s) × (t′ ≡ t))
 
-abbrev pub Stepped17 : List ℕ → List Session → List ℕ → ℕ → Answer → List ℕ → List Session → List ℕ → Type 0
-Stepped17 s t l p a s′ t′ l′ = (length t ≡ parties → Stepped s t l p a s′ t′ l′) × (¬ (length t ≡ parties) → (a ≡ Refused 1 0) × (s′ ≡ s) × (t′ ≡ t) × (l′ ≡ l))
+abbrev pub SteppedOnTable : List ℕ → List Session → List ℕ → ℕ → Answer → List ℕ → List Session → List ℕ → Type 0
+SteppedOnTable s t l p a s′ t′ l′ = (length t ≡ parties → Stepped s t l p a s′ t′ l′) × (¬ (length t ≡ parties) → (a ≡ Refused 1 0) × (s′ ≡ s) × (t′ ≡ t) × (l′ ≡ l))

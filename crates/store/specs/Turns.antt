@@ -21,7 +21,7 @@ use Rattle.promises.specs.Demands.{Lending, Returns, words}
 use Rattle.promises.specs.Promised.{calls-return, formats-return}
 use Rattle.promises.specs.Words.{formatted-calls}
 use Rattle.store.specs.declared.Ask.{Ask}
-use Rattle.store.specs.Lent.{Formatted, Begun, Put, Committed, Aborted, On17, Stepped17}
+use Rattle.store.specs.Lent.{Formatted, Begun, Put, Committed, Aborted, OnTable, SteppedOnTable}
 
 abbrev pub lending : List ℕ → List Session → Lending
 lending s t = record { store = s; table = t }
@@ -32,13 +32,13 @@ turn c a l = record { call = c; answer = said a; list = l }
 
 -- One return of one of the six functions: what its contract says of store, table and list as they were lent and as they were left. Only step has a list.
 pub data Lends : Lending → Turn → Lending → Type 0 where
-  formats : {x y : Lending} {m : ℕ} {a : Answer} → On17 Formatted (x .store) (x .table) m a (y .store) (y .table) → Lends x (turn (C.format m) a []) y
-  begins : {x y : Lending} {p : ℕ} {a : Answer} → On17 Begun (x .store) (x .table) p a (y .store) (y .table) → Lends x (turn (C.begin p) a []) y
-  puts : {x y : Lending} {k : Ask} {a : Answer} → On17 Put (x .store) (x .table) k a (y .store) (y .table)
+  formats : {x y : Lending} {m : ℕ} {a : Answer} → OnTable Formatted (x .store) (x .table) m a (y .store) (y .table) → Lends x (turn (C.format m) a []) y
+  begins : {x y : Lending} {p : ℕ} {a : Answer} → OnTable Begun (x .store) (x .table) p a (y .store) (y .table) → Lends x (turn (C.begin p) a []) y
+  puts : {x y : Lending} {k : Ask} {a : Answer} → OnTable Put (x .store) (x .table) k a (y .store) (y .table)
       → Lends x (turn (C.put (k .party) (k .code) (k .entry) (k .first) (k .second)) a []) y
-  steps : {x y : Lending} {p : ℕ} {l l′ : List ℕ} {a : Answer} → Stepped17 (x .store) (x .table) l p a (y .store) (y .table) l′ → Lends x (turn (C.step p l) a l′) y
-  commits : {x y : Lending} {p : ℕ} {a : Answer} → On17 Committed (x .store) (x .table) p a (y .store) (y .table) → Lends x (turn (C.commit p) a []) y
-  aborts : {x y : Lending} {p : ℕ} {a : Answer} → On17 Aborted (x .store) (x .table) p a (y .store) (y .table) → Lends x (turn (C.abort p) a []) y
+  steps : {x y : Lending} {p : ℕ} {l l′ : List ℕ} {a : Answer} → SteppedOnTable (x .store) (x .table) l p a (y .store) (y .table) l′ → Lends x (turn (C.step p l) a l′) y
+  commits : {x y : Lending} {p : ℕ} {a : Answer} → OnTable Committed (x .store) (x .table) p a (y .store) (y .table) → Lends x (turn (C.commit p) a []) y
+  aborts : {x y : Lending} {p : ℕ} {a : Answer} → OnTable Aborted (x .store) (x .table) p a (y .store) (y .table) → Lends x (turn (C.abort p) a []) y
 
 -- Refused for the store and table that were lent, whatever the call.
 abbrev pub TurnedAway : C.Answer → Type 0
@@ -142,7 +142,7 @@ lendings-sound S (then d r) = lendings-sound (lends-sound S d) r
 lendings-sound S (wrong {x} v d r) = lendings-sound (subst (λ s. Sound s (x .table)) (sym (away-same v d)) S) r
 
 -- A format that was accepted has a table of 17 records.
-accepted-format : (m : ℕ) (a : Answer) (x x′ : Lending) → On17 Formatted (x .store) (x .table) m a (x′ .store) (x′ .table) → said a ≡ C.ok
+accepted-format : (m : ℕ) (a : Answer) (x x′ : Lending) → OnTable Formatted (x .store) (x .table) m a (x′ .store) (x′ .table) → said a ≡ C.ok
     → Formats m (x .store) (x .table) C.ok (x′ .store) (x′ .table)
 accepted-format m a x x′ h e = go (ℕ-discrete (length (x .table)) parties)
   where
@@ -160,11 +160,11 @@ accepted-format m a x x′ h e = go (ℕ-discrete (length (x .table)) parties)
     go (yes n) = subst (λ z. Formats m (x .store) (x .table) z (x′ .store) (x′ .table)) e (h .0 n)
     go (no z) = absurd (not-ok (sym (ap said (h .1 z .0)) ∙ e))
 
-pub format-sound : (m : ℕ) (a : Answer) (x x′ : Lending) → On17 Formatted (x .store) (x .table) m a (x′ .store) (x′ .table) → said a ≡ C.ok → Sound-lent x′
+pub format-sound : (m : ℕ) (a : Answer) (x x′ : Lending) → OnTable Formatted (x .store) (x .table) m a (x′ .store) (x′ .table) → said a ≡ C.ok → Sound-lent x′
 format-sound m a x x′ h e = accepted-format m a x x′ h e .accepts refl .0
 
 -- A format that was accepted; then any list of calls: it keeps demand 3.
-pub lent-demand-3 : (m : ℕ) (a : Answer) (x x′ : Lending) → On17 Formatted (x .store) (x .table) m a (x′ .store) (x′ .table) → said a ≡ C.ok
+pub lent-demand-3 : (m : ℕ) (a : Answer) (x x′ : Lending) → OnTable Formatted (x .store) (x .table) m a (x′ .store) (x′ .table) → said a ≡ C.ok
     → (ks : List Turn) (y : Lending) → Lendings x′ ks y → Demand-3 words (told nothing ks) y
 lent-demand-3 m a x x′ h e ks y r =
     let q = runs (format-sound m a x x′ h e) r in

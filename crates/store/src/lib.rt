@@ -6,7 +6,7 @@
 // table and list at entry and at exit (specs/Lent); so any list of calls after an accepted format keeps demand 3 (specs/Turns, specs/Demand3). Nothing is
 // asked of the caller. It rests on tables for the lent table, on calls for the calls by value, on seats for what is kept of them.
 ghost use mathlib.Core.Path.{_≡_};
-ghost use Rattle.store.specs.Lent.{Formatted, Begun, Put, Stepped, Committed, Aborted, On17, Stepped17};
+ghost use Rattle.store.specs.Lent.{Formatted, Begun, Put, Stepped, Committed, Aborted, OnTable, SteppedOnTable};
 ghost use Rattle.store.specs.OneRecord.{seated};
 use outcomes::Answer;
 use seats::Seat;
@@ -63,7 +63,7 @@ fn abort_by_value(store: &mut [u32], t: [Session; PARTIES], p: u32) -> Seat
 
 // An empty store with m entries, and a table with no session begun.
 pub fn format(store: &mut [u32], table: &mut [Session], m: u32) -> Answer
-    ensures { λ r. ⌜ On17 Formatted (now (store .entry)) (now (table .entry)) m r (now (store .exit)) (now (table .exit)) ⌝ }
+    ensures { λ r. ⌜ OnTable Formatted (now (store .entry)) (now (table .entry)) m r (now (store .exit)) (now (table .exit)) ⌝ }
 {
     if table.len() != PARTIES {
         return seats::wrong_table();
@@ -77,7 +77,7 @@ pub fn format(store: &mut [u32], table: &mut [Session], m: u32) -> Answer
 
 // A session begins.
 pub fn begin(store: &mut [u32], table: &mut [Session], p: u32) -> Answer
-    ensures { λ r. ⌜ On17 Begun (now (store .entry)) (now (table .entry)) p r (now (store .exit)) (now (table .exit)) ⌝ }
+    ensures { λ r. ⌜ OnTable Begun (now (store .entry)) (now (table .entry)) p r (now (store .exit)) (now (table .exit)) ⌝ }
 {
     if table.len() != PARTIES {
         return seats::wrong_table();
@@ -91,7 +91,7 @@ pub fn begin(store: &mut [u32], table: &mut [Session], p: u32) -> Answer
 
 // A party's request: it is in hand until a step answers done.
 pub fn put(store: &mut [u32], table: &mut [Session], k: Ask) -> Answer
-    ensures { λ r. ⌜ On17 Put (now (store .entry)) (now (table .entry)) k r (now (store .exit)) (now (table .exit)) ⌝ }
+    ensures { λ r. ⌜ OnTable Put (now (store .entry)) (now (table .entry)) k r (now (store .exit)) (now (table .exit)) ⌝ }
 {
     if table.len() != PARTIES {
         return seats::wrong_table();
@@ -105,7 +105,7 @@ pub fn put(store: &mut [u32], table: &mut [Session], k: Ask) -> Answer
 
 // One step of the request that party p has in hand; a locate's last step writes the list.
 pub fn step(store: &mut [u32], table: &mut [Session], list: &mut [u32], p: u32) -> Answer
-    ensures { λ r. ⌜ Stepped17 (now (store .entry)) (now (table .entry)) (now (list .entry)) p r (now (store .exit)) (now (table .exit)) (now (list .exit)) ⌝ }
+    ensures { λ r. ⌜ SteppedOnTable (now (store .entry)) (now (table .entry)) (now (list .entry)) p r (now (store .exit)) (now (table .exit)) (now (list .exit)) ⌝ }
 {
     if table.len() != PARTIES {
         return seats::wrong_table();
@@ -119,7 +119,7 @@ pub fn step(store: &mut [u32], table: &mut [Session], list: &mut [u32], p: u32) 
 
 // A session ends and keeps what it did.
 pub fn commit(store: &mut [u32], table: &mut [Session], p: u32) -> Answer
-    ensures { λ r. ⌜ On17 Committed (now (store .entry)) (now (table .entry)) p r (now (store .exit)) (now (table .exit)) ⌝ }
+    ensures { λ r. ⌜ OnTable Committed (now (store .entry)) (now (table .entry)) p r (now (store .exit)) (now (table .exit)) ⌝ }
 {
     if table.len() != PARTIES {
         return seats::wrong_table();
@@ -133,7 +133,7 @@ pub fn commit(store: &mut [u32], table: &mut [Session], p: u32) -> Answer
 
 // A session ends and what it did is undone.
 pub fn abort(store: &mut [u32], table: &mut [Session], p: u32) -> Answer
-    ensures { λ r. ⌜ On17 Aborted (now (store .entry)) (now (table .entry)) p r (now (store .exit)) (now (table .exit)) ⌝ }
+    ensures { λ r. ⌜ OnTable Aborted (now (store .entry)) (now (table .entry)) p r (now (store .exit)) (now (table .exit)) ⌝ }
 {
     if table.len() != PARTIES {
         return seats::wrong_table();

@@ -23,6 +23,7 @@ use denote.Lend.{Held}
 use denote.Slice.{Room, sliceVal, MutSlice, heres, codedHoleys, at-slice}
 use denote.Index.{place, place-is}
 use denote.Struct.Laws as LL
+use Rattle.sessions.specs.Sessions.{parties}
 use Rattle.sessions.specs.declared.Session.{Session}
 use Rattle.sessions.proofs.Session as S
 use Rattle.sessions.proofs.Session.Laws as S′
@@ -60,30 +61,30 @@ pub spelled : (s : Session) (v : Val) → Is R s (v ∷ []) → Is R s (valsOf s
 spelled s v g = subst (Is R s) (tell s (v ∷ []) g) g
 
 -- ---- 17 of them by value
-abbrev pub R17 : RattleType
-R17 = Array R 17
+abbrev pub Rows : RattleType
+Rows = Array R 17
 
-abbrev pub valsOf17 : List Session → List Val
-valsOf17 = array-vals valsOf
+abbrev pub valsOfRows : List Session → List Val
+valsOfRows = array-vals valsOf
 
-abbrev pub valOf17 : List Session → Val
-valOf17 ys = arrayVal (map valOf ys)
+abbrev pub valOfRows : List Session → Val
+valOfRows ys = arrayVal (map valOf ys)
 
-abbrev pub tell17 : Tells R17 (Is R17) valsOf17
-tell17 = array-tells R valsOf tell 17
+abbrev pub tell-rows : Tells Rows (Is Rows) valsOfRows
+tell-rows = array-tells R valsOf tell parties
 
 module _ {M : Type 1} (𝓤 : URA M) (H : Heap 𝓤) (A : Atoms 𝓤) (W : Given 𝓤 H A) where
-  abbrev pub make17 : Makes 𝓤 H A R17 (Is R17)
-  make17 = array-makes 𝓤 H A W R (make 𝓤 H A) 17
+  abbrev pub make-rows : Makes 𝓤 H A Rows (Is Rows)
+  make-rows = array-makes 𝓤 H A W R (make 𝓤 H A) parties
 
-  pub typed17 : (ys : List Session) → Is R17 ys (valsOf17 ys) → T (hasTy (tyArray S′.mir 17) (valOf17 ys)) × WT (valOf17 ys)
-  typed17 ys g = array-lawful 𝓤 H A W R (LL.lawful S.the-type S′.the-laws 𝓤 H A W) 17 .typed ys (valsOf17 ys) g .0
+  pub typed-rows : (ys : List Session) → Is Rows ys (valsOfRows ys) → T (hasTy (tyArray S′.mir parties) (valOfRows ys)) × WT (valOfRows ys)
+  typed-rows ys g = array-lawful 𝓤 H A W R (LL.lawful S.the-type S′.the-laws 𝓤 H A W) parties .typed ys (valsOfRows ys) g .0
 
-  pub typed17-at : (ys : List Session) (v : Val) → Is R17 ys (v ∷ []) → T (hasTy (tyArray S′.mir 17) v) × WT v
-  typed17-at ys v g = array-lawful 𝓤 H A W R (LL.lawful S.the-type S′.the-laws 𝓤 H A W) 17 .typed ys (v ∷ []) g .0
+  pub typed-rows-at : (ys : List Session) (v : Val) → Is Rows ys (v ∷ []) → T (hasTy (tyArray S′.mir parties) v) × WT v
+  typed-rows-at ys v g = array-lawful 𝓤 H A W R (LL.lawful S.the-type S′.the-laws 𝓤 H A W) parties .typed ys (v ∷ []) g .0
 
-pub spelled17 : (ys : List Session) (v : Val) → Is R17 ys (v ∷ []) → Is R17 ys (valsOf17 ys)
-spelled17 ys v g = subst (Is R17 ys) (tell17 ys (v ∷ []) g) g
+pub spelled-rows : (ys : List Session) (v : Val) → Is Rows ys (v ∷ []) → Is Rows ys (valsOfRows ys)
+spelled-rows ys v g = subst (Is Rows ys) (tell-rows ys (v ∷ []) g) g
 
 -- ---- truth values
 pub holds : (t : Bool) → T t → t ≡ true
@@ -94,8 +95,8 @@ pub fails : (t : Bool) → (T t → ⊥) → t ≡ false
 fails true f = absurd (f tt)
 fails false _ = refl
 
-pub long17 : (ys : List Session) (vs : List Val) → Is R17 ys vs → length ys ≡ 17
-long17 ys vs g = g .1 .0 .1
+pub long-rows : (ys : List Session) (vs : List Val) → Is Rows ys vs → length ys ≡ parties
+long-rows ys vs g = g .1 .0 .1
 
 -- the environment of a body: each local's type, with its block
 abbrev pub homes : List Local → List ℕ → List (Ty × ℕ)

@@ -9,7 +9,7 @@ use Rattle.locks.specs.Holders as H
 use Rattle.locks.specs.Lists as I
 use Rattle.serial.specs.Locks.{weak}
 use Rattle.serial.specs.Locks as L
-use Rattle.machine.specs.Holders.{blockers, in-the-way}
+use Rattle.machine.specs.Holders.{width, blockers, in-the-way}
 use Rattle.machine.specs.State.{Desc, State}
 use Rattle.machine.specs.Steps.{rule, group-blockers}
 use Rattle.machine.specs.Sound.{Sound}
@@ -28,5 +28,5 @@ blockers-are {s} S k p K =
 pub blocker-proper : (p : ℕ) (d : Desc) (b : ℕ) (bs : List ℕ) → group-blockers weak p d ≡ b ∷ bs → ¬ (b ≡ 0)
 unfolding blockers group-blockers
 blocker-proper p d b bs e =
-    let r = I.in-passing (in-the-way rule L.group weak p (d .locate) (d .update)) 1 16 b (subst (I.In b) (sym e) (unfold I.In in (inl refl))) in
+    let r = I.in-passing (in-the-way rule L.group weak p (d .locate) (d .update)) 1 width b (subst (I.In b) (sym e) (unfold I.In in (inl refl))) in
     λ z. omega (arith, z, r .0)

@@ -4,6 +4,7 @@ use mathlib.Core.Bool.{Bool, true, false, not, _&&_}
 use mathlib.Core.List.{List}
 use Prim.Native.Nat.{ℕ, _+_, _-_, _≤_, _<_}
 use lib.Dec.{eqb, leb}
+use Rattle.machine.specs.Holders.{width}
 use Rattle.words.specs.Store.{HasRecord}
 use Rattle.words.specs.Header.{headerWord, freePlace}
 use Rattle.nodes.specs.Node.{nodeAt}
@@ -17,9 +18,9 @@ use Rattle.splits.specs.Splits.{CanSplitSon}
 use Rattle.joins.specs.Joins.{CanJoin, CanMoveLeft, CanMoveRight, HasDown, pairPlace}
 use Rattle.walking.specs.Walking.{otherCount}
 
--- One of 17 parties, at a node above the lowest.
+-- A party, at a node above the lowest.
 pub record Walker (s : List ℕ) (m p : ℕ) (x : Session) : Type 0 where
-  pub party : p ≤ 16
+  pub party : p ≤ width
   pub level : 2 ≤ x .level
   pub toward : Toward s m (x .at) (x .target)
 
@@ -35,7 +36,7 @@ pub record AloneReady (s : List ℕ) (m p : ℕ) (x : Session) : Type 0 where
 
 -- The sons at i and i + 1 of the party's node.
 pub record Mendable (s : List ℕ) (m p : ℕ) (x : Session) (i : ℕ) (first : Bool) (other : ℕ) : Type 0 where
-  pub party : p ≤ 16
+  pub party : p ≤ width
   pub level : 2 ≤ x .level
   pub join : leb other 5 ≡ true → CanJoin s m (x .at) i
   pub left : leb other 5 ≡ false → first ≡ true → CanMoveLeft s m (x .at) i

@@ -10,6 +10,7 @@ ghost use mathlib.Core.Path.{_≡_};
 ghost use mathlib.Core.Bool.{cond, not, _&&_};
 ghost use Prim.Native.Nat.{_-_, _≤_};
 ghost use lib.Dec.{eqb};
+ghost use Rattle.machine.specs.Holders.{width};
 ghost use Rattle.nodes.specs.Ops.{sonFor};
 ghost use Rattle.nodes.specs.Paths.{sonToward};
 ghost use Rattle.descents.specs.Descents.{Toward};
@@ -161,7 +162,7 @@ fn alone_step(store: &mut [u32], m: usize, p: u32, x: Session) -> Moved
 // ---- the son and its neighbour
 
 fn join_step(store: &mut [u32], m: usize, p: u32, x: Session, i: usize, down: u32) -> Moved
-    requires { ⌜ CanJoin (now store) m (x .at) i × (p ≤ 16) × (2 ≤ x .level) ⌝ }
+    requires { ⌜ CanJoin (now store) m (x .at) i × (p ≤ width) × (2 ≤ x .level) ⌝ }
     ensures { λ z. ⌜ (now (store .exit) ≡ joinStep (now (store .entry)) m p x i down .words) × (z ≡ moved (joinStep (now (store .entry)) m p x i down)) ⌝ }
 {
     let at = x.at as usize;
@@ -170,7 +171,7 @@ fn join_step(store: &mut [u32], m: usize, p: u32, x: Session, i: usize, down: u3
 }
 
 fn left_step(store: &mut [u32], m: usize, p: u32, x: Session, i: usize, down: u32) -> Moved
-    requires { ⌜ CanMoveLeft (now store) m (x .at) i × (p ≤ 16) × (2 ≤ x .level) ⌝ }
+    requires { ⌜ CanMoveLeft (now store) m (x .at) i × (p ≤ width) × (2 ≤ x .level) ⌝ }
     ensures { λ z. ⌜ (now (store .exit) ≡ leftStep (now (store .entry)) m p x i down .words) × (z ≡ moved (leftStep (now (store .entry)) m p x i down)) ⌝ }
 {
     let at = x.at as usize;
@@ -179,7 +180,7 @@ fn left_step(store: &mut [u32], m: usize, p: u32, x: Session, i: usize, down: u3
 }
 
 fn right_step(store: &mut [u32], m: usize, p: u32, x: Session, i: usize, down: u32) -> Moved
-    requires { ⌜ CanMoveRight (now store) m (x .at) i × (p ≤ 16) × (2 ≤ x .level) ⌝ }
+    requires { ⌜ CanMoveRight (now store) m (x .at) i × (p ≤ width) × (2 ≤ x .level) ⌝ }
     ensures { λ z. ⌜ (now (store .exit) ≡ rightStep (now (store .entry)) m p x i down .words) × (z ≡ moved (rightStep (now (store .entry)) m p x i down)) ⌝ }
 {
     let at = x.at as usize;

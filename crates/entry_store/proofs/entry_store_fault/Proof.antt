@@ -36,11 +36,12 @@ use denote.Triple.Clauses.{ensured, lasts}
 use denote.Triple.Table.{entered, cited}
 use denote.Triple.Walked.{says, Stays, stay-none-slice, walkOf, goes-none-slice, Walks, ends-at, walked, walk-meets}
 use denote.Exit.{yes}
+use Rattle.sessions.specs.Sessions.{parties}
 use Rattle.sessions.specs.declared.Session.{Session}
 use Rattle.sessions.proofs.Session.Laws as S′
 use Rattle.sound.specs.Sound.{firstFault}
-use Rattle.tables.proofs.Row.{R, R17, valOf17, valsOf17, tell17, make17, typed17-at, spelled17, homes}
-use Rattle.store.proofs.Thin.{is-17}
+use Rattle.tables.proofs.Row.{R, Rows, valOfRows, valsOfRows, tell-rows, make-rows, typed-rows-at, spelled-rows, homes}
+use Rattle.store.proofs.Thin.{is-parties}
 use Rattle.tables.proofs.load_all as loads
 use Rattle.tables.proofs.load_all.Symbol as load-def
 use Rattle.tables.proofs.load_all.Symbol.{name as #tables·load-all}
@@ -103,15 +104,15 @@ module _ {M : Type 1} (𝓤 : URA M) (H : Heap 𝓤) (A : Atoms 𝓤) (W : Given
   abbrev to-load : Load 𝓤 H A mem run .Ghost
   to-load = (((κ₁, tt), (q₁, tt), tt, (x .1 .0, tt), (at .1 .0, tt)), tt)
 
-  goes-load : length ys ≡ 17 → ent 𝓤 (sep 𝓤 (A .lft κ₁ q₁) (sem 𝓤 H A (ShrSlice (named 1) κ₁ R .own (x .1 .0) (at .1 .0)))) (Load 𝓤 H A mem run .pre to-load)
-  goes-load l17 = qed W (‵ (flft κ₁ q₁) ∷ ‵ (ShrSlice (named 1) κ₁ R .own (x .1 .0) (at .1 .0)) ∷ []) ∵ says ! l17 $ nothing ! $ move ! (1 ∷ 0 ∷ []) $ join ! $ frame ! $ nothing ! $ move ! (1 ∷ 0 ∷ []) $ fjoin ! $ done !
+  goes-load : length ys ≡ parties → ent 𝓤 (sep 𝓤 (A .lft κ₁ q₁) (sem 𝓤 H A (ShrSlice (named 1) κ₁ R .own (x .1 .0) (at .1 .0)))) (Load 𝓤 H A mem run .pre to-load)
+  goes-load full = qed W (‵ (flft κ₁ q₁) ∷ ‵ (ShrSlice (named 1) κ₁ R .own (x .1 .0) (at .1 .0)) ∷ []) ∵ says ! full $ nothing ! $ move ! (1 ∷ 0 ∷ []) $ join ! $ frame ! $ nothing ! $ move ! (1 ∷ 0 ∷ []) $ fjoin ! $ done !
 
   abbrev to-test : Test 𝓤 H A mem run .Ghost
-  to-test = (((κ₀, tt), (q₀, tt), tt, (x .0, (ys, tt)), (at .0, (valsOf17 ys, tt))), tt)
+  to-test = (((κ₀, tt), (q₀, tt), tt, (x .0, (ys, tt)), (at .0, (valsOfRows ys, tt))), tt)
 
-  goes-test : Is R17 ys (valsOf17 ys) → ent 𝓤 (sep 𝓤 (A .lft κ₀ q₀) (sem 𝓤 H A (ShrSlice (named 0) κ₀ u32 .own (x .0) (at .0)))) (Test 𝓤 H A mem run .pre to-test)
+  goes-test : Is Rows ys (valsOfRows ys) → ent 𝓤 (sep 𝓤 (A .lft κ₀ q₀) (sem 𝓤 H A (ShrSlice (named 0) κ₀ u32 .own (x .0) (at .0)))) (Test 𝓤 H A mem run .pre to-test)
   goes-test g =
-      qed W (‵ (flft κ₀ q₀) ∷ ‵ (ShrSlice (named 0) κ₀ u32 .own (x .0) (at .0)) ∷ []) ∵ nothing ! $ owned ! R17 (Is R17) (make17 𝓤 H A W) ys _ g $ fjoin ! $ move ! (2 ∷ 0 ∷ []) $ fjoin ! $
+      qed W (‵ (flft κ₀ q₀) ∷ ‵ (ShrSlice (named 0) κ₀ u32 .own (x .0) (at .0)) ∷ []) ∵ nothing ! $ owned ! Rows (Is Rows) (make-rows 𝓤 H A W) ys _ g $ fjoin ! $ move ! (2 ∷ 0 ∷ []) $ fjoin ! $
       nothing ! $ move ! (2 ∷ 0 ∷ []) $ join ! $ join ! $ frame ! $ done !
 
   module _ (C : Calls 𝓤 H) (Λ : Loops 𝓤 H) (fm : FmC 𝓤 H (W .laws) C) (known-load : Triple 𝓤 (C #tables·load-all) (Load 𝓤 H A mem run)) (known-test : Triple 𝓤 (C #entry_store·fault-by-value) (Test 𝓤 H A mem run)) where
@@ -131,20 +132,20 @@ module _ {M : Type 1} (𝓤 : URA M) (H : Heap 𝓤) (A : Atoms 𝓤) (W : Given
         -- not 17 records
         (λ h. assigns ! (of-opd ! (lit ! tt)) (from ! (stop !)) (init ! 10 refl (tt, record { fits = lit< tt })) $
         returns-within ! Post refl (look ! 10 refl) $ forget ! 0 refl $ forget ! 2 refl $ forget ! 6 refl $ forget ! 8 refl $ forget ! 10 refl $ move ! (10 ∷ 11 ∷ []) $ free1 ! $ move ! (8 ∷ 9 ∷ []) $ free1 ! $ move ! (6 ∷ 7 ∷ []) $ free1 ! $ move ! (4 ∷ 5 ∷ []) $ free1 ! $ move ! (2 ∷ 3 ∷ []) $ free1 ! $ free1 ! $ free0 ! $
-        by ! (exits 11 (refl, lit< tt) (no-table (eqb (length ys) 17) (firstFault st ys .fault) h)))
+        by ! (exits 11 (refl, lit< tt) (no-table (eqb (length ys) parties) (firstFault st ys .fault) h)))
         -- 17 records
-        (λ h. let l17 = is-17 (length ys) h in skips ! $ exec ! C Λ En code.Mir.t-4 (atRet En Post) $
+        (λ h. let full = is-parties (length ys) h in skips ! $ exec ! C Λ En code.Mir.t-4 (atRet En Post) $
         move ! (15 ∷ []) $ use1 W (‵ (ShrSlice (named 1) κ₁ R .own (x .1 .0) (at .1 .0)) ⊛ ‵ (ShrSlice (named 1) κ₁ R .own (x .1 .0) (at .1 .0))) (shr-slice-copy 𝓤 H A W (named 1) κ₁ R .twice (x .1 .0) (at .1 .0)) $ split ! $
         -- [what the table owns, twice; _5 at 2; …; the store's token at 14; what it owns; the table's token]
-        move ! (16 ∷ 0 ∷ []) $ use2 W (raw (Load 𝓤 H A mem run .pre to-load)) (goes-load l17) $
+        move ! (16 ∷ 0 ∷ []) $ use2 W (raw (Load 𝓤 H A mem run .pre to-load)) (goes-load full) $
         calls-at ! fm (Load 𝓤 H A mem run) known-load to-load (and-then ! (load ! (from ! (stop !)) (look ! 8 refl)) (no-more !)) (λ w.
-        use1 W (later (some (λ (r : List Session). ((‵ (flft κ₁ q₁) ⊛ ‵ ftrue) ⊛ ‵ (R17 .own r (w ∷ []))) ⊛ raw (ensured 𝓤 H A loads.ended (loads.clauses 𝓤 H A mem run) (κ₁, tt) (x .1 .0, tt) tt r)))) (id⊢ 𝓤 _) $ await ! tt $ pick ! (λ r.
-        split ! $ move ! (1 ∷ []) $ use1 W (raw (fact 𝓤 (r ≡ ys))) (exE 𝓤 _ (λ ws. snd∗ 𝓤 (sem 𝓤 H A (lasts loads.ended (κ₁, tt) (x .1 .0, tt) ws)) (fact 𝓤 (r ≡ ys)))) $ heard ! (r ≡ ys) (λ e. split ! $ move ! (1 ∷ []) $ peeks ! R17 (Is R17) (shows 𝓤 H A R17) r (w ∷ []) (λ is.
+        use1 W (later (some (λ (r : List Session). ((‵ (flft κ₁ q₁) ⊛ ‵ ftrue) ⊛ ‵ (Rows .own r (w ∷ []))) ⊛ raw (ensured 𝓤 H A loads.ended (loads.clauses 𝓤 H A mem run) (κ₁, tt) (x .1 .0, tt) tt r)))) (id⊢ 𝓤 _) $ await ! tt $ pick ! (λ r.
+        split ! $ move ! (1 ∷ []) $ use1 W (raw (fact 𝓤 (r ≡ ys))) (exE 𝓤 _ (λ ws. snd∗ 𝓤 (sem 𝓤 H A (lasts loads.ended (κ₁, tt) (x .1 .0, tt) ws)) (fact 𝓤 (r ≡ ys)))) $ heard ! (r ≡ ys) (λ e. split ! $ move ! (1 ∷ []) $ peeks ! Rows (Is Rows) (shows 𝓤 H A Rows) r (w ∷ []) (λ is.
         -- [what r owns; the table's token; what it owns; _5 at 3; …; the store's token at 15; what it owns]
-        land ! (from ! (stop !)) (init ! 7 refl (typed17-at 𝓤 H A W r w is)) $ rewrite ! 7 (λ (u : Val). ‵ (fat fullShare (tyArray S′.mir 17) l₃ 0 u)) (ap only (tell17 r _ is) ∙ ap valOf17 e) refl $ drop ! $ split ! $ move ! (1 ∷ []) $ drop ! $
+        land ! (from ! (stop !)) (init ! 7 refl (typed-rows-at 𝓤 H A W r w is)) $ rewrite ! 7 (λ (u : Val). ‵ (fat fullShare (tyArray S′.mir parties) l₃ 0 u)) (ap only (tell-rows r _ is) ∙ ap valOfRows e) refl $ drop ! $ split ! $ move ! (1 ∷ []) $ drop ! $
         move ! (15 ∷ []) $ use1 W (‵ (ShrSlice (named 0) κ₀ u32 .own (x .0) (at .0)) ⊛ ‵ (ShrSlice (named 0) κ₀ u32 .own (x .0) (at .0))) (shr-slice-copy 𝓤 H A W (named 0) κ₀ u32 .twice (x .0) (at .0)) $ split ! $
         -- [what the store owns, twice; the table's token; what it owns; _5 at 4; …; the store's token at 16]
-        move ! (16 ∷ 0 ∷ []) $ use2 W (raw (Test 𝓤 H A mem run .pre to-test)) (goes-test (subst (λ (us : List Session). Is R17 us (valsOf17 us)) e (spelled17 r w is))) $
+        move ! (16 ∷ 0 ∷ []) $ use2 W (raw (Test 𝓤 H A mem run .pre to-test)) (goes-test (subst (λ (us : List Session). Is Rows us (valsOfRows us)) e (spelled-rows r w is))) $
         calls-at ! fm (Test 𝓤 H A mem run) known-test to-test (and-then ! (load ! (from ! (stop !)) (look ! 12 refl)) (and-then ! (load ! (from ! (stop !)) (look ! 8 refl)) (no-more !))) (λ v.
         use1 W (later (some (λ (n : ℕ). ((‵ (flft κ₀ q₀) ⊛ ‵ ftrue) ⊛ ‵ (u32 .own n (v ∷ []))) ⊛ raw (ensured 𝓤 H A tests.ended (tests.clauses 𝓤 H A mem run) (κ₀, tt) (x .0, (ys, tt)) tt n)))) (id⊢ 𝓤 _) $ await ! tt $ pick ! (λ n.
         split ! $ move ! (1 ∷ []) $ use1 W (raw (fact 𝓤 (n ≡ firstFault st ys .fault))) (exE 𝓤 _ (λ ws. snd∗ 𝓤 (sem 𝓤 H A (lasts tests.ended (κ₀, tt) (x .0, (ys, tt)) ws)) (fact 𝓤 (n ≡ firstFault st ys .fault)))) $ heard ! (n ≡ firstFault st ys .fault) (λ en. split ! $ move ! (1 ∷ []) $ peeks ! u32 (Is u32) (shows 𝓤 H A u32) n (v ∷ []) (λ iv.
@@ -152,7 +153,7 @@ module _ {M : Type 1} (𝓤 : URA M) (H : Heap 𝓤) (A : Atoms 𝓤) (W : Given
         land ! (from ! (stop !)) (init ! 15 refl (uint-lawful 𝓤 H A W w32 .typed n (v ∷ []) iv .0)) $ rewrite ! 15 (λ (u : Val). ‵ (fat fullShare (tyInt w32) l₀ 0 u)) (ap only (uint-tells w32 n _ iv)) refl $ drop ! $ split ! $ move ! (1 ∷ []) $ drop ! $
         returns ! (look ! 14 refl) $ forget ! 4 refl $ forget ! 6 refl $ forget ! 8 refl $ forget ! 10 refl $ forget ! 12 refl $ forget ! 14 refl $
         move ! (14 ∷ 15 ∷ []) $ free1 ! $ move ! (12 ∷ 13 ∷ []) $ free1 ! $ move ! (10 ∷ 11 ∷ []) $ free1 ! $ move ! (8 ∷ 9 ∷ []) $ free1 ! $ move ! (6 ∷ 7 ∷ []) $ free1 ! $ move ! (4 ∷ 5 ∷ []) $ free1 ! $ free0 ! $
-        by ! (exits n (subst (Is u32 n) (uint-tells w32 n _ iv) iv) (en ∙ a-table (eqb (length ys) 17) (firstFault st ys .fault) h)))))))))))))))))
+        by ! (exits n (subst (Is u32 n) (uint-tells w32 n _ iv) iv) (en ∙ a-table (eqb (length ys) parties) (firstFault st ys .fault) h)))))))))))))))))
 
 module _ {M : Type 1} (𝓤 : URA M) (H : Heap 𝓤) (A : Atoms 𝓤) (W : Given 𝓤 H A) (mem : Memory → SProp 𝓤) (run : Routine → Fun 𝓤) (𝓣 : Tables 𝓤 H)
     (known-load : Triple 𝓤 (𝓣 .C #tables·load-all) (Load 𝓤 H A mem run)) (known-test : Triple 𝓤 (𝓣 .C #entry_store·fault-by-value) (Test 𝓤 H A mem run)) where

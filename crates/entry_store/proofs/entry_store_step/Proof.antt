@@ -37,7 +37,7 @@ use denote.Exit.{yes}
 use Rattle.sessions.specs.declared.Session.{Session}
 use Rattle.outcomes.specs.declared.Answer.{Answer}
 use Rattle.outcomes.proofs.Answer.Laws as An′
-use Rattle.store.specs.Lent.{Stepped17}
+use Rattle.store.specs.Lent.{SteppedOnTable}
 use Rattle.tables.proofs.Row.{R}
 use Rattle.store.proofs.Answers.{AnswerR, answer-tell, answer-typed}
 use Rattle.store.proofs.step as callee
@@ -114,8 +114,8 @@ module _ {M : Type 1} (𝓤 : URA M) (H : Heap 𝓤) (A : Atoms 𝓤) (W : Given
         move ! (24 ∷ 25 ∷ 26 ∷ 27 ∷ 28 ∷ 29 ∷ []) $ join ! $ join ! $ join ! $ use3 W (raw (Callee 𝓤 H A mem run .pre to-step)) goes $
         calls-at ! fm (Callee 𝓤 H A mem run) known to-step (and-then ! (load ! (from ! (stop !)) (look ! 9 refl)) (and-then ! (load ! (from ! (stop !)) (look ! 5 refl)) (and-then ! (load ! (from ! (stop !)) (look ! 1 refl)) (and-then ! (load ! (from ! (stop !)) (look ! 15 refl)) (no-more !))))) (λ w.
         use1 W (later (some (λ (r : Answer). ((‵ (flft κ₀ q₀) ⊛ ‵ (flft κ₁ q₁) ⊛ ‵ (flft κ₂ q₂) ⊛ ‵ ftrue) ⊛ ‵ (AnswerR .own r (w ∷ []))) ⊛ raw (ensured 𝓤 H A callee.ended (callee.clauses 𝓤 H A mem run) (κ₀, (κ₁, (κ₂, tt))) x tt r)))) (id⊢ 𝓤 _) $ await ! tt $ pick ! (λ r.
-        split ! $ move ! (1 ∷ []) $ use1 W (some (λ (zs : List ℕ × (List Session × (List ℕ × (Unit {0} × Unit {0})))). ‵ (lasts callee.ended (κ₀, (κ₁, (κ₂, tt))) x zs) ⊛ raw (fact 𝓤 (Stepped17 st ys li k r (zs .0) (zs .1 .0) (zs .1 .1 .0))))) (id⊢ 𝓤 _) $ pick ! (λ zs.
-        split ! $ move ! (1 ∷ []) $ heard ! (Stepped17 st ys li k r (zs .0) (zs .1 .0) (zs .1 .1 .0)) (λ does. fsplit ! $ fsplit ! $ move ! (1 ∷ []) $ feqL ! (λ e₀. move ! (1 ∷ []) $ fsplit ! $ fsplit ! $ move ! (1 ∷ []) $ feqL ! (λ e₁. move ! (1 ∷ []) $ fsplit ! $ fsplit ! $ move ! (1 ∷ []) $ feqL ! (λ e₂.
+        split ! $ move ! (1 ∷ []) $ use1 W (some (λ (zs : List ℕ × (List Session × (List ℕ × (Unit {0} × Unit {0})))). ‵ (lasts callee.ended (κ₀, (κ₁, (κ₂, tt))) x zs) ⊛ raw (fact 𝓤 (SteppedOnTable st ys li k r (zs .0) (zs .1 .0) (zs .1 .1 .0))))) (id⊢ 𝓤 _) $ pick ! (λ zs.
+        split ! $ move ! (1 ∷ []) $ heard ! (SteppedOnTable st ys li k r (zs .0) (zs .1 .0) (zs .1 .1 .0)) (λ does. fsplit ! $ fsplit ! $ move ! (1 ∷ []) $ feqL ! (λ e₀. move ! (1 ∷ []) $ fsplit ! $ fsplit ! $ move ! (1 ∷ []) $ feqL ! (λ e₁. move ! (1 ∷ []) $ fsplit ! $ fsplit ! $ move ! (1 ∷ []) $ feqL ! (λ e₂.
         move ! (1 ∷ []) $ drop ! $ move ! (3 ∷ []) $ split ! $ split ! $ move ! (1 ∷ []) $ split3 ! $ move ! (2 ∷ []) $ drop ! $ move ! (3 ∷ []) $ peeks ! AnswerR (Is AnswerR) (shows 𝓤 H A AnswerR) r (w ∷ []) (λ is.
         -- [what r owns; the table's token; the list's; the store's; the list's last; the table's; the store's; the locals from 7]
         land ! (from ! (stop !)) (init ! 19 refl (answer-typed 𝓤 H A W r w is)) $ rewrite ! 19 (λ (u : Val). ‵ (fat fullShare An′.mir l₅ 0 u)) (ap only (answer-tell r _ is)) refl $ drop ! $

@@ -35,7 +35,7 @@ use denote.Triple.Clauses.{ensured, lasts}
 use denote.Triple.Table.{entered, cited}
 use denote.Triple.Walked.{says, Stays, gave-slice, stay-none, walkOf, goes-gave-slice, goes-none, Walks, ends-at, walked, walk-meets}
 use denote.Exit.{yes}
-use Rattle.store.specs.Lent.{Formatted, On17}
+use Rattle.store.specs.Lent.{Formatted, OnTable}
 use Rattle.sessions.specs.declared.Session.{Session}
 use Rattle.outcomes.specs.declared.Served.{Served}
 use Rattle.outcomes.specs.declared.Answer.{Answer}
@@ -44,8 +44,8 @@ use Rattle.outcomes.proofs.Served.Laws as Se′
 use Rattle.tables.proofs.Again.{given-up}
 use Rattle.tables.proofs.Callees.{Load, Save, calls-load, calls-save}
 use Rattle.store.proofs.Callees.{Wrong, calls-wrong}
-use Rattle.store.proofs.Thin.{is-17, not-17}
-use Rattle.tables.proofs.Row.{R, R17, valsOf17, make17, typed17, long17, homes}
+use Rattle.store.proofs.Thin.{is-parties, not-parties}
+use Rattle.tables.proofs.Row.{R, Rows, valsOfRows, make-rows, typed-rows, long-rows, homes}
 use Rattle.store.proofs.Answers.{AnswerR, answerVal, answer-make, answer-typed, ServedR, served-tell, served-typed, served-table, served-answer}
 use Rattle.seats.proofs.wrong_table.Symbol as wrong-def
 use Rattle.seats.proofs.wrong_table.Symbol.{name as #seats·wrong-table}
@@ -92,7 +92,7 @@ module _ {M : Type 1} (𝓤 : URA M) (H : Heap 𝓤) (A : Atoms 𝓤) (W : Given
   abbrev Post : Val → SProp 𝓤
   Post = walkOf 𝓤 H A fn.ended stayed (fn.clauses 𝓤 H A mem run) .post bound
 
-  exits : (r : Answer) (st′ : List ℕ) (zs : List Session) → length st′ ≡ length st → length zs ≡ length ys → Is AnswerR r (answerVal r ∷ []) → On17 Formatted st ys k r st′ zs
+  exits : (r : Answer) (st′ : List ℕ) (zs : List Session) → length st′ ≡ length st → length zs ≡ length ys → Is AnswerR r (answerVal r ∷ []) → OnTable Formatted st ys k r st′ zs
       → ent 𝓤 (⋆ 𝓤 H A (‵ (finally u32 γ₀ st′) ∷ ‵ (flft κ₀ q₀) ∷ ‵ (finally R γ zs) ∷ ‵ (flft κ₁ q₁) ∷ [])) (Post (answerVal r))
   exits r st′ zs e₀ e g said =
       qed W (‵ (finally u32 γ₀ st′) ∷ ‵ (flft κ₀ q₀) ∷ ‵ (finally R γ zs) ∷ ‵ (flft κ₁ q₁) ∷ []) ∵
@@ -101,11 +101,11 @@ module _ {M : Type 1} (𝓤 : URA M) (H : Heap 𝓤) (A : Atoms 𝓤) (W : Given
       nothing ! $ owned ! u32 (Is u32) (uint-makes 𝓤 H A W w32) k _ (refl, gk) $ fjoin ! $ move ! (2 ∷ 0 ∷ []) $ fjoin ! $ move ! (1 ∷ 0 ∷ []) $ fjoin ! $ frame ! $ owned ! AnswerR (Is AnswerR) (answer-make 𝓤 H A) r _ g $ done !
 
   abbrev to-core : Core 𝓤 H A mem run .Ghost
-  to-core = (((κ₀, tt), (q₀, tt), tt, (store st, (ys, (k, tt))), (sliceVal (b₀, o₀) (length st) ∷ [], (valsOf17 ys, (vint w32 k ∷ [], tt)))), tt)
+  to-core = (((κ₀, tt), (q₀, tt), tt, (store st, (ys, (k, tt))), (sliceVal (b₀, o₀) (length st) ∷ [], (valsOfRows ys, (vint w32 k ∷ [], tt)))), tt)
 
-  goes : Is R17 ys (valsOf17 ys) → ent 𝓤 (sep 𝓤 (sem 𝓤 H A (MutSlice (named 0) κ₀ u32 .own (store st) (at .0))) (A .lft κ₀ q₀)) (Core 𝓤 H A mem run .pre to-core)
+  goes : Is Rows ys (valsOfRows ys) → ent 𝓤 (sep 𝓤 (sem 𝓤 H A (MutSlice (named 0) κ₀ u32 .own (store st) (at .0))) (A .lft κ₀ q₀)) (Core 𝓤 H A mem run .pre to-core)
   goes g =
-      qed W (‵ (MutSlice (named 0) κ₀ u32 .own (store st) (at .0)) ∷ ‵ (flft κ₀ q₀) ∷ []) ∵ nothing ! $ owned ! u32 (Is u32) (uint-makes 𝓤 H A W w32) k _ (refl, gk) $ fjoin ! $ owned ! R17 (Is R17) (make17 𝓤 H A W) ys _ g $ fjoin ! $ move ! (1 ∷ 0 ∷ []) $ fjoin ! $
+      qed W (‵ (MutSlice (named 0) κ₀ u32 .own (store st) (at .0)) ∷ ‵ (flft κ₀ q₀) ∷ []) ∵ nothing ! $ owned ! u32 (Is u32) (uint-makes 𝓤 H A W w32) k _ (refl, gk) $ fjoin ! $ owned ! Rows (Is Rows) (make-rows 𝓤 H A W) ys _ g $ fjoin ! $ move ! (1 ∷ 0 ∷ []) $ fjoin ! $
       nothing ! $ move ! (2 ∷ 0 ∷ []) $ join ! $ join ! $ frame ! $ done !
 
   module _ (C : Calls 𝓤 H) (Λ : Loops 𝓤 H) (fm : FmC 𝓤 H (W .laws) C) (known-wrong : Triple 𝓤 (C #seats·wrong-table) (Wrong 𝓤 H A mem run)) (known-load : Triple 𝓤 (C #tables·load-all) (Load 𝓤 H A mem run))
@@ -129,17 +129,17 @@ module _ {M : Type 1} (𝓤 : URA M) (H : Heap 𝓤) (A : Atoms 𝓤) (W : Given
         move ! (30 ∷ 31 ∷ []) $ free1 ! $ move ! (28 ∷ 29 ∷ []) $ free1 ! $ move ! (26 ∷ 27 ∷ []) $ free1 ! $ move ! (24 ∷ 25 ∷ []) $ free1 ! $ move ! (22 ∷ 23 ∷ []) $ free1 ! $ move ! (20 ∷ 21 ∷ []) $ free1 ! $ move ! (18 ∷ 19 ∷ []) $ free1 ! $ move ! (16 ∷ 17 ∷ []) $ free1 ! $
         move ! (14 ∷ 15 ∷ []) $ free1 ! $ move ! (12 ∷ 13 ∷ []) $ free1 ! $ move ! (10 ∷ 11 ∷ []) $ free1 ! $ move ! (8 ∷ 9 ∷ []) $ free1 ! $ move ! (6 ∷ 7 ∷ []) $ free1 ! $ move ! (4 ∷ 5 ∷ []) $ free1 ! $ move ! (2 ∷ 3 ∷ []) $ free1 ! $ free1 ! $ free0 ! $
         use1 W (‵ (finally u32 γ₀ st)) (given-up u32 κ₀ κ₀ q₀ γ₀ b₀ o₀ st 𝓤 H A W (named 0) (named 0)) $ move ! (2 ∷ []) $ use1 W (‵ (finally R γ ys)) (given-up R κ₁ κ₁ q₁ γ b o ys 𝓤 H A W (named 1) (named 1)) $ move ! (1 ∷ 2 ∷ 0 ∷ []) $
-        by ! (exits (Refused 1 0) st ys refl refl g (λ e. absurd (not-17 (length ys) h e), λ _. (refl, refl, refl)))))
+        by ! (exits (Refused 1 0) st ys refl refl g (λ e. absurd (not-parties (length ys) h e), λ _. (refl, refl, refl)))))
         -- 17 records
-        (λ h. let l17 = is-17 (length ys) h in skips ! $ exec ! C Λ En code.Mir.t-4 (atRet En Post) $
+        (λ h. let full = is-parties (length ys) h in skips ! $ exec ! C Λ En code.Mir.t-4 (atRet En Post) $
         assigns ! (addr ! (from ! (fld ! refl (hop ! (look-in ! 26 (sub ! 0 refl (whole !))) (stop !))))) (from ! (stop !)) (init ! 12 refl (tt, tt)) $
         assigns ! (agg ! (and-then ! (load ! (from ! (stop !)) (look ! 12 refl)) (and-then ! (load ! (from ! (fld ! refl (stop !))) (look-in ! 26 (sub ! 1 refl (whole !)))) (no-more !)))) (from ! (stop !)) (init ! 10 refl (tt, (tt, (record { fits = room .0 }, tt)))) $
-        move ! (34 ∷ 35 ∷ []) $ calls-load ! mem run fm known-load (named 1) b o ys room l17 (λ ν δ. and-then ! (load ! (from ! (stop !)) (look ! 12 refl)) (no-more !)) (λ g17.
-        land ! (from ! (stop !)) (init ! 24 refl (typed17 𝓤 H A W ys g17)) $
+        move ! (34 ∷ 35 ∷ []) $ calls-load ! mem run fm known-load (named 1) b o ys room full (λ ν δ. and-then ! (load ! (from ! (stop !)) (look ! 12 refl)) (no-more !)) (λ all-rows.
+        land ! (from ! (stop !)) (init ! 24 refl (typed-rows 𝓤 H A W ys all-rows)) $
         -- [what the table owns; its token; _15 at 2; …; _0 at 32; what the store owns at 34; its token]
         assigns ! (addr ! (from ! (fld ! refl (hop ! (look-in ! 30 (sub ! 0 refl (whole !))) (stop !))))) (from ! (stop !)) (init ! 10 refl (tt, tt)) $
         assigns ! (agg ! (and-then ! (load ! (from ! (stop !)) (look ! 10 refl)) (and-then ! (load ! (from ! (fld ! refl (stop !))) (look-in ! 30 (sub ! 1 refl (whole !)))) (no-more !)))) (from ! (stop !)) (init ! 8 refl (tt, (tt, (record { fits = room₀ .0 }, tt)))) $
-        move ! (34 ∷ 35 ∷ []) $ use2 W (raw (Core 𝓤 H A mem run .pre to-core)) (goes g17) $
+        move ! (34 ∷ 35 ∷ []) $ use2 W (raw (Core 𝓤 H A mem run .pre to-core)) (goes all-rows) $
         -- [what the core asks; what the table owns; its token; _15 at 3; …; _0 at 33]
         calls-at ! fm (Core 𝓤 H A mem run) known to-core (and-then ! (load ! (from ! (stop !)) (look ! 9 refl)) (and-then ! (load ! (from ! (stop !)) (look ! 25 refl)) (and-then ! (load ! (from ! (stop !)) (look ! 27 refl)) (no-more !)))) (λ w.
         use1 W (later (some (λ (r : Served). ((‵ (flft κ₀ q₀) ⊛ ‵ ftrue) ⊛ ‵ (ServedR .own r (w ∷ []))) ⊛ raw (ensured 𝓤 H A core.ended (core.clauses 𝓤 H A mem run) (κ₀, tt) (store st, (ys, (k, tt))) tt r)))) (id⊢ 𝓤 _) $ await ! tt $ pick ! (λ r.
@@ -149,17 +149,17 @@ module _ {M : Type 1} (𝓤 : URA M) (H : Heap 𝓤) (A : Atoms 𝓤) (W : Given
         move ! (1 ∷ []) $ drop ! $ move ! (1 ∷ []) $ split ! $ split ! $ move ! (1 ∷ []) $ drop ! $ move ! (1 ∷ []) $ peeks ! ServedR (Is ServedR) (shows 𝓤 H A ServedR) r (w ∷ []) (λ is.
         -- [what r owns; the token; the store's last list; what the table owns; its token; _15 at 5; …; _0 at 35]
         land ! (from ! (stop !)) (init ! 25 refl (served-typed 𝓤 H A W r w is)) $ rewrite ! 25 (λ (u : Val). ‵ (fat fullShare Se′.mir l₅ 0 u)) (ap only (served-tell r _ is)) refl $ drop ! $
-        assigns ! (of-opd ! (load ! (from ! (fld ! refl (stop !))) (look-in ! 24 (sub ! 0 refl (whole !))))) (from ! (stop !)) (init ! 22 refl (typed17 𝓤 H A W (r .table) (served-table r w is))) $
+        assigns ! (of-opd ! (load ! (from ! (fld ! refl (stop !))) (look-in ! 24 (sub ! 0 refl (whole !))))) (from ! (stop !)) (init ! 22 refl (typed-rows 𝓤 H A W (r .table) (served-table r w is))) $
         assigns ! (addr ! (from ! (fld ! refl (hop ! (look-in ! 30 (sub ! 0 refl (whole !))) (stop !))))) (from ! (stop !)) (init ! 6 refl (tt, tt)) $
         assigns ! (agg ! (and-then ! (load ! (from ! (stop !)) (look ! 6 refl)) (and-then ! (load ! (from ! (fld ! refl (stop !))) (look-in ! 30 (sub ! 1 refl (whole !)))) (no-more !)))) (from ! (stop !)) (init ! 4 refl (tt, (tt, (record { fits = room .0 }, tt)))) $
-        move ! (2 ∷ 3 ∷ []) $ calls-save ! mem run fm known-save (named 1) b o ys (r .table) l17 (served-table r w is) (and-then ! (load ! (from ! (stop !)) (look ! 3 refl)) (and-then ! (load ! (from ! (stop !)) (look ! 21 refl)) (no-more !))) $
+        move ! (2 ∷ 3 ∷ []) $ calls-save ! mem run fm known-save (named 1) b o ys (r .table) full (served-table r w is) (and-then ! (load ! (from ! (stop !)) (look ! 3 refl)) (and-then ! (load ! (from ! (stop !)) (look ! 21 refl)) (no-more !))) $
         -- [the table's last list; its token; the store's token; its last list; _15 at 4; …; _0 at 34]
         land ! (from ! (stop !)) (init ! 8 refl (tt, tt)) $
         assigns ! (of-opd ! (load ! (from ! (fld ! refl (stop !))) (look-in ! 24 (sub ! 1 refl (whole !))))) (from ! (stop !)) (init ! 34 refl (answer-typed 𝓤 H A W (r .answer) _ (served-answer r w is))) $
         returns ! (look ! 34 refl) $ forget ! 4 refl $ forget ! 6 refl $ forget ! 8 refl $ forget ! 10 refl $ forget ! 12 refl $ forget ! 14 refl $ forget ! 16 refl $ forget ! 18 refl $ forget ! 20 refl $ forget ! 22 refl $ forget ! 24 refl $ forget ! 26 refl $ forget ! 28 refl $ forget ! 30 refl $ forget ! 32 refl $ forget ! 34 refl $
         move ! (34 ∷ 35 ∷ []) $ free1 ! $ move ! (32 ∷ 33 ∷ []) $ free1 ! $ move ! (30 ∷ 31 ∷ []) $ free1 ! $ move ! (28 ∷ 29 ∷ []) $ free1 ! $ move ! (26 ∷ 27 ∷ []) $ free1 ! $ move ! (24 ∷ 25 ∷ []) $ free1 ! $ move ! (22 ∷ 23 ∷ []) $ free1 ! $ move ! (20 ∷ 21 ∷ []) $ free1 ! $
         move ! (18 ∷ 19 ∷ []) $ free1 ! $ move ! (16 ∷ 17 ∷ []) $ free1 ! $ move ! (14 ∷ 15 ∷ []) $ free1 ! $ move ! (12 ∷ 13 ∷ []) $ free1 ! $ move ! (10 ∷ 11 ∷ []) $ free1 ! $ move ! (8 ∷ 9 ∷ []) $ free1 ! $ move ! (6 ∷ 7 ∷ []) $ free1 ! $ move ! (4 ∷ 5 ∷ []) $ free1 ! $ free0 ! $
-        move ! (3 ∷ 2 ∷ 0 ∷ 1 ∷ []) $ by ! (exits (r .answer) (zs .0) (r .table) e₀ (long17 (r .table) _ (served-table r w is) ∙ sym l17) (served-answer r w is) (λ _. e, λ n. absurd (n l17)))))))))))))))))))))))))))
+        move ! (3 ∷ 2 ∷ 0 ∷ 1 ∷ []) $ by ! (exits (r .answer) (zs .0) (r .table) e₀ (long-rows (r .table) _ (served-table r w is) ∙ sym full) (served-answer r w is) (λ _. e, λ n. absurd (n full)))))))))))))))))))))))))))
 
 module _ {M : Type 1} (𝓤 : URA M) (H : Heap 𝓤) (A : Atoms 𝓤) (W : Given 𝓤 H A) (mem : Memory → SProp 𝓤) (run : Routine → Fun 𝓤) (𝓣 : Tables 𝓤 H)
     (known-wrong : Triple 𝓤 (𝓣 .C #seats·wrong-table) (Wrong 𝓤 H A mem run)) (known-load : Triple 𝓤 (𝓣 .C #tables·load-all) (Load 𝓤 H A mem run)) (known : Triple 𝓤 (𝓣 .C #calls·format) (Core 𝓤 H A mem run)) (known-save : Triple 𝓤 (𝓣 .C #tables·save-all) (Save 𝓤 H A mem run)) where

@@ -36,7 +36,7 @@ use denote.Triple.Clauses.{ensured, lasts}
 use denote.Triple.Table.{entered, cited}
 use denote.Triple.Walked.{says, Stays, gave-slice, stay-none, walkOf, goes-gave-slice, goes-none, Walks, ends-at, walked, walk-meets}
 use denote.Exit.{yes}
-use Rattle.store.specs.Lent.{Stepped, Stepped17}
+use Rattle.store.specs.Lent.{Stepped, SteppedOnTable}
 use Rattle.sessions.specs.declared.Session.{Session}
 use Rattle.store.specs.OneRecord.{seated}
 use Rattle.seats.specs.declared.Seat.{Seat}
@@ -46,8 +46,8 @@ use Rattle.seats.proofs.Seat.Laws as Sa′
 use Rattle.tables.proofs.Again.{given-up}
 use Rattle.tables.proofs.Callees.{Load, Store, calls-load, calls-store}
 use Rattle.store.proofs.Callees.{Wrong, calls-wrong}
-use Rattle.store.proofs.Thin.{is-17, not-17}
-use Rattle.tables.proofs.Row.{R, R17, valsOf17, make17, typed, typed17, homes}
+use Rattle.store.proofs.Thin.{is-parties, not-parties}
+use Rattle.tables.proofs.Row.{R, Rows, valsOfRows, make-rows, typed, typed-rows, homes}
 use Rattle.store.proofs.Answers.{AnswerR, answerVal, answer-make, answer-typed, SeatR, seat-tell, seat-typed, seat-party, seat-session, seat-answer}
 use Rattle.seats.proofs.wrong_table.Symbol as wrong-def
 use Rattle.seats.proofs.wrong_table.Symbol.{name as #seats·wrong-table}
@@ -94,7 +94,7 @@ module _ {M : Type 1} (𝓤 : URA M) (H : Heap 𝓤) (A : Atoms 𝓤) (W : Given
   abbrev Post : Val → SProp 𝓤
   Post = walkOf 𝓤 H A fn.ended stayed (fn.clauses 𝓤 H A mem run) .post bound
 
-  exits : (r : Answer) (st′ : List ℕ) (zs : List Session) (li′ : List ℕ) → length st′ ≡ length st → length zs ≡ length ys → length li′ ≡ length li → Is AnswerR r (answerVal r ∷ []) → Stepped17 st ys li k r st′ zs li′
+  exits : (r : Answer) (st′ : List ℕ) (zs : List Session) (li′ : List ℕ) → length st′ ≡ length st → length zs ≡ length ys → length li′ ≡ length li → Is AnswerR r (answerVal r ∷ []) → SteppedOnTable st ys li k r st′ zs li′
       → ent 𝓤 (⋆ 𝓤 H A (‵ (finally u32 γ₀ st′) ∷ ‵ (flft κ₀ q₀) ∷ ‵ (finally R γ zs) ∷ ‵ (flft κ₁ q₁) ∷ ‵ (finally u32 γ₂ li′) ∷ ‵ (flft κ₂ q₂) ∷ [])) (Post (answerVal r))
   exits r st′ zs li′ e₀ e e₂ g said =
       qed W (‵ (finally u32 γ₀ st′) ∷ ‵ (flft κ₀ q₀) ∷ ‵ (finally R γ zs) ∷ ‵ (flft κ₁ q₁) ∷ ‵ (finally u32 γ₂ li′) ∷ ‵ (flft κ₂ q₂) ∷ []) ∵
@@ -106,12 +106,12 @@ module _ {M : Type 1} (𝓤 : URA M) (H : Heap 𝓤) (A : Atoms 𝓤) (W : Given
   given-core = (x .0, (x .1 .1 .0, (ys, (k, tt))))
 
   abbrev to-core : Core 𝓤 H A mem run .Ghost
-  to-core = (((κ₀, (κ₂, tt)), (q₀, (q₂, tt)), tt, given-core, (sliceVal (b₀, o₀) (length st) ∷ [], (sliceVal (b₂, o₂) (length li) ∷ [], (valsOf17 ys, (vint w32 k ∷ [], tt))))), tt)
+  to-core = (((κ₀, (κ₂, tt)), (q₀, (q₂, tt)), tt, given-core, (sliceVal (b₀, o₀) (length st) ∷ [], (sliceVal (b₂, o₂) (length li) ∷ [], (valsOfRows ys, (vint w32 k ∷ [], tt))))), tt)
 
-  goes : Is R17 ys (valsOf17 ys) → ent 𝓤 (sep 𝓤 (sep 𝓤 (sem 𝓤 H A (MutSlice (named 0) κ₀ u32 .own (x .0) (at .0))) (A .lft κ₀ q₀)) (sep 𝓤 (sem 𝓤 H A (MutSlice (named 2) κ₂ u32 .own (x .1 .1 .0) (at .1 .1 .0))) (A .lft κ₂ q₂))) (Core 𝓤 H A mem run .pre to-core)
+  goes : Is Rows ys (valsOfRows ys) → ent 𝓤 (sep 𝓤 (sep 𝓤 (sem 𝓤 H A (MutSlice (named 0) κ₀ u32 .own (x .0) (at .0))) (A .lft κ₀ q₀)) (sep 𝓤 (sem 𝓤 H A (MutSlice (named 2) κ₂ u32 .own (x .1 .1 .0) (at .1 .1 .0))) (A .lft κ₂ q₂))) (Core 𝓤 H A mem run .pre to-core)
   goes g =
       qed W ((‵ (MutSlice (named 0) κ₀ u32 .own (x .0) (at .0)) ⊛ ‵ (flft κ₀ q₀)) ∷ ‵ (MutSlice (named 2) κ₂ u32 .own (x .1 .1 .0) (at .1 .1 .0)) ∷ ‵ (flft κ₂ q₂) ∷ []) ∵ split ! $
-      nothing ! $ owned ! u32 (Is u32) (uint-makes 𝓤 H A W w32) k _ (refl, gk) $ fjoin ! $ owned ! R17 (Is R17) (make17 𝓤 H A W) ys _ g $ fjoin ! $ move ! (3 ∷ 0 ∷ []) $ fjoin ! $ move ! (1 ∷ 0 ∷ []) $ fjoin ! $
+      nothing ! $ owned ! u32 (Is u32) (uint-makes 𝓤 H A W w32) k _ (refl, gk) $ fjoin ! $ owned ! Rows (Is Rows) (make-rows 𝓤 H A W) ys _ g $ fjoin ! $ move ! (3 ∷ 0 ∷ []) $ fjoin ! $ move ! (1 ∷ 0 ∷ []) $ fjoin ! $
       nothing ! $ move ! (3 ∷ 0 ∷ []) $ join ! $ move ! (2 ∷ 0 ∷ []) $ join ! $ join ! $ frame ! $ done !
 
   module _ (C : Calls 𝓤 H) (Λ : Loops 𝓤 H) (fm : FmC 𝓤 H (W .laws) C) (known-wrong : Triple 𝓤 (C #seats·wrong-table) (Wrong 𝓤 H A mem run)) (known-load : Triple 𝓤 (C #tables·load-all) (Load 𝓤 H A mem run))
@@ -134,18 +134,18 @@ module _ {M : Type 1} (𝓤 : URA M) (H : Heap 𝓤) (A : Atoms 𝓤) (W : Given
         move ! (36 ∷ 37 ∷ []) $ free1 ! $ move ! (34 ∷ 35 ∷ []) $ free1 ! $ move ! (32 ∷ 33 ∷ []) $ free1 ! $ move ! (30 ∷ 31 ∷ []) $ free1 ! $ move ! (28 ∷ 29 ∷ []) $ free1 ! $ move ! (26 ∷ 27 ∷ []) $ free1 ! $ move ! (24 ∷ 25 ∷ []) $ free1 ! $ move ! (22 ∷ 23 ∷ []) $ free1 ! $ move ! (20 ∷ 21 ∷ []) $ free1 ! $ move ! (18 ∷ 19 ∷ []) $ free1 ! $ move ! (16 ∷ 17 ∷ []) $ free1 ! $ move ! (14 ∷ 15 ∷ []) $ free1 ! $ move ! (12 ∷ 13 ∷ []) $ free1 ! $ move ! (10 ∷ 11 ∷ []) $ free1 ! $ move ! (8 ∷ 9 ∷ []) $ free1 ! $ move ! (6 ∷ 7 ∷ []) $ free1 ! $ move ! (4 ∷ 5 ∷ []) $ free1 ! $ move ! (2 ∷ 3 ∷ []) $ free1 ! $ free1 ! $ free0 ! $
         use1 W (‵ (finally u32 γ₀ st)) (given-up u32 κ₀ κ₀ q₀ γ₀ b₀ o₀ st 𝓤 H A W (named 0) (named 0)) $ move ! (2 ∷ []) $ use1 W (‵ (finally R γ ys)) (given-up R κ₁ κ₁ q₁ γ b o ys 𝓤 H A W (named 1) (named 1)) $ move ! (4 ∷ []) $
         use1 W (‵ (finally u32 γ₂ li)) (given-up u32 κ₂ κ₂ q₂ γ₂ b₂ o₂ li 𝓤 H A W (named 2) (named 2)) $ move ! (2 ∷ 3 ∷ 1 ∷ 4 ∷ 0 ∷ 5 ∷ []) $
-        by ! (exits (Refused 1 0) st ys li refl refl refl g (λ e. absurd (not-17 (length ys) h e), λ _. (refl, refl, refl, refl)))))
+        by ! (exits (Refused 1 0) st ys li refl refl refl g (λ e. absurd (not-parties (length ys) h e), λ _. (refl, refl, refl, refl)))))
         -- 17 records
-        (λ h. let l17 = is-17 (length ys) h in skips ! $ exec ! C Λ En code.Mir.t-4 (atRet En Post) $
+        (λ h. let full = is-parties (length ys) h in skips ! $ exec ! C Λ En code.Mir.t-4 (atRet En Post) $
         assigns ! (addr ! (from ! (fld ! refl (hop ! (look-in ! 32 (sub ! 0 refl (whole !))) (stop !))))) (from ! (stop !)) (init ! 16 refl (tt, tt)) $
         assigns ! (agg ! (and-then ! (load ! (from ! (stop !)) (look ! 16 refl)) (and-then ! (load ! (from ! (fld ! refl (stop !))) (look-in ! 32 (sub ! 1 refl (whole !)))) (no-more !)))) (from ! (stop !)) (init ! 14 refl (tt, (tt, (record { fits = room .0 }, tt)))) $
-        move ! (40 ∷ 41 ∷ []) $ calls-load ! mem run fm known-load (named 1) b o ys room l17 (λ ν δ. (and-then ! (load ! (from ! (stop !)) (look ! 16 refl)) (no-more !))) (λ g17.
-        land ! (from ! (stop !)) (init ! 28 refl (typed17 𝓤 H A W ys g17)) $
+        move ! (40 ∷ 41 ∷ []) $ calls-load ! mem run fm known-load (named 1) b o ys room full (λ ν δ. (and-then ! (load ! (from ! (stop !)) (look ! 16 refl)) (no-more !))) (λ all-rows.
+        land ! (from ! (stop !)) (init ! 28 refl (typed-rows 𝓤 H A W ys all-rows)) $
         assigns ! (addr ! (from ! (fld ! refl (hop ! (look-in ! 36 (sub ! 0 refl (whole !))) (stop !))))) (from ! (stop !)) (init ! 14 refl (tt, tt)) $
         assigns ! (agg ! (and-then ! (load ! (from ! (stop !)) (look ! 14 refl)) (and-then ! (load ! (from ! (fld ! refl (stop !))) (look-in ! 36 (sub ! 1 refl (whole !)))) (no-more !)))) (from ! (stop !)) (init ! 12 refl (tt, (tt, (record { fits = room₀ .0 }, tt)))) $
         assigns ! (addr ! (from ! (fld ! refl (hop ! (look-in ! 32 (sub ! 0 refl (whole !))) (stop !))))) (from ! (stop !)) (init ! 10 refl (tt, tt)) $
         assigns ! (agg ! (and-then ! (load ! (from ! (stop !)) (look ! 10 refl)) (and-then ! (load ! (from ! (fld ! refl (stop !))) (look-in ! 32 (sub ! 1 refl (whole !)))) (no-more !)))) (from ! (stop !)) (init ! 8 refl (tt, (tt, (record { fits = room₂ .0 }, tt)))) $
-        move ! (40 ∷ 41 ∷ 42 ∷ 43 ∷ []) $ join ! $ use3 W (raw (Core 𝓤 H A mem run .pre to-core)) (goes g17) $
+        move ! (40 ∷ 41 ∷ 42 ∷ 43 ∷ []) $ join ! $ use3 W (raw (Core 𝓤 H A mem run .pre to-core)) (goes all-rows) $
         calls-at ! fm (Core 𝓤 H A mem run) known to-core (and-then ! (load ! (from ! (stop !)) (look ! 13 refl)) (and-then ! (load ! (from ! (stop !)) (look ! 9 refl)) (and-then ! (load ! (from ! (stop !)) (look ! 29 refl)) (and-then ! (load ! (from ! (stop !)) (look ! 31 refl)) (no-more !))))) (λ w.
         use1 W (later (some (λ (r : Seat). ((‵ (flft κ₀ q₀) ⊛ ‵ (flft κ₂ q₂) ⊛ ‵ ftrue) ⊛ ‵ (SeatR .own r (w ∷ []))) ⊛ raw (ensured 𝓤 H A core.ended (core.clauses 𝓤 H A mem run) (κ₀, (κ₂, tt)) given-core tt r)))) (id⊢ 𝓤 _) $ await ! tt $ pick ! (λ r.
         split ! $ move ! (1 ∷ []) $ use1 W (some (λ (zs : List ℕ × (List ℕ × (Unit {0} × (Unit {0} × Unit {0})))). ‵ (lasts core.ended (κ₀, (κ₂, tt)) given-core zs) ⊛ raw (fact 𝓤 (Stepped st ys li k (r .answer) (zs .0) (seated ys r) (zs .1 .0))))) (id⊢ 𝓤 _) $ pick ! (λ zs.
@@ -156,13 +156,13 @@ module _ {M : Type 1} (𝓤 : URA M) (H : Heap 𝓤) (A : Atoms 𝓤) (W : Given
         assigns ! (of-opd ! (load ! (from ! (fld ! refl (stop !))) (look-in ! 30 (sub ! 1 refl (whole !))))) (from ! (stop !)) (init ! 28 refl (typed 𝓤 H A W (r .session) (seat-session r w is))) $
         assigns ! (addr ! (from ! (fld ! refl (hop ! (look-in ! 38 (sub ! 0 refl (whole !))) (stop !))))) (from ! (stop !)) (init ! 8 refl (tt, tt)) $
         assigns ! (agg ! (and-then ! (load ! (from ! (stop !)) (look ! 8 refl)) (and-then ! (load ! (from ! (fld ! refl (stop !))) (look-in ! 38 (sub ! 1 refl (whole !)))) (no-more !)))) (from ! (stop !)) (init ! 6 refl (tt, (tt, (record { fits = room .0 }, tt)))) $
-        move ! (4 ∷ 5 ∷ []) $ calls-store ! mem run fm known-store (named 1) b o ys (r .party) (r .session) l17 (seat-party r w is) (seat-session r w is) (and-then ! (load ! (from ! (stop !)) (look ! 5 refl)) (and-then ! (load ! (from ! (fld ! refl (stop !))) (look-in ! 29 (sub ! 0 refl (whole !)))) (and-then ! (load ! (from ! (stop !)) (look ! 27 refl)) (no-more !)))) $
+        move ! (4 ∷ 5 ∷ []) $ calls-store ! mem run fm known-store (named 1) b o ys (r .party) (r .session) full (seat-party r w is) (seat-session r w is) (and-then ! (load ! (from ! (stop !)) (look ! 5 refl)) (and-then ! (load ! (from ! (fld ! refl (stop !))) (look-in ! 29 (sub ! 0 refl (whole !)))) (and-then ! (load ! (from ! (stop !)) (look ! 27 refl)) (no-more !)))) $
         -- [the table's last list; its token; the store's token; the list's; the list's last; the store's last; the locals from 6]
         land ! (from ! (stop !)) (init ! 10 refl (tt, tt)) $
         assigns ! (of-opd ! (load ! (from ! (fld ! refl (stop !))) (look-in ! 30 (sub ! 2 refl (whole !))))) (from ! (stop !)) (init ! 42 refl (answer-typed 𝓤 H A W (r .answer) _ (seat-answer r w is))) $
         returns ! (look ! 42 refl) $ forget ! 6 refl $ forget ! 8 refl $ forget ! 10 refl $ forget ! 12 refl $ forget ! 14 refl $ forget ! 16 refl $ forget ! 18 refl $ forget ! 20 refl $ forget ! 22 refl $ forget ! 24 refl $ forget ! 26 refl $ forget ! 28 refl $ forget ! 30 refl $ forget ! 32 refl $ forget ! 34 refl $ forget ! 36 refl $ forget ! 38 refl $ forget ! 40 refl $ forget ! 42 refl $
         move ! (42 ∷ 43 ∷ []) $ free1 ! $ move ! (40 ∷ 41 ∷ []) $ free1 ! $ move ! (38 ∷ 39 ∷ []) $ free1 ! $ move ! (36 ∷ 37 ∷ []) $ free1 ! $ move ! (34 ∷ 35 ∷ []) $ free1 ! $ move ! (32 ∷ 33 ∷ []) $ free1 ! $ move ! (30 ∷ 31 ∷ []) $ free1 ! $ move ! (28 ∷ 29 ∷ []) $ free1 ! $ move ! (26 ∷ 27 ∷ []) $ free1 ! $ move ! (24 ∷ 25 ∷ []) $ free1 ! $ move ! (22 ∷ 23 ∷ []) $ free1 ! $ move ! (20 ∷ 21 ∷ []) $ free1 ! $ move ! (18 ∷ 19 ∷ []) $ free1 ! $ move ! (16 ∷ 17 ∷ []) $ free1 ! $ move ! (14 ∷ 15 ∷ []) $ free1 ! $ move ! (12 ∷ 13 ∷ []) $ free1 ! $ move ! (10 ∷ 11 ∷ []) $ free1 ! $ move ! (8 ∷ 9 ∷ []) $ free1 ! $ move ! (6 ∷ 7 ∷ []) $ free1 ! $ free0 ! $
-        move ! (5 ∷ 2 ∷ 0 ∷ 1 ∷ 4 ∷ 3 ∷ []) $ by ! (exits (r .answer) (zs .0) (seated ys r) (zs .1 .0) e₀ (length-set ys (r .party) (r .session)) e₂ (seat-answer r w is) (λ _. e, λ n. absurd (n l17)))))))))))))))))))))))))))))))
+        move ! (5 ∷ 2 ∷ 0 ∷ 1 ∷ 4 ∷ 3 ∷ []) $ by ! (exits (r .answer) (zs .0) (seated ys r) (zs .1 .0) e₀ (length-set ys (r .party) (r .session)) e₂ (seat-answer r w is) (λ _. e, λ n. absurd (n full)))))))))))))))))))))))))))))))
 
 module _ {M : Type 1} (𝓤 : URA M) (H : Heap 𝓤) (A : Atoms 𝓤) (W : Given 𝓤 H A) (mem : Memory → SProp 𝓤) (run : Routine → Fun 𝓤) (𝓣 : Tables 𝓤 H)
     (known-wrong : Triple 𝓤 (𝓣 .C #seats·wrong-table) (Wrong 𝓤 H A mem run)) (known-load : Triple 𝓤 (𝓣 .C #tables·load-all) (Load 𝓤 H A mem run)) (known : Triple 𝓤 (𝓣 .C #store·step-by-value) (Core 𝓤 H A mem run)) (known-store : Triple 𝓤 (𝓣 .C #tables·store-session) (Store 𝓤 H A mem run)) where

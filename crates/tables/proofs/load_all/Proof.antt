@@ -44,11 +44,11 @@ use denote.Triple.Clauses.{ensured, lasts}
 use denote.Triple.Table.{entered, cited}
 use denote.Triple.Walked.{says, needs, Stays, stay-none-slice, walkOf, goes-none-slice, Walks, ends-at, walked, walk-meets}
 use denote.Exit.{yes}
-use Rattle.sessions.specs.Sessions.{idle-session, session-at}
+use Rattle.sessions.specs.Sessions.{parties, idle-session, session-at}
 use Rattle.sessions.specs.declared.Session.{Session}
 use Rattle.sessions.proofs.Session.Laws as S′
 use Rattle.tables.proofs.Mixed.{mixed, mixed-set, mixed-all}
-use Rattle.tables.proofs.Row.{R, valsOf, tell, show, make, twice, typed, R17, valOf17, valsOf17, tell17, make17, typed17, typed17-at, spelled17, long17, index-fits, lies-at, homes, holds, fails}
+use Rattle.tables.proofs.Row.{R, valsOf, tell, show, make, twice, typed, Rows, valOfRows, valsOfRows, tell-rows, make-rows, typed-rows, typed-rows-at, spelled-rows, long-rows, index-fits, lies-at, homes, holds, fails}
 use Rattle.tables.proofs.no_table as begun
 use Rattle.tables.proofs.no_table.Symbol as begun-def
 use Rattle.tables.proofs.no_table.Symbol.{name as #tables·no-table}
@@ -74,7 +74,7 @@ module _ {M : Type 1} (𝓤 : URA M) (H : Heap 𝓤) (A : Atoms 𝓤) (mem : Mem
   PutAt = tripleOf 𝓤 H A callee.signature (callee.spec 𝓤 H A mem run)
 
 module _ {M : Type 1} (𝓤 : URA M) (H : Heap 𝓤) (A : Atoms 𝓤) (W : Given 𝓤 H A) (mem : Memory → SProp 𝓤) (run : Routine → Fun 𝓤) (κ : Lft) (q : Share) (b o : ℕ) (γ : GName) (ys : List Session)
-    (gn : Room R (length ys)) (l17 : length ys ≡ 17) where
+    (gn : Room R (length ys)) (full : length ys ≡ parties) where
   abbrev x : RefT (List Session) × Unit {0}
   x = (record { ptr = (b, o); name = γ; now = ys }, tt)
 
@@ -84,11 +84,11 @@ module _ {M : Type 1} (𝓤 : URA M) (H : Heap 𝓤) (A : Atoms 𝓤) (W : Given
   abbrev Post : Val → SProp 𝓤
   Post = walkOf 𝓤 H A fn.ended stayed (fn.clauses 𝓤 H A mem run) .post (((κ, tt), (q, tt), tt, x, at), tt)
 
-  exits : Is R17 ys (valsOf17 ys) → ent 𝓤 (⋆ 𝓤 H A (‵ (flft κ q) ∷ ‵ (ShrSlice (named 0) κ R .own (x .0) (at .0)) ∷ [])) (Post (valOf17 ys))
+  exits : Is Rows ys (valsOfRows ys) → ent 𝓤 (⋆ 𝓤 H A (‵ (flft κ q) ∷ ‵ (ShrSlice (named 0) κ R .own (x .0) (at .0)) ∷ [])) (Post (valOfRows ys))
   exits g =
       qed W (‵ (flft κ q) ∷ ‵ (ShrSlice (named 0) κ R .own (x .0) (at .0)) ∷ []) ∵
-      suffices ! _ (ends-at 𝓤 H A fn.ended stayed (fn.clauses 𝓤 H A mem run) W (((κ, tt), (q, tt), tt, x, at), tt) (valOf17 ys) ys (tt, tt) (tt, tt)) $ says ! refl $
-      nothing ! $ move ! (1 ∷ 0 ∷ []) $ join ! $ frame ! $ nothing ! $ move ! (1 ∷ 0 ∷ []) $ fjoin ! $ frame ! $ owned ! R17 (Is R17) (make17 𝓤 H A W) ys _ g $ done !
+      suffices ! _ (ends-at 𝓤 H A fn.ended stayed (fn.clauses 𝓤 H A mem run) W (((κ, tt), (q, tt), tt, x, at), tt) (valOfRows ys) ys (tt, tt) (tt, tt)) $ says ! refl $
+      nothing ! $ move ! (1 ∷ 0 ∷ []) $ join ! $ frame ! $ nothing ! $ move ! (1 ∷ 0 ∷ []) $ fjoin ! $ frame ! $ owned ! Rows (Is Rows) (make-rows 𝓤 H A W) ys _ g $ done !
 
   -- the calls
   abbrev to-begun : NoTable 𝓤 H A mem run .Ghost
@@ -98,12 +98,12 @@ module _ {M : Type 1} (𝓤 : URA M) (H : Heap 𝓤) (A : Atoms 𝓤) (W : Given
   goes-begun = qed W [] ∵ nothing ! $ nothing ! $ join ! $ frame ! $ done !
 
   abbrev to-put : List Session → ℕ → Session → PutAt 𝓤 H A mem run .Ghost
-  to-put xs i s = ((tt, tt, tt, (xs, (i, (s, tt))), (valsOf17 xs, (vint w64 i ∷ [], (valsOf s, tt)))), tt)
+  to-put xs i s = ((tt, tt, tt, (xs, (i, (s, tt))), (valsOfRows xs, (vint w64 i ∷ [], (valsOf s, tt)))), tt)
 
-  goes-put : (xs : List Session) (i : ℕ) (s : Session) → Is R17 xs (valsOf17 xs) → i < 17 → Is R s (valsOf s) → ent 𝓤 (emp 𝓤) (PutAt 𝓤 H A mem run .pre (to-put xs i s))
-  goes-put xs i s gx l gs = qed W [] ∵ says ! l $ nothing ! $ owned ! R (Is R) (make 𝓤 H A) s _ gs $ fjoin ! $ owned ! usize (Is usize) (uint-makes 𝓤 H A W w64) i _ (refl, omega (arith, l)) $ fjoin ! $ owned ! R17 (Is R17) (make17 𝓤 H A W) xs _ gx $ fjoin ! $ nothing ! $ join ! $ done !
+  goes-put : (xs : List Session) (i : ℕ) (s : Session) → Is Rows xs (valsOfRows xs) → i < parties → Is R s (valsOf s) → ent 𝓤 (emp 𝓤) (PutAt 𝓤 H A mem run .pre (to-put xs i s))
+  goes-put xs i s gx l gs = qed W [] ∵ says ! l $ nothing ! $ owned ! R (Is R) (make 𝓤 H A) s _ gs $ fjoin ! $ owned ! usize (Is usize) (uint-makes 𝓤 H A W w64) i _ (refl, omega (arith, l)) $ fjoin ! $ owned ! Rows (Is Rows) (make-rows 𝓤 H A W) xs _ gx $ fjoin ! $ nothing ! $ join ! $ done !
 
-  module _ (𝓣 : Tables 𝓤 H) (known-put : Triple 𝓤 (𝓣 .C #tables·put-at) (PutAt 𝓤 H A mem run)) (q′ : Share) (zs : List Session) (gz : Is R17 zs (valsOf17 zs)) (l₀ l₁ l₂ l₃ l₄ l₅ l₆ l₇ : ℕ) where
+  module _ (𝓣 : Tables 𝓤 H) (known-put : Triple 𝓤 (𝓣 .C #tables·put-at) (PutAt 𝓤 H A mem run)) (q′ : Share) (zs : List Session) (gz : Is Rows zs (valsOfRows zs)) (l₀ l₁ l₂ l₃ l₄ l₅ l₆ l₇ : ℕ) where
     abbrev En : Env 𝓤 H
     En = homes code.Mir.locals (l₀ ∷ l₁ ∷ l₂ ∷ l₃ ∷ l₄ ∷ l₅ ∷ l₆ ∷ l₇ ∷ [])
 
@@ -111,7 +111,7 @@ module _ {M : Type 1} (𝓤 : URA M) (H : Heap 𝓤) (A : Atoms 𝓤) (W : Given
     sliceT = sliceTy (tyRef (named 0) imm (pointee (R .written)))
 
     abbrev arrT : Ty
-    arrT = tyArray S′.mir 17
+    arrT = tyArray S′.mir parties
 
     -- the table after i turns
     abbrev made : ℕ → List Session
@@ -126,29 +126,29 @@ module _ {M : Type 1} (𝓤 : URA M) (H : Heap 𝓤) (A : Atoms 𝓤) (W : Given
 
     -- where t turns are left, i are done
     abbrev Turned : ℕ → ℕ → Item 𝓤
-    Turned t i = given ((t + i ≡ 17) × Is R17 (made i) (valsOf17 (made i))) (‵ (fat fullShare arrT l₂ 0 (valOf17 (made i))) ⊛ ‵ (fat fullShare (tyInt w64) l₃ 0 (vint w64 i)))
+    Turned t i = given ((t + i ≡ parties) × Is Rows (made i) (valsOfRows (made i))) (‵ (fat fullShare arrT l₂ 0 (valOfRows (made i))) ⊛ ‵ (fat fullShare (tyInt w64) l₃ 0 (vint w64 i)))
 
     abbrev Inv : ℕ → List (Item 𝓤)
     Inv t = some (Turned t) ∷ Frame
 
-    packs : (t i : ℕ) → t + i ≡ 17 → Is R17 (made i) (valsOf17 (made i)) → ent 𝓤 (sep 𝓤 (H .at fullShare arrT l₂ 0 (valOf17 (made i))) (H .at fullShare (tyInt w64) l₃ 0 (vint w64 i))) (mean 𝓤 H A (some (Turned t)))
-    packs t i e g = via 𝓤 _ (guardI 𝓤 ((t + i ≡ 17) × Is R17 (made i) (valsOf17 (made i))) _ (e, g)) (exI 𝓤 (λ (j : ℕ). mean 𝓤 H A (Turned t j)) i)
+    packs : (t i : ℕ) → t + i ≡ parties → Is Rows (made i) (valsOfRows (made i)) → ent 𝓤 (sep 𝓤 (H .at fullShare arrT l₂ 0 (valOfRows (made i))) (H .at fullShare (tyInt w64) l₃ 0 (vint w64 i))) (mean 𝓤 H A (some (Turned t)))
+    packs t i e g = via 𝓤 _ (guardI 𝓤 ((t + i ≡ parties) × Is Rows (made i) (valsOfRows (made i))) _ (e, g)) (exI 𝓤 (λ (j : ℕ). mean 𝓤 H A (Turned t j)) i)
 
     -- where the loop is left, the rest of the body runs
     abbrev after : Out → SProp 𝓤
     after = afterBlock 𝓤 H (afterSeq 𝓤 H (Wp 𝓤 H (𝓣 .C) (𝓣 .Λ) En code.Mir.t-4 (post 𝓤 H (atRet En Post))) (post 𝓤 H (atRet En Post)))
 
-    in-turn : (t i : ℕ) → suc t + i ≡ 17 → i < 17
+    in-turn : (t i : ℕ) → suc t + i ≡ parties → i < parties
     in-turn t i e = omega (arith, e)
 
-    all-made : (i : ℕ) → 0 + i ≡ 17 → made i ≡ ys
-    all-made i e = mixed-all i ys zs (l17 ∙ sym (omega (arith, e))) (long17 zs _ gz ∙ sym (omega (arith, e)))
+    all-made : (i : ℕ) → 0 + i ≡ parties → made i ≡ ys
+    all-made i e = mixed-all i ys zs (full ∙ sym (omega (arith, e))) (long-rows zs _ gz ∙ sym (omega (arith, e)))
 
-    next-made : (i : ℕ) (r : List Session) → i < 17 → r ≡ set (made i) i (session-at ys i) → r ≡ made (suc i)
-    next-made i r l e = e ∙ mixed-set i ys zs idle-session (within-ys i l) (subst (λ n. i < n) (sym (long17 zs _ gz)) l)
+    next-made : (i : ℕ) (r : List Session) → i < parties → r ≡ set (made i) i (session-at ys i) → r ≡ made (suc i)
+    next-made i r l e = e ∙ mixed-set i ys zs idle-session (within-ys i l) (subst (λ n. i < n) (sym (long-rows zs _ gz)) l)
       where
-        within-ys : (i : ℕ) → i < 17 → i < length ys
-        within-ys i l = subst (λ n. i < n) (sym l17) l
+        within-ys : (i : ℕ) → i < parties → i < length ys
+        within-ys i l = subst (λ n. i < n) (sym full) l
 
     turn : (t : ℕ) → Sq W (Inv t) (runs (𝓣 .C) (𝓣 .Λ) En code.Mir.turn-1 (anyQ (afterTurn 𝓤 H (Below 𝓤 H A _<_ Inv t) after)))
     unfolding afterTurn
@@ -156,22 +156,22 @@ module _ {M : Type 1} (𝓤 : URA M) (H : Heap 𝓤) (A : Atoms 𝓤) (W : Given
     turn zero = pick ! (λ i. learn ! (λ e. split ! $
         -- [_2; _3; _4; _5; _6; _7; _1; _0; the row; what shuts; the fractured borrow; res; and that each local dies, from 12]
         assigns ! (bin ! (load ! (from ! (stop !)) (look ! 1 refl)) (lit ! tt) tt) (from ! (stop !)) (init ! 2 refl (tt, tt)) $
-        rewrite ! 2 (λ (t : Bool). ‵ (fat fullShare tyBool l₄ 0 (vbool t))) (fails (ltb i 17) (λ a. absurd (omega (arith, ltb→lt i 17 a, e .0)))) refl $
+        rewrite ! 2 (λ (t : Bool). ‵ (fat fullShare tyBool l₄ 0 (vbool t))) (fails (ltb i parties) (λ a. absurd (omega (arith, ltb→lt i parties a, e .0)))) refl $
         leaves-loop ! (load ! (from ! (stop !)) (look ! 2 refl)) $ exec ! (𝓣 .C) (𝓣 .Λ) En code.Mir.t-4 (atRet En Post) $
-        rewrite ! 0 (λ (us : List Session). ‵ (fat fullShare arrT l₂ 0 (valOf17 us))) (all-made i (e .0)) refl $
-        assigns ! (of-opd ! (load ! (from ! (stop !)) (look ! 0 refl))) (from ! (stop !)) (init ! 7 refl (typed17 𝓤 H A W ys (whole-is i e))) $
+        rewrite ! 0 (λ (us : List Session). ‵ (fat fullShare arrT l₂ 0 (valOfRows us))) (all-made i (e .0)) refl $
+        assigns ! (of-opd ! (load ! (from ! (stop !)) (look ! 0 refl))) (from ! (stop !)) (init ! 7 refl (typed-rows 𝓤 H A W ys (whole-is i e))) $
         move ! (8 ∷ 9 ∷ []) $ shuts-slice ! tt R q′ ys b o $
         -- [the token; _2; _3; _4; _5; _6; _7; _1; _0; the fractured borrow; res; and that each local dies, from 11]
         returns ! (look ! 8 refl) $ forget ! 1 refl $ forget ! 2 refl $ forget ! 3 refl $ forget ! 7 refl $ forget ! 8 refl $
         move ! (8 ∷ 11 ∷ []) $ free1 ! $ move ! (7 ∷ 10 ∷ []) $ free1 ! $ move ! (1 ∷ 9 ∷ []) $ free1 ! $ move ! (1 ∷ 8 ∷ []) $ free1 ! $ move ! (1 ∷ 7 ∷ []) $ free1 ! $ move ! (1 ∷ 6 ∷ []) $ free1 ! $ move ! (1 ∷ 5 ∷ []) $ free1 ! $ move ! (1 ∷ 4 ∷ []) $ free1 ! $ free0 ! $
         move ! (2 ∷ 1 ∷ []) $ fjoin ! $ pureI ! (at-slice R (x .0) (at .0)) (tt, (tt, tt)) (refl, gn) $ fjoin ! $ move ! (1 ∷ 0 ∷ []) $ by ! (exits (whole-is i e))))
       where
-        whole-is : (i : ℕ) → (0 + i ≡ 17) × Is R17 (made i) (valsOf17 (made i)) → Is R17 ys (valsOf17 ys)
-        whole-is i e = subst (λ (us : List Session). Is R17 us (valsOf17 us)) (all-made i (e .0)) (e .1)
+        whole-is : (i : ℕ) → (0 + i ≡ parties) × Is Rows (made i) (valsOfRows (made i)) → Is Rows ys (valsOfRows ys)
+        whole-is i e = subst (λ (us : List Session). Is Rows us (valsOfRows us)) (all-made i (e .0)) (e .1)
     -- a turn that loads one record
     turn (suc t) = pick ! (λ i. learn ! (λ e. split ! $ let l = in-turn t i (e .0) in let m = within i l in
         assigns ! (bin ! (load ! (from ! (stop !)) (look ! 1 refl)) (lit ! tt) tt) (from ! (stop !)) (init ! 2 refl (tt, tt)) $
-        rewrite ! 2 (λ (t : Bool). ‵ (fat fullShare tyBool l₄ 0 (vbool t))) (holds (ltb i 17) (lt→ltb i 17 l)) refl $
+        rewrite ! 2 (λ (t : Bool). ‵ (fat fullShare tyBool l₄ 0 (vbool t))) (holds (ltb i parties) (lt→ltb i parties l)) refl $
         stays ! (load ! (from ! (stop !)) (look ! 2 refl)) $
         assigns ! (bin ! (load ! (from ! (stop !)) (look ! 1 refl)) (lit ! tt) (index-fits i (length ys) m gn)) (from ! (stop !)) (init ! 3 refl (tt, index-fits i (length ys) m gn)) $
         assigns ! (bin ! (load ! (from ! (fld ! refl (stop !))) (look-in ! 6 (sub ! 0 refl (whole !)))) (load ! (from ! (stop !)) (look ! 3 refl)) tt) (from ! (stop !)) (init ! 4 refl (tt, tt)) $
@@ -183,18 +183,18 @@ module _ {M : Type 1} (𝓤 : URA M) (H : Heap 𝓤) (A : Atoms 𝓤) (W : Given
         -- [the row; _2; _3; _4; _5; _6; _7; _1; _0; what shuts; …]
         use0 W (raw (PutAt 𝓤 H A mem run .pre (to-put (made i) i (session-at ys i)))) (goes-put (made i) i (session-at ys i) (e .1) l g) $
         calls-at ! (fmOf 𝓤 H (W .laws) 𝓣) (PutAt 𝓤 H A mem run) known-put (to-put (made i) i (session-at ys i)) (and-then ! (load ! (from ! (stop !)) (look ! 2 refl)) (and-then ! (load ! (from ! (stop !)) (look ! 3 refl)) (and-then ! (load ! (from ! (stop !)) (look ! 7 refl)) (no-more !)))) (λ v.
-        use1 W (later (some (λ (r : List Session). (‵ ftrue ⊛ ‵ (R17 .own r (v ∷ []))) ⊛ raw (ensured 𝓤 H A callee.ended (callee.clauses 𝓤 H A mem run) tt (made i, (i, (session-at ys i, tt))) tt r)))) (id⊢ 𝓤 _) $ await ! tt $ pick ! (λ r.
+        use1 W (later (some (λ (r : List Session). (‵ ftrue ⊛ ‵ (Rows .own r (v ∷ []))) ⊛ raw (ensured 𝓤 H A callee.ended (callee.clauses 𝓤 H A mem run) tt (made i, (i, (session-at ys i, tt))) tt r)))) (id⊢ 𝓤 _) $ await ! tt $ pick ! (λ r.
         split ! $ move ! (1 ∷ []) $ use1 W (raw (fact 𝓤 (r ≡ set (made i) i (session-at ys i)))) (exE 𝓤 _ (λ ws. snd∗ 𝓤 (sem 𝓤 H A (lasts callee.ended tt (made i, (i, (session-at ys i, tt))) ws)) (fact 𝓤 (r ≡ set (made i) i (session-at ys i))))) $ heard ! (r ≡ set (made i) i (session-at ys i)) (λ is-it.
-        split ! $ drop ! $ peeks ! R17 (Is R17) (shows 𝓤 H A R17) r (v ∷ []) (λ is.
-        land ! (from ! (stop !)) (store ! 2 refl (typed17-at 𝓤 H A W r v is)) $ rewrite ! 2 (λ (u : Val). ‵ (fat fullShare arrT l₂ 0 u)) (ap only (tell17 r _ is)) refl $ drop ! $
-        rewrite ! 1 (λ (us : List Session). ‵ (fat fullShare arrT l₂ 0 (valOf17 us))) (next-made i r l is-it) refl $
+        split ! $ drop ! $ peeks ! Rows (Is Rows) (shows 𝓤 H A Rows) r (v ∷ []) (λ is.
+        land ! (from ! (stop !)) (store ! 2 refl (typed-rows-at 𝓤 H A W r v is)) $ rewrite ! 2 (λ (u : Val). ‵ (fat fullShare arrT l₂ 0 u)) (ap only (tell-rows r _ is)) refl $ drop ! $
+        rewrite ! 1 (λ (us : List Session). ‵ (fat fullShare arrT l₂ 0 (valOfRows us))) (next-made i r l is-it) refl $
         assigns-last ! (bin ! (load ! (from ! (stop !)) (look ! 2 refl)) (lit ! tt) (record { fits = omega (arith, l) })) (from ! (stop !)) (store ! 2 refl (tt, record { fits = omega (arith, l) })) $
         forget ! 3 refl $ forget ! 4 refl $ forget ! 5 refl $ forget ! 6 refl $ rewrite ! 2 (λ (j : ℕ). ‵ (fat fullShare (tyInt w64) l₃ 0 (vint w64 j))) (omega arith) refl $
         move ! (1 ∷ 2 ∷ 3 ∷ 4 ∷ 5 ∷ 6 ∷ 7 ∷ 8 ∷ []) $
-        use2 W (some (Turned t)) (packs t (suc i) (omega (arith, e .0)) (subst (λ (us : List Session). Is R17 us (valsOf17 us)) (next-made i r l is-it) (spelled17 r v is))) $ again ! _<_ Inv (suc t) t (lt-suc-self t))))))))
+        use2 W (some (Turned t)) (packs t (suc i) (omega (arith, e .0)) (subst (λ (us : List Session). Is Rows us (valsOfRows us)) (next-made i r l is-it) (spelled-rows r v is))) $ again ! _<_ Inv (suc t) t (lt-suc-self t))))))))
       where
-        within : (i : ℕ) → i < 17 → i < length ys
-        within i l = subst (λ n. i < n) (sym l17) l
+        within : (i : ℕ) → i < parties → i < length ys
+        within i l = subst (λ n. i < n) (sym full) l
 
   walk : (𝓣 : Tables 𝓤 H) → Triple 𝓤 (𝓣 .C #tables·no-table) (NoTable 𝓤 H A mem run) → Triple 𝓤 (𝓣 .C #tables·put-at) (PutAt 𝓤 H A mem run)
       → ent 𝓤 (onEntry 𝓤 H A fn.signature (κ, tt) (q, tt) x at) (WpFn 𝓤 H (𝓣 .C) (𝓣 .Λ) code.function (sliceVal (b, o) (length ys) ∷ []) Post)
@@ -205,23 +205,23 @@ module _ {M : Type 1} (𝓤 : URA M) (H : Heap 𝓤) (A : Atoms 𝓤) (W : Given
       -- [_7; …; _6; …; _5; …; _4; …; _3; …; _2; …; _1; …; _0; …; the token; what t owns]
       use0 W (raw (NoTable 𝓤 H A mem run .pre to-begun)) goes-begun $
       calls-at ! (fmOf 𝓤 H (W .laws) 𝓣) (NoTable 𝓤 H A mem run) known-begun to-begun (no-more !) (λ v.
-      use1 W (later (some (λ (r : List Session). (‵ ftrue ⊛ ‵ (R17 .own r (v ∷ []))) ⊛ raw (ensured 𝓤 H A begun.ended (begun.clauses 𝓤 H A mem run) tt tt tt r)))) (id⊢ 𝓤 _) $ await ! tt $ pick ! (λ r.
-      split ! $ split ! $ drop ! $ peeks ! R17 (Is R17) (shows 𝓤 H A R17) r (v ∷ []) (λ is.
-      land ! (from ! (stop !)) (init ! 12 refl (typed17-at 𝓤 H A W r v is)) $ rewrite ! 12 (λ (u : Val). ‵ (fat fullShare (tyArray S′.mir 17) l₂ 0 u)) (ap only (tell17 r _ is)) refl $ drop ! $ drop ! $
+      use1 W (later (some (λ (r : List Session). (‵ ftrue ⊛ ‵ (Rows .own r (v ∷ []))) ⊛ raw (ensured 𝓤 H A begun.ended (begun.clauses 𝓤 H A mem run) tt tt tt r)))) (id⊢ 𝓤 _) $ await ! tt $ pick ! (λ r.
+      split ! $ split ! $ drop ! $ peeks ! Rows (Is Rows) (shows 𝓤 H A Rows) r (v ∷ []) (λ is.
+      land ! (from ! (stop !)) (init ! 12 refl (typed-rows-at 𝓤 H A W r v is)) $ rewrite ! 12 (λ (u : Val). ‵ (fat fullShare (tyArray S′.mir parties) l₂ 0 u)) (ap only (tell-rows r _ is)) refl $ drop ! $ drop ! $
       assigns ! (of-opd ! (lit ! tt)) (from ! (stop !)) (init ! 8 refl (tt, record { fits = lit< tt })) $
       move ! (17 ∷ []) $ fsplit ! $ fsplit ! $ move ! (1 ∷ []) $ fsplit ! $ move ! (20 ∷ []) $ split ! $ move ! (3 ∷ 0 ∷ []) $
       looks-slice ! tt R (Is R) (show 𝓤 H A) valsOf tell (twice 𝓤 H A W) ys b o (λ q′.
       -- [the row; what shuts; the fractured borrow; true; res; t's fact; true; _7 at 7; …; _0 at 21]
       keep ! (17 ∷ 15 ∷ 13 ∷ 11 ∷ 9 ∷ 7 ∷ 19 ∷ 21 ∷ 0 ∷ 1 ∷ 2 ∷ 4 ∷ 22 ∷ 20 ∷ 18 ∷ 16 ∷ 14 ∷ 12 ∷ 10 ∷ 8 ∷ []) $
-      use2 W (some (Turned 𝓣 known q′ r (spelled17 r v is) l₀ l₁ l₂ l₃ l₄ l₅ l₆ l₇ 17)) (packs 𝓣 known q′ r (spelled17 r v is) l₀ l₁ l₂ l₃ l₄ l₅ l₆ l₇ 17 0 refl (spelled17 r v is)) $ first ! $ blocks ! $
-      loops ! 𝓣 _<_ (Nat·lt-wfRel .wf) (Inv 𝓣 known q′ r (spelled17 r v is) l₀ l₁ l₂ l₃ l₄ l₅ l₆ l₇) (turn 𝓣 known q′ r (spelled17 r v is) l₀ l₁ l₂ l₃ l₄ l₅ l₆ l₇) 17))))))))))))
+      use2 W (some (Turned 𝓣 known q′ r (spelled-rows r v is) l₀ l₁ l₂ l₃ l₄ l₅ l₆ l₇ parties)) (packs 𝓣 known q′ r (spelled-rows r v is) l₀ l₁ l₂ l₃ l₄ l₅ l₆ l₇ parties 0 refl (spelled-rows r v is)) $ first ! $ blocks ! $
+      loops ! 𝓣 _<_ (Nat·lt-wfRel .wf) (Inv 𝓣 known q′ r (spelled-rows r v is) l₀ l₁ l₂ l₃ l₄ l₅ l₆ l₇) (turn 𝓣 known q′ r (spelled-rows r v is) l₀ l₁ l₂ l₃ l₄ l₅ l₆ l₇) parties))))))))))))
 
 module _ {M : Type 1} (𝓤 : URA M) (H : Heap 𝓤) (A : Atoms 𝓤) (W : Given 𝓤 H A) (mem : Memory → SProp 𝓤) (run : Routine → Fun 𝓤) (𝓣 : Tables 𝓤 H)
     (known-begun : Triple 𝓤 (𝓣 .C #tables·no-table) (NoTable 𝓤 H A mem run)) (known-put : Triple 𝓤 (𝓣 .C #tables·put-at) (PutAt 𝓤 H A mem run)) where
   walks : Walks 𝓤 H A fn.ended stayed (WpFn 𝓤 H (𝓣 .C) (𝓣 .Λ) code.function) (fn.clauses 𝓤 H A mem run)
   walks = walked 𝓤 H A fn.ended stayed (fn.clauses 𝓤 H A mem run) (WpFn 𝓤 H (𝓣 .C) (𝓣 .Λ) code.function) (λ κs. (slice-vals, tt)) (λ κs. (shr-slice-tells (named 0) (κs .0) R, tt))
-      (λ κs qs bounds a g are. needs 𝓤 (length (a .0 .now) ≡ 17) _ (λ l17.
-      walk 𝓤 H A W mem run (κs .0) (qs .0) (a .0 .ptr .0) (a .0 .ptr .1) (a .0 .name) (a .0 .now) (are .0 .0 .1) l17 𝓣 known-begun known-put))
+      (λ κs qs bounds a g are. needs 𝓤 (length (a .0 .now) ≡ parties) _ (λ full.
+      walk 𝓤 H A W mem run (κs .0) (qs .0) (a .0 .ptr .0) (a .0 .ptr .1) (a .0 .name) (a .0 .now) (are .0 .0 .1) full 𝓣 known-begun known-put))
 
   meets : Meets 𝓤 H A fn.signature (WpFn 𝓤 H (𝓣 .C) (𝓣 .Λ) code.function) (fn.spec 𝓤 H A mem run)
   meets = walk-meets 𝓤 H A fn.ended stayed W (goes-none-slice 𝓤 H A W 1 (0 ∷ []) tt (plain (λ _. R)) yes, tt) (fn.clauses 𝓤 H A mem run)

@@ -43,11 +43,11 @@ use denote.Triple.Clauses.{ensured, lasts}
 use denote.Triple.Table.{entered, cited}
 use denote.Triple.Walked.{says, needs, Stays, stay-slice, stay-none, walkOf, goes-slice, goes-none, Walks, ends-at, walked, walk-meets}
 use denote.Exit.{yes}
-use Rattle.sessions.specs.Sessions.{idle-session, session-at}
+use Rattle.sessions.specs.Sessions.{parties, idle-session, session-at}
 use Rattle.sessions.specs.declared.Session.{Session}
 use Rattle.sessions.proofs.Session.Laws as S′
 use Rattle.tables.proofs.Mixed.{mixed, mixed-long, mixed-set, mixed-all}
-use Rattle.tables.proofs.Row.{R, valsOf, tell, show, make, typed, typed-at, spelled, R17, valOf17, valsOf17, tell17, make17, typed17, long17, index-fits, lies-at, slice-in, homes, holds, fails, recordSize}
+use Rattle.tables.proofs.Row.{R, valsOf, tell, show, make, typed, typed-at, spelled, Rows, valOfRows, valsOfRows, tell-rows, make-rows, typed-rows, long-rows, index-fits, lies-at, slice-in, homes, holds, fails, recordSize}
 use Rattle.tables.proofs.pick as callee
 use Rattle.tables.proofs.pick.Symbol as callee-def
 use Rattle.tables.proofs.pick.Symbol.{name as #tables·pick}
@@ -58,13 +58,13 @@ use Rattle.tables.proofs.save_all.Statement as stated
 use Rattle.tables.proofs.save_all.Code as code
 
 abbrev stayed : Stays (fn.ended .signature .params) (fn.ended .kept)
-stayed = (stay-slice (0 ∷ []) tt (plain (λ _. R)), (stay-none (λ _. R17) yes, tt))
+stayed = (stay-slice (0 ∷ []) tt (plain (λ _. R)), (stay-none (λ _. Rows) yes, tt))
 
 abbrev Pick : {M : Type 1} (𝓤 : URA M) (H : Heap 𝓤) (A : Atoms 𝓤) (mem : Memory → SProp 𝓤) (run : Routine → Fun 𝓤) → Contract 𝓤
 Pick 𝓤 H A mem run = tripleOf 𝓤 H A callee.signature (callee.spec 𝓤 H A mem run)
 
 module _ {M : Type 1} (𝓤 : URA M) (H : Heap 𝓤) (A : Atoms 𝓤) (W : Given 𝓤 H A) (mem : Memory → SProp 𝓤) (run : Routine → Fun 𝓤) (κ : Lft) (q : Share) (b o : ℕ) (γ : GName) (ys xs : List Session)
-    (gn : Room R (length ys)) (gx : Is R17 xs (valsOf17 xs)) (l17 : length ys ≡ 17) where
+    (gn : Room R (length ys)) (gx : Is Rows xs (valsOfRows xs)) (full : length ys ≡ parties) where
   abbrev ref : List Session → RefT (List Session)
   ref zs = record { ptr = (b, o); name = γ; now = zs }
 
@@ -72,7 +72,7 @@ module _ {M : Type 1} (𝓤 : URA M) (H : Heap 𝓤) (A : Atoms 𝓤) (W : Given
   x = (ref ys, (xs, tt))
 
   abbrev at : Vals fn.signature (κ, tt)
-  at = (sliceVal (b, o) (length ys) ∷ [], (valsOf17 xs, tt))
+  at = (sliceVal (b, o) (length ys) ∷ [], (valsOfRows xs, tt))
 
   abbrev Post : Val → SProp 𝓤
   Post = walkOf 𝓤 H A fn.ended stayed (fn.clauses 𝓤 H A mem run) .post (((κ, tt), (q, tt), tt, x, at), tt)
@@ -80,16 +80,16 @@ module _ {M : Type 1} (𝓤 : URA M) (H : Heap 𝓤) (A : Atoms 𝓤) (W : Given
   exits : ent 𝓤 (⋆ 𝓤 H A (‵ (flft κ q) ∷ ‵ (MutSlice (named 0) κ R .own (ref xs) (at .0)) ∷ [])) (Post vunit)
   exits =
       qed W (‵ (flft κ q) ∷ ‵ (MutSlice (named 0) κ R .own (ref xs) (at .0)) ∷ []) ∵
-      suffices ! _ (ends-at 𝓤 H A fn.ended stayed (fn.clauses 𝓤 H A mem run) W (((κ, tt), (q, tt), tt, x, at), tt) vunit tt (xs, (tt, tt)) (long17 xs _ gx ∙ sym l17, (tt, tt))) $ says ! refl $
-      nothing ! $ move ! (1 ∷ 0 ∷ []) $ join ! $ frame ! $ nothing ! $ owned ! R17 (Is R17) (make17 𝓤 H A W) xs _ gx $ fjoin ! $ move ! (1 ∷ 0 ∷ []) $ fjoin ! $ frame ! $
+      suffices ! _ (ends-at 𝓤 H A fn.ended stayed (fn.clauses 𝓤 H A mem run) W (((κ, tt), (q, tt), tt, x, at), tt) vunit tt (xs, (tt, tt)) (long-rows xs _ gx ∙ sym full, (tt, tt))) $ says ! refl $
+      nothing ! $ move ! (1 ∷ 0 ∷ []) $ join ! $ frame ! $ nothing ! $ owned ! Rows (Is Rows) (make-rows 𝓤 H A W) xs _ gx $ fjoin ! $ move ! (1 ∷ 0 ∷ []) $ fjoin ! $ frame ! $
       feqI ! (List Val) (vunit ∷ []) (vunit ∷ []) refl $ done !
 
   -- the call of `pick`
   abbrev to-pick : ℕ → Pick 𝓤 H A mem run .Ghost
-  to-pick i = ((tt, tt, tt, (xs, (i, tt)), (valsOf17 xs, (vint w64 i ∷ [], tt))), tt)
+  to-pick i = ((tt, tt, tt, (xs, (i, tt)), (valsOfRows xs, (vint w64 i ∷ [], tt))), tt)
 
-  goes : (i : ℕ) → i < 17 → ent 𝓤 (emp 𝓤) (Pick 𝓤 H A mem run .pre (to-pick i))
-  goes i l = qed W [] ∵ says ! l $ nothing ! $ owned ! usize (Is usize) (uint-makes 𝓤 H A W w64) i _ (refl, omega (arith, l)) $ fjoin ! $ owned ! R17 (Is R17) (make17 𝓤 H A W) xs _ gx $ fjoin ! $ nothing ! $ join ! $ done !
+  goes : (i : ℕ) → i < parties → ent 𝓤 (emp 𝓤) (Pick 𝓤 H A mem run .pre (to-pick i))
+  goes i l = qed W [] ∵ says ! l $ nothing ! $ owned ! usize (Is usize) (uint-makes 𝓤 H A W w64) i _ (refl, omega (arith, l)) $ fjoin ! $ owned ! Rows (Is Rows) (make-rows 𝓤 H A W) xs _ gx $ fjoin ! $ nothing ! $ join ! $ done !
 
   module _ (𝓣 : Tables 𝓤 H) (known : Triple 𝓤 (𝓣 .C #tables·pick) (Pick 𝓤 H A mem run)) (l₀ l₁ l₂ l₃ l₄ l₅ l₆ l₇ : ℕ) where
     abbrev En : Env 𝓤 H
@@ -105,32 +105,32 @@ module _ {M : Type 1} (𝓤 : URA M) (H : Heap 𝓤) (A : Atoms 𝓤) (W : Given
     -- what no turn touches
     abbrev Frame : List (Item 𝓤)
     Frame = ‵ (froom tyBool l₄ 0) ∷ ‵ (froom S′.mir l₅ 0) ∷ ‵ (froom (tyInt w64) l₆ 0) ∷ ‵ (froom tyPtr l₇ 0)
-        ∷ ‵ (fat fullShare sliceT l₁ 0 (sliceVal (b, o) (length ys))) ∷ ‵ (fat fullShare (tyArray S′.mir 17) l₂ 0 (valOf17 xs)) ∷ ‵ (froom tyUnit l₀ 0)
+        ∷ ‵ (fat fullShare sliceT l₁ 0 (sliceVal (b, o) (length ys))) ∷ ‵ (fat fullShare (tyArray S′.mir parties) l₂ 0 (valOfRows xs)) ∷ ‵ (froom tyUnit l₀ 0)
         ∷ ‵ (fobor κ q (Held R (length ys) b o γ)) ∷ ‵ (fobs γ (codedHoleys R .code (heres R ys))) ∷ ‵ (fauth γ (codedHoleys R .code (heres R ys)))
-        ∷ ‵ (fdies tyUnit l₀) ∷ ‵ (fdies sliceT l₁) ∷ ‵ (fdies (tyArray S′.mir 17) l₂) ∷ ‵ (fdies (tyInt w64) l₃) ∷ ‵ (fdies tyBool l₄) ∷ ‵ (fdies S′.mir l₅) ∷ ‵ (fdies (tyInt w64) l₆) ∷ ‵ (fdies tyPtr l₇) ∷ []
+        ∷ ‵ (fdies tyUnit l₀) ∷ ‵ (fdies sliceT l₁) ∷ ‵ (fdies (tyArray S′.mir parties) l₂) ∷ ‵ (fdies (tyInt w64) l₃) ∷ ‵ (fdies tyBool l₄) ∷ ‵ (fdies S′.mir l₅) ∷ ‵ (fdies (tyInt w64) l₆) ∷ ‵ (fdies tyPtr l₇) ∷ []
 
     -- where t turns are left, i are done
     abbrev Turned : ℕ → ℕ → Item 𝓤
-    Turned t i = given (t + i ≡ 17) (‵ (row R fullShare (made i) b o) ⊛ ‵ (fat fullShare (tyInt w64) l₃ 0 (vint w64 i)))
+    Turned t i = given (t + i ≡ parties) (‵ (row R fullShare (made i) b o) ⊛ ‵ (fat fullShare (tyInt w64) l₃ 0 (vint w64 i)))
 
     abbrev Inv : ℕ → List (Item 𝓤)
     Inv t = some (Turned t) ∷ Frame
 
-    packs : (t i : ℕ) → t + i ≡ 17 → ent 𝓤 (sep 𝓤 (sem 𝓤 H A (row R fullShare (made i) b o)) (H .at fullShare (tyInt w64) l₃ 0 (vint w64 i))) (mean 𝓤 H A (some (Turned t)))
-    packs t i e = via 𝓤 _ (guardI 𝓤 (t + i ≡ 17) _ e) (exI 𝓤 (λ (j : ℕ). mean 𝓤 H A (Turned t j)) i)
+    packs : (t i : ℕ) → t + i ≡ parties → ent 𝓤 (sep 𝓤 (sem 𝓤 H A (row R fullShare (made i) b o)) (H .at fullShare (tyInt w64) l₃ 0 (vint w64 i))) (mean 𝓤 H A (some (Turned t)))
+    packs t i e = via 𝓤 _ (guardI 𝓤 (t + i ≡ parties) _ e) (exI 𝓤 (λ (j : ℕ). mean 𝓤 H A (Turned t j)) i)
 
     -- where the loop is left, the rest of the body runs
     abbrev after : Out → SProp 𝓤
     after = afterBlock 𝓤 H (afterSeq 𝓤 H (Wp 𝓤 H (𝓣 .C) (𝓣 .Λ) En code.Mir.t-3 (post 𝓤 H (atRet En Post))) (post 𝓤 H (atRet En Post)))
 
-    in-turn : (t i : ℕ) → suc t + i ≡ 17 → i < 17
+    in-turn : (t i : ℕ) → suc t + i ≡ parties → i < parties
     in-turn t i e = omega (arith, e)
 
-    all-made : (i : ℕ) → 0 + i ≡ 17 → made i ≡ xs
-    all-made i e = mixed-all i xs ys (long17 xs _ gx ∙ sym (omega (arith, e))) (l17 ∙ sym (omega (arith, e)))
+    all-made : (i : ℕ) → 0 + i ≡ parties → made i ≡ xs
+    all-made i e = mixed-all i xs ys (long-rows xs _ gx ∙ sym (omega (arith, e))) (full ∙ sym (omega (arith, e)))
 
-    next-made : (i : ℕ) (s : Session) → i < 17 → s ≡ session-at xs i → set (made i) i s ≡ made (suc i)
-    next-made i s l e = ap (set (made i) i) e ∙ mixed-set i xs ys idle-session (subst (λ n. i < n) (sym (long17 xs _ gx)) l) (subst (λ n. i < n) (sym l17) l)
+    next-made : (i : ℕ) (s : Session) → i < parties → s ≡ session-at xs i → set (made i) i s ≡ made (suc i)
+    next-made i s l e = ap (set (made i) i) e ∙ mixed-set i xs ys idle-session (subst (λ n. i < n) (sym (long-rows xs _ gx)) l) (subst (λ n. i < n) (sym full) l)
 
     turn : (t : ℕ) → Sq W (Inv t) (runs (𝓣 .C) (𝓣 .Λ) En code.Mir.turn-1 (anyQ (afterTurn 𝓤 H (Below 𝓤 H A _<_ Inv t) after)))
     unfolding afterTurn
@@ -138,11 +138,11 @@ module _ {M : Type 1} (𝓤 : URA M) (H : Heap 𝓤) (A : Atoms 𝓤) (W : Given
     turn zero = pick ! (λ i. learn ! (λ e. split ! $
         -- [the row; _3; _4; _5; _6; _7; _1; _2; _0; the open borrow; obs; auth; and that each local dies, from 12]
         assigns ! (bin ! (load ! (from ! (stop !)) (look ! 1 refl)) (lit ! tt) tt) (from ! (stop !)) (init ! 2 refl (tt, tt)) $
-        rewrite ! 2 (λ (t : Bool). ‵ (fat fullShare tyBool l₄ 0 (vbool t))) (fails (ltb i 17) (λ a. absurd (omega (arith, ltb→lt i 17 a, e)))) refl $
+        rewrite ! 2 (λ (t : Bool). ‵ (fat fullShare tyBool l₄ 0 (vbool t))) (fails (ltb i parties) (λ a. absurd (omega (arith, ltb→lt i parties a, e)))) refl $
         leaves-loop ! (load ! (from ! (stop !)) (look ! 2 refl)) $ exec ! (𝓣 .C) (𝓣 .Λ) En code.Mir.t-3 (atRet En Post) $
         assigns ! (of-opd ! (unit-lit !)) (from ! (stop !)) (init ! 8 refl (tt, tt)) $
         rewrite ! 0 (λ (zs : List Session). ‵ (row R fullShare zs b o)) (all-made i e) refl $
-        move ! (0 ∷ 9 ∷ 10 ∷ 11 ∷ []) $ closes-slice ! tt R ys xs (long17 xs _ gx ∙ sym l17) b o $ slice-in ! (named 0) b o (length ys) xs (long17 xs _ gx ∙ sym l17) gn $
+        move ! (0 ∷ 9 ∷ 10 ∷ 11 ∷ []) $ closes-slice ! tt R ys xs (long-rows xs _ gx ∙ sym full) b o $ slice-in ! (named 0) b o (length ys) xs (long-rows xs _ gx ∙ sym full) gn $
         -- [what t owns; the token; _3; _4; _5; _6; _7; _1; _2; _0; and that each local dies, from 10]
         returns ! (look ! 9 refl) $ forget ! 2 refl $ forget ! 3 refl $ forget ! 7 refl $ forget ! 8 refl $ forget ! 9 refl $
         move ! (9 ∷ 10 ∷ []) $ free1 ! $ move ! (7 ∷ 9 ∷ []) $ free1 ! $ move ! (7 ∷ 8 ∷ []) $ free1 ! $ move ! (2 ∷ 7 ∷ []) $ free1 ! $ move ! (2 ∷ 6 ∷ []) $ free1 ! $ move ! (2 ∷ 5 ∷ []) $ free1 ! $ move ! (2 ∷ 4 ∷ []) $ free1 ! $ move ! (2 ∷ 3 ∷ []) $ free1 ! $ free0 ! $
@@ -150,7 +150,7 @@ module _ {M : Type 1} (𝓤 : URA M) (H : Heap 𝓤) (A : Atoms 𝓤) (W : Given
     -- a turn that stores one record
     turn (suc t) = pick ! (λ i. learn ! (λ e. split ! $ let l = in-turn t i e in
         assigns ! (bin ! (load ! (from ! (stop !)) (look ! 1 refl)) (lit ! tt) tt) (from ! (stop !)) (init ! 2 refl (tt, tt)) $
-        rewrite ! 2 (λ (t : Bool). ‵ (fat fullShare tyBool l₄ 0 (vbool t))) (holds (ltb i 17) (lt→ltb i 17 l)) refl $
+        rewrite ! 2 (λ (t : Bool). ‵ (fat fullShare tyBool l₄ 0 (vbool t))) (holds (ltb i parties) (lt→ltb i parties l)) refl $
         stays ! (load ! (from ! (stop !)) (look ! 2 refl)) $
         use0 W (raw (Pick 𝓤 H A mem run .pre (to-pick i))) (goes i l) $
         calls-at ! (fmOf 𝓤 H (W .laws) 𝓣) (Pick 𝓤 H A mem run) known (to-pick i) (and-then ! (load ! (from ! (stop !)) (look ! 8 refl)) (and-then ! (load ! (from ! (stop !)) (look ! 2 refl)) (no-more !))) (λ v.
@@ -170,33 +170,33 @@ module _ {M : Type 1} (𝓤 : URA M) (H : Heap 𝓤) (A : Atoms 𝓤) (W : Given
         forget ! 2 refl $ forget ! 3 refl $ forget ! 4 refl $ forget ! 5 refl $ rewrite ! 1 (λ (j : ℕ). ‵ (fat fullShare (tyInt w64) l₃ 0 (vint w64 j))) (omega arith) refl $
         use2 W (some (Turned t)) (packs t (suc i) (omega (arith, e))) $ again ! _<_ Inv (suc t) t (lt-suc-self t))))))))
       where
-        within : (i : ℕ) → i < 17 → i < length (made i)
-        within i l = subst (λ n. i < n) (sym (mixed-long i xs ys ∙ l17)) l
+        within : (i : ℕ) → i < parties → i < length (made i)
+        within i l = subst (λ n. i < n) (sym (mixed-long i xs ys ∙ full)) l
 
-        fits : (i : ℕ) → i < 17 → Fits w64 (i * recordSize)
-        fits i l = index-fits i (length ys) (subst (λ n. i < n) (sym l17) l) gn
+        fits : (i : ℕ) → i < parties → Fits w64 (i * recordSize)
+        fits i l = index-fits i (length ys) (subst (λ n. i < n) (sym full) l) gn
 
   walk : (𝓣 : Tables 𝓤 H) → Triple 𝓤 (𝓣 .C #tables·pick) (Pick 𝓤 H A mem run) → ent 𝓤 (onEntry 𝓤 H A fn.signature (κ, tt) (q, tt) x at)
-      (WpFn 𝓤 H (𝓣 .C) (𝓣 .Λ) code.function (sliceVal (b, o) (length ys) ∷ valOf17 xs ∷ []) Post)
+      (WpFn 𝓤 H (𝓣 .C) (𝓣 .Λ) code.function (sliceVal (b, o) (length ys) ∷ valOfRows xs ∷ []) Post)
   walk 𝓣 known =
-      qed W ((‵ (flft κ q) ⊛ ‵ ftrue) ∷ ‵ (owns (MutSlice (named 0) κ R ∷ R17 ∷ []) x at) ∷ []) ∵ enter ! (𝓣 .C) (𝓣 .Λ) code.function (sliceVal (b, o) (length ys) ∷ valOf17 xs ∷ []) _ $
+      qed W ((‵ (flft κ q) ⊛ ‵ ftrue) ∷ ‵ (owns (MutSlice (named 0) κ R ∷ Rows ∷ []) x at) ∷ []) ∵ enter ! (𝓣 .C) (𝓣 .Λ) code.function (sliceVal (b, o) (length ys) ∷ valOfRows xs ∷ []) _ $
       alloc1 ! (λ l₀. alloc1 ! (λ l₁. alloc1 ! (λ l₂. alloc1 ! (λ l₃. alloc1 ! (λ l₄. alloc1 ! (λ l₅. alloc1 ! (λ l₆. alloc1 ! (λ l₇. alloc0 ! $ params1 ! $
-      pass1 ! (init ! 12 refl (tt, (tt, (record { fits = gn .0 }, tt)))) $ pass1 ! (init ! 10 refl (typed17 𝓤 H A W xs gx)) $ pass0 ! $
+      pass1 ! (init ! 12 refl (tt, (tt, (record { fits = gn .0 }, tt)))) $ pass1 ! (init ! 10 refl (typed-rows 𝓤 H A W xs gx)) $ pass0 ! $
       assigns ! (of-opd ! (lit ! tt)) (from ! (stop !)) (init ! 8 refl (tt, record { fits = lit< tt })) $
       move ! (17 ∷ []) $ fsplit ! $ fsplit ! $ move ! (1 ∷ []) $ fsplit ! $ move ! (20 ∷ []) $ split ! $ move ! (2 ∷ 3 ∷ 0 ∷ []) $ opens-slice ! tt R ys b o $
       -- [the row; the open borrow; obs; auth; true; t's fact; a's; _7 at 7; …; _0 at 21]
       keep ! (0 ∷ 15 ∷ 13 ∷ 11 ∷ 9 ∷ 7 ∷ 19 ∷ 17 ∷ 21 ∷ 1 ∷ 2 ∷ 3 ∷ 22 ∷ 20 ∷ 18 ∷ 16 ∷ 14 ∷ 12 ∷ 10 ∷ 8 ∷ []) $
-      use2 W (some (Turned 𝓣 known l₀ l₁ l₂ l₃ l₄ l₅ l₆ l₇ 17)) (packs 𝓣 known l₀ l₁ l₂ l₃ l₄ l₅ l₆ l₇ 17 0 refl) $ first ! $ blocks ! $
-      loops ! 𝓣 _<_ (Nat·lt-wfRel .wf) (Inv 𝓣 known l₀ l₁ l₂ l₃ l₄ l₅ l₆ l₇) (turn 𝓣 known l₀ l₁ l₂ l₃ l₄ l₅ l₆ l₇) 17))))))))
+      use2 W (some (Turned 𝓣 known l₀ l₁ l₂ l₃ l₄ l₅ l₆ l₇ parties)) (packs 𝓣 known l₀ l₁ l₂ l₃ l₄ l₅ l₆ l₇ parties 0 refl) $ first ! $ blocks ! $
+      loops ! 𝓣 _<_ (Nat·lt-wfRel .wf) (Inv 𝓣 known l₀ l₁ l₂ l₃ l₄ l₅ l₆ l₇) (turn 𝓣 known l₀ l₁ l₂ l₃ l₄ l₅ l₆ l₇) parties))))))))
 
 module _ {M : Type 1} (𝓤 : URA M) (H : Heap 𝓤) (A : Atoms 𝓤) (W : Given 𝓤 H A) (mem : Memory → SProp 𝓤) (run : Routine → Fun 𝓤) (𝓣 : Tables 𝓤 H) (known : Triple 𝓤 (𝓣 .C #tables·pick) (Pick 𝓤 H A mem run)) where
   walks : Walks 𝓤 H A fn.ended stayed (WpFn 𝓤 H (𝓣 .C) (𝓣 .Λ) code.function) (fn.clauses 𝓤 H A mem run)
-  walks = walked 𝓤 H A fn.ended stayed (fn.clauses 𝓤 H A mem run) (WpFn 𝓤 H (𝓣 .C) (𝓣 .Λ) code.function) (λ κs. (slice-vals, (valsOf17, tt))) (λ κs. (mut-slice-tells (named 0) (κs .0) R, (tell17, tt)))
-      (λ κs qs bounds a g are. needs 𝓤 (length (a .0 .now) ≡ 17) _ (λ l17.
-      walk 𝓤 H A W mem run (κs .0) (qs .0) (a .0 .ptr .0) (a .0 .ptr .1) (a .0 .name) (a .0 .now) (a .1 .0) (are .0 .0 .1) (are .1 .0) l17 𝓣 known))
+  walks = walked 𝓤 H A fn.ended stayed (fn.clauses 𝓤 H A mem run) (WpFn 𝓤 H (𝓣 .C) (𝓣 .Λ) code.function) (λ κs. (slice-vals, (valsOfRows, tt))) (λ κs. (mut-slice-tells (named 0) (κs .0) R, (tell-rows, tt)))
+      (λ κs qs bounds a g are. needs 𝓤 (length (a .0 .now) ≡ parties) _ (λ full.
+      walk 𝓤 H A W mem run (κs .0) (qs .0) (a .0 .ptr .0) (a .0 .ptr .1) (a .0 .name) (a .0 .now) (a .1 .0) (are .0 .0 .1) (are .1 .0) full 𝓣 known))
 
   meets : Meets 𝓤 H A fn.signature (WpFn 𝓤 H (𝓣 .C) (𝓣 .Λ) code.function) (fn.spec 𝓤 H A mem run)
-  meets = walk-meets 𝓤 H A fn.ended stayed W (goes-slice 𝓤 H A W 1 0 tt (plain (λ _. R)), (goes-none 𝓤 H A W 1 (λ _. R17) yes (λ κs x f. refl), tt)) (fn.clauses 𝓤 H A mem run)
+  meets = walk-meets 𝓤 H A fn.ended stayed W (goes-slice 𝓤 H A W 1 0 tt (plain (λ _. R)), (goes-none 𝓤 H A W 1 (λ _. Rows) yes (λ κs x f. refl), tt)) (fn.clauses 𝓤 H A mem run)
       (WpFn 𝓤 H (𝓣 .C) (𝓣 .Λ) code.function) (WpFn-mono 𝓤 H (W .laws) 𝓣 code.function) walks
 
 pub save-all-spec : {M : Type 1} → stated.statement M

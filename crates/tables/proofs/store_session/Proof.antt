@@ -36,7 +36,7 @@ use denote.Triple.Spec.{Meets, tripleOf}
 use denote.Triple.Table.{entered}
 use denote.Triple.Walked.{says, needs, Stays, stay-slice, stay-none, walkOf, goes-slice, goes-none, Walks, ends-at, walked, walk-meets}
 use denote.Exit.{yes}
-use Rattle.sessions.specs.Sessions.{idle-session}
+use Rattle.sessions.specs.Sessions.{parties, idle-session}
 use Rattle.sessions.specs.declared.Session.{Session}
 use Rattle.tables.proofs.Row.{R, valOf, valsOf, tell, show, make, typed, index-fits, lies-at, slice-in, homes}
 use Rattle.tables.proofs.store_session.Key.{name as #tables·store-session}
@@ -48,7 +48,7 @@ abbrev stayed : Stays (fn.ended .signature .params) (fn.ended .kept)
 stayed = (stay-slice (0 ∷ []) tt (plain (λ _. R)), (stay-none (λ _. u32) yes, (stay-none (λ _. R) yes, tt)))
 
 module _ {M : Type 1} (𝓤 : URA M) (H : Heap 𝓤) (A : Atoms 𝓤) (W : Given 𝓤 H A) (mem : Memory → SProp 𝓤) (run : Routine → Fun 𝓤) (κ : Lft) (q : Share) (b o : ℕ) (γ : GName) (ys : List Session) (i : ℕ) (s : Session)
-    (gn : Room R (length ys)) (gi : i < 2 ^ 32) (gs : Is R s (valsOf s)) (l17 : length ys ≡ 17) where
+    (gn : Room R (length ys)) (gi : i < 2 ^ 32) (gs : Is R s (valsOf s)) (full : length ys ≡ parties) where
   abbrev ref : List Session → RefT (List Session)
   ref zs = record { ptr = (b, o); name = γ; now = zs }
 
@@ -71,11 +71,11 @@ module _ {M : Type 1} (𝓤 : URA M) (H : Heap 𝓤) (A : Atoms 𝓤) (W : Given
   wide : Fits w64 i
   wide = record { fits = omega (arith, gi) }
 
-  no-seat : 17 ≤ i → length ys ≤ i
-  no-seat l = subst (λ n. n ≤ i) (sym l17) l
+  no-seat : parties ≤ i → length ys ≤ i
+  no-seat l = subst (λ n. n ≤ i) (sym full) l
 
-  a-seat : i < 17 → i < length ys
-  a-seat l = subst (λ n. i < n) (sym l17) l
+  a-seat : i < parties → i < length ys
+  a-seat l = subst (λ n. i < n) (sym full) l
 
   module _ (C : Calls 𝓤 H) (Λ : Loops 𝓤 H) where
     walk : ent 𝓤 (onEntry 𝓤 H A fn.signature (κ, tt) (q, tt) x at) (WpFn 𝓤 H C Λ code.function (sliceVal (b, o) (length ys) ∷ vint w32 i ∷ valOf s ∷ []) Post)
@@ -94,9 +94,9 @@ module _ {M : Type 1} (𝓤 : URA M) (H : Heap 𝓤) (A : Atoms 𝓤) (W : Given
         (λ big. assigns ! (of-opd ! (unit-lit !)) (from ! (stop !)) (init ! 14 refl (tt, tt)) $
         returns-within ! Post refl (look ! 14 refl) $ forget ! 4 refl $ forget ! 6 refl $ forget ! 8 refl $ forget ! 10 refl $ forget ! 12 refl $ forget ! 14 refl $
         move ! (14 ∷ 15 ∷ []) $ free1 ! $ move ! (12 ∷ 13 ∷ []) $ free1 ! $ move ! (10 ∷ 11 ∷ []) $ free1 ! $ move ! (8 ∷ 9 ∷ []) $ free1 ! $ move ! (6 ∷ 7 ∷ []) $ free1 ! $ move ! (4 ∷ 5 ∷ []) $ free1 ! $ move ! (2 ∷ 3 ∷ []) $ free1 ! $ free1 ! $ free0 ! $
-        by ! (exits ys refl (sym (set-out ys i s (no-seat (leb→le 17 i big))))))
+        by ! (exits ys refl (sym (set-out ys i s (no-seat (leb→le parties i big))))))
         -- a party's
-        (λ small. let l = a-seat (nleb→lt 17 i small) in skips ! $ exec ! C Λ En code.Mir.t-4 (atRet En Post) $
+        (λ small. let l = a-seat (nleb→lt parties i small) in skips ! $ exec ! C Λ En code.Mir.t-4 (atRet En Post) $
         assigns ! (bin ! (load ! (from ! (stop !)) (look ! 6 refl)) (lit ! tt) (index-fits i (length ys) l gn)) (from ! (stop !)) (init ! 2 refl (tt, index-fits i (length ys) l gn)) $
         assigns ! (bin ! (load ! (from ! (fld ! refl (stop !))) (look-in ! 12 (sub ! 0 refl (whole !)))) (load ! (from ! (stop !)) (look ! 2 refl)) tt) (from ! (stop !)) (init ! 0 refl (tt, tt)) $
         rewrite ! 0 (λ (p : ℕ). ‵ (fat fullShare tyPtr l₇ 0 (vptr b p))) (lies-at o i) refl $
@@ -115,8 +115,8 @@ module _ {M : Type 1} (𝓤 : URA M) (H : Heap 𝓤) (A : Atoms 𝓤) (W : Given
 module _ {M : Type 1} (𝓤 : URA M) (H : Heap 𝓤) (A : Atoms 𝓤) (W : Given 𝓤 H A) (mem : Memory → SProp 𝓤) (run : Routine → Fun 𝓤) (𝓣 : Tables 𝓤 H) where
   walks : Walks 𝓤 H A fn.ended stayed (WpFn 𝓤 H (𝓣 .C) (𝓣 .Λ) code.function) (fn.clauses 𝓤 H A mem run)
   walks = walked 𝓤 H A fn.ended stayed (fn.clauses 𝓤 H A mem run) (WpFn 𝓤 H (𝓣 .C) (𝓣 .Λ) code.function) (λ κs. (slice-vals, (uint-vals w32, (valsOf, tt)))) (λ κs. (mut-slice-tells (named 0) (κs .0) R, (uint-tells w32, (tell, tt))))
-      (λ κs qs bounds a g are. needs 𝓤 (length (a .0 .now) ≡ 17) _ (λ l17.
-      walk 𝓤 H A W mem run (κs .0) (qs .0) (a .0 .ptr .0) (a .0 .ptr .1) (a .0 .name) (a .0 .now) (a .1 .0) (a .1 .1 .0) (are .0 .0 .1) (are .1 .0 .1) (are .1 .1 .0) l17 (𝓣 .C) (𝓣 .Λ)))
+      (λ κs qs bounds a g are. needs 𝓤 (length (a .0 .now) ≡ parties) _ (λ full.
+      walk 𝓤 H A W mem run (κs .0) (qs .0) (a .0 .ptr .0) (a .0 .ptr .1) (a .0 .name) (a .0 .now) (a .1 .0) (a .1 .1 .0) (are .0 .0 .1) (are .1 .0 .1) (are .1 .1 .0) full (𝓣 .C) (𝓣 .Λ)))
 
   meets : Meets 𝓤 H A fn.signature (WpFn 𝓤 H (𝓣 .C) (𝓣 .Λ) code.function) (fn.spec 𝓤 H A mem run)
   meets = walk-meets 𝓤 H A fn.ended stayed W (goes-slice 𝓤 H A W 1 0 tt (plain (λ _. R)), (goes-none 𝓤 H A W 1 (λ _. u32) yes (λ κs x f. refl), (goes-none 𝓤 H A W 1 (λ _. R) yes (λ κs x f. refl), tt))) (fn.clauses 𝓤 H A mem run)
