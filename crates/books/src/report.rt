@@ -93,29 +93,15 @@ the soundness of a damaged copy
     );
 }
 
-// The line in whose place the number of line n stands: the model counts some events in another order, and a list is compared at each call.
-fn counter(n: u32) -> u32 {
-    match n {
-        42 => 49,
-        43 => 46,
-        44 => 47,
-        45 => 48,
-        46 => 42,
-        47 => 43,
-        48 => 44,
-        49 => 45,
-        53 => 0,
-        _ => n,
-    }
-}
-
-// The number of line n: from 22 to 50 an event of the model.
+// The number of line n: from 22 to 50 an event of the model; 53 is how often the lists were compared, which is at each call.
 fn number(a: &Model, b: &Book, n: u32) -> u32 {
-    let k = counter(n);
-    if 21 < k && k < 51 {
-        return naive::counted(a, k - 22);
+    if 21 < n && n < 51 {
+        return naive::counted(a, n - 22);
     }
-    get(b, LINES + wide(k))
+    if n == 53 {
+        return get(b, LINES);
+    }
+    get(b, LINES + wide(n))
 }
 
 fn tell_row(a: &Model, b: &Book, n: u32) {

@@ -2,7 +2,7 @@
 -- is done keeps every key of its range held until its session ends, and no step of tidy or of a descent changes a holder.
 use mathlib.Core.Path.{_≡_, refl, sym, ap₂, _∙_, subst, ap}
 use mathlib.Core.Bool.{Bool, true, false, not, _&&_, _||_, or-false, and-true, and-false}
-use mathlib.Core.List.{List, [], _∷_, _++_}
+use mathlib.Core.List.{List, [], _∷_, _++_, map}
 use mathlib.Core.Option.{Option, none, some, Option·some-injective}
 use Prim.Native.Nat.{zero, suc, _≤_, ℕ}
 use native.Mathlib.Decide.{ℕ-discrete}
@@ -21,7 +21,7 @@ use Rattle.machine.specs.Logic.{eqb-yes, eqb-no, not-false}
 use Rattle.machine.specs.Holders.{width}
 use Rattle.machine.specs.State.{Stage, start, enter, change, take, Request, State, Outcome, sessionOf, fresh, Answer, at, wait, ok, done, refused, more}
 use Rattle.machine.specs.Steps.{next-step}
-use Rattle.machine.specs.Calls.{steps, bad-code, is-some, step-checks, has-begun, records-for, play, Call, call, begin, put, commit, abort, format, step}
+use Rattle.machine.specs.Calls.{steps, bad-code, is-some, step-checks, has-begun, records-for, Call, call, begin, put, commit, abort, format, step}
 use Rattle.machine.specs.View.{items, holders, view, same-refl, same-unseen}
 use Rattle.machine.specs.Sound.{of-hand, Sound}
 use Rattle.machine.specs.Housekeeping.{like-unseen, at-step-like, enter-step-like}
@@ -183,17 +183,24 @@ ledger-step (put p c e f g) s S = put-ledger p c e f g s (call (put p c e f g) s
 ledger-step (commit p) s S = commit-ledger p s (call (commit p) s) (moves (commit p) s (safe-of s S))
 ledger-step (abort p) s S = abort-ledger p s (call (abort p) s) (moves (abort p) s (safe-of s S))
 
-run-ledger : (cs : List Call) (s : State) (l : Ledger) → Sound s → ((k : Kind) (m : Mode) (q z : ℕ) → holders s k m q z ≡ l k m q z)
-    → (k : Kind) (m : Mode) (q z : ℕ) → holders (play cs s .1) k m q z ≡ ledger-after l cs s k m q z
-unfolding play ledger-after
-run-ledger [] s l S h = h
-run-ledger (c ∷ cs) s l S h = run-ledger cs (call c s .next) (next-ledger l s c (call c s)) (keeps c s S)
-    (λ k m q z. ledger-step c s S k m q z ∙ ap (λ b. not (ended-by c (call c s) q) && (b || granted s c (call c s) k m q z)) (h k m q z))
+-- The calls of a list of turns, on a store of so many words.
+abbrev pub calls-on : ℕ → List Turn → List Call
+calls-on n ks = map (λ k. call-of (k .call) n) ks
 
--- Any list of calls from a fresh store, where nobody holds anything.
-pub ledger-run : (entries records : ℕ) → Sound (fresh entries records) → (cs : List Call)
-    → (k : Kind) (m : Mode) (q z : ℕ) → holders (play cs (fresh entries records) .1) k m q z ≡ ledger-after no-locks cs (fresh entries records) k m q z
-ledger-run e r S cs = run-ledger cs (fresh e r) no-locks S (fresh-formatted e r .no-holds)
+-- Any list of turns from a sound state whose holders a ledger has.
+pub ledger-run : {x y : Lent} {ks : List Turn} → Run machine x ks y → Sound (x .state) → (l : Ledger) → ((k : Kind) (m : Mode) (q z : ℕ) → holders (x .state) k m q z ≡ l k m q z)
+    → (k : Kind) (m : Mode) (q z : ℕ) → holders (y .state) k m q z ≡ ledger-after l (calls-on (x .words) ks) (x .state) k m q z
+unfolding ledger-after
+ledger-run C.stop S l h = h
+ledger-run (C.next {x} {y} {z} {k} {ks} d r) S l h = λ e m q v.
+    let c = call-of (k .call) (x .words) in
+    let o = call c (x .state) in
+    let next = next-ledger l (x .state) c o in
+    let sound : Sound (y .state) = subst Sound (sym (d .state-is)) (keeps c (x .state) S) in
+    let here : (e : Kind) (m : Mode) (q v : ℕ) → holders (y .state) e m q v ≡ next e m q v =
+    λ e m q v. ap (λ s. holders s e m q v) (d .state-is) ∙ ledger-step c (x .state) S e m q v ∙ ap (λ b. not (ended-by c o q) && (b || granted (x .state) c o e m q v)) (h e m q v) in
+    ledger-run r sound next here e m q v
+    ∙ ap (λ s. ledger-after next (calls-on (y .words) ks) s e m q v) (d .state-is) ∙ ap (λ n. ledger-after next (calls-on n ks) (o .next) e m q v) (d .words-same)
 
 -- ---- tidy and descents
 

@@ -56,7 +56,6 @@ use naive_tree::arrays::KEYS;
 use naive_tree::arrays::LEVELS;
 use naive_tree::arrays::LOCATES;
 use naive_tree::arrays::M;
-use naive_tree::arrays::NO_EVENT;
 use naive_tree::arrays::NODES;
 use naive_tree::arrays::NOWHERE;
 use naive_tree::arrays::PARTIES;
@@ -78,6 +77,9 @@ use naive_tree::arrays::raise;
 use naive_tree::arrays::set;
 use naive_tree::arrays::set_field;
 use naive_tree::arrays::set_fields;
+use naive_tree::events::ABORT_IN_HAND;
+use naive_tree::events::COMMIT_WITH_UNDOS;
+use naive_tree::events::NO_EVENT;
 pub use naive_tree::keys::free;
 pub use naive_tree::keys::is_stored as stored;
 pub use naive_tree::keys::locate_holders;
@@ -275,8 +277,13 @@ fn end(a: &mut Words, p: u32, to: u32) -> Said {
     let is_cut = is_in_hand(a, p);
     let is_abort = to != IDLE;
     let count = end_records(a, p, is_abort);
-    raise(a, COUNTERS, 23, is_cut as u32);
-    raise(a, COUNTERS, 28, (!is_abort & (count != 0)) as u32);
+    raise(a, COUNTERS, ABORT_IN_HAND, is_cut as u32);
+    raise(
+        a,
+        COUNTERS,
+        COMMIT_WITH_UNDOS,
+        (!is_abort & (count != 0)) as u32,
+    );
     clear_bits(a, LOCATES, NOWHERE - LOCATES, bit(p));
     reply(a, p, NO_EVENT, NONE, OK, 0, 0)
 }

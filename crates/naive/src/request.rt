@@ -25,7 +25,6 @@ use naive_tree::arrays::GROUPS;
 use naive_tree::arrays::KEYS;
 use naive_tree::arrays::LAST;
 use naive_tree::arrays::LOCATES;
-use naive_tree::arrays::NO_EVENT;
 use naive_tree::arrays::NOWHERE;
 use naive_tree::arrays::SECOND;
 use naive_tree::arrays::SHARES;
@@ -39,6 +38,19 @@ use naive_tree::arrays::get;
 use naive_tree::arrays::minus;
 use naive_tree::arrays::plus;
 use naive_tree::arrays::set_field;
+use naive_tree::events::ADDED;
+use naive_tree::events::ENTRY_WAIT;
+use naive_tree::events::INSERT_UNDONE;
+use naive_tree::events::KEY_TAKEN;
+use naive_tree::events::KEY_WAIT;
+use naive_tree::events::LOCATE_DONE;
+use naive_tree::events::NO_EVENT;
+use naive_tree::events::NOTHING_ABOVE;
+use naive_tree::events::READ_DONE;
+use naive_tree::events::TAKEN_OUT;
+use naive_tree::events::VALUE_UNDONE;
+use naive_tree::events::WAS_ABSENT;
+use naive_tree::events::WRITE_DONE;
 use naive_tree::keys::count_members;
 use naive_tree::keys::place;
 use naive_tree::keys::rank;
@@ -74,7 +86,7 @@ pub fn entry_plan(a: &Words, p: u32) -> Plan {
     let holders = unless(is_read, get(a, SHARES, i)) | get(a, EXCLUSIVES, i);
     Plan {
         parties: others(holders, p),
-        event: 24,
+        event: ENTRY_WAIT,
         refusal: lack(a, (code == WRITE) as u32),
         beside: 0,
         lock: plus(minus(EXCLUSIVES, (is_read as u32) << 5), i),
@@ -85,10 +97,10 @@ pub fn entry_plan(a: &Words, p: u32) -> Plan {
 // becomes the undo record.
 pub fn group_plan(a: &Words, p: u32) -> Plan {
     let i = group_of(a, p);
-    let is_new = change_event(a, p) == 13;
+    let is_new = change_event(a, p) == ADDED;
     Plan {
         parties: others(get(a, LOCATES, i) | get(a, UPDATES, i), p),
-        event: 25,
+        event: KEY_WAIT,
         refusal: lack(a, (is_new as u32) << 1),
         beside: 0,
         lock: plus(UPDATES, i),
@@ -102,7 +114,7 @@ pub fn key_plan(a: &Words, p: u32, room: usize) -> Plan {
     let is_short = is_last(a, p) & (room < plus(count, count) as usize);
     Plan {
         parties: others(get(a, UPDATES, i), p),
-        event: 25,
+        event: KEY_WAIT,
         refusal: unless(!is_short, 12),
         beside: count,
         lock: plus(LOCATES, i),
@@ -122,9 +134,9 @@ fn found(a: &Words, p: u32) -> u32 {
 // The event that counts a request that is done in its first step: a tidy with nothing above its first, a read, a write.
 fn start_event(code: u32) -> u32 {
     match code {
-        READ => 17,
-        WRITE => 18,
-        _ => 12,
+        READ => READ_DONE,
+        WRITE => WRITE_DONE,
+        _ => NOTHING_ABOVE,
     }
 }
 
@@ -138,7 +150,7 @@ pub fn start(a: &mut Words, p: u32) -> Said {
     let value = get(a, VALUES, i);
     if code == WRITE {
         let new = field(a, p, FIRST);
-        change_word(a, p, 20, VALUES, i, new);
+        change_word(a, p, VALUE_UNDONE, VALUES, i, new);
     }
     reply(
         a,
@@ -156,13 +168,13 @@ fn turned(a: &Words, p: u32) -> u32 {
     get(a, GROUPS, group_of(a, p)) ^ bit(field(a, p, ENTRY))
 }
 
-// The event that counts an insert or remove: 13 of an entry that comes in, 14 of one that is in, 15 of one that goes out, 16 of one that is out.
+// The event that counts an insert or remove: of an entry that comes in, or is in; of one that goes out, or is out.
 fn change_event(a: &Words, p: u32) -> u32 {
     let is_member = turned(a, p) < get(a, GROUPS, group_of(a, p));
     if field(a, p, CODE) == INSERT {
-        return plus(13, is_member as u32);
+        return plus(ADDED, is_member as u32);
     }
-    minus(16, is_member as u32)
+    minus(WAS_ABSENT, is_member as u32)
 }
 
 // The last step of an insert or remove, with the group's lock.
@@ -171,7 +183,14 @@ pub fn change(a: &mut Words, p: u32) -> Said {
     if event % 2 == 1 {
         let key = field(a, p, FIRST);
         let group = turned(a, p);
-        change_word(a, p, plus(21, (event == 15) as u32), GROUPS, key, group);
+        change_word(
+            a,
+            p,
+            plus(INSERT_UNDONE, (event == TAKEN_OUT) as u32),
+            GROUPS,
+            key,
+            group,
+        );
     }
     reply(a, p, event, IDLE, DONE, event % 2, 0)
 }
@@ -180,7 +199,7 @@ pub fn change(a: &mut Words, p: u32) -> Said {
 pub fn take(a: &mut Words, p: u32) -> Said {
     if is_last(a, p) {
         let count = found(a, p);
-        return reply(a, p, 19, IDLE, DONE, count, 0);
+        return reply(a, p, LOCATE_DONE, IDLE, DONE, count, 0);
     }
     let i = next_of(a, p);
     take_gap(a, p, i)
@@ -190,7 +209,7 @@ fn take_gap(a: &mut Words, p: u32, i: u32) -> Said {
     let key = get(a, KEYS, i);
     add_bits(a, GAPS, i, bit(p));
     set_field(a, p, LAST, key);
-    reply(a, p, 27, TAKE, MORE, 0, 0)
+    reply(a, p, KEY_TAKEN, TAKE, MORE, 0, 0)
 }
 
 // Word k of a list of all entries of all groups, each with its key before it; 0 for those that are no members.

@@ -22,7 +22,6 @@ use naive_tree::arrays::GROUPS;
 use naive_tree::arrays::HEADER;
 use naive_tree::arrays::LEVELS;
 use naive_tree::arrays::LOCATES;
-use naive_tree::arrays::NO_EVENT;
 use naive_tree::arrays::NOWHERE;
 use naive_tree::arrays::ROOT;
 use naive_tree::arrays::SECOND;
@@ -37,6 +36,17 @@ use naive_tree::arrays::plus;
 use naive_tree::arrays::raise;
 use naive_tree::arrays::set;
 use naive_tree::arrays::set_field;
+use naive_tree::events::DECLINED;
+use naive_tree::events::DROPPED_AND_SPLIT;
+use naive_tree::events::JOIN;
+use naive_tree::events::LATCH_WAIT;
+use naive_tree::events::MADE;
+use naive_tree::events::MADE_IN_HELD_GAP;
+use naive_tree::events::MOVE;
+use naive_tree::events::NO_EVENT;
+use naive_tree::events::NODE_SPLIT;
+use naive_tree::events::ROOT_DROPPED;
+use naive_tree::events::ROOT_SPLIT;
 use naive_tree::keys::gap_below;
 use naive_tree::keys::is_stored;
 use naive_tree::keys::place;
@@ -49,14 +59,6 @@ use naive_tree::tree::move_one;
 use naive_tree::tree::remove_descriptor;
 use naive_tree::tree::split;
 use naive_tree::tree::split_root;
-
-// What is done to a node before a party enters it, by its event: a session splits a full one; the housekeeper joins one with three sons with its left
-// neighbour or with its right one, or moves a son to it from one of them.
-const SPLIT: u32 = 1;
-
-const JOIN: u32 = 2;
-
-const MOVE: u32 = 4;
 
 // Must a session split the node that it enters?
 fn is_full(a: &Words, p: u32, n: u32) -> bool {
@@ -83,11 +85,12 @@ fn sided(event: u32, at: u32) -> u32 {
     plus(event, (at % 8 == 0) as u32)
 }
 
-// What is done to the node at a place before the party enters it.
+// What is done to the node at a place before the party enters it, by its event: a session splits a full one; the housekeeper joins one with three sons
+// with its left neighbour or with its right one, or moves a son to it from one of them.
 fn due(a: &Words, p: u32, at: u32) -> u32 {
     let n = get(a, CHILDREN, at);
     if is_full(a, p, n) {
-        return SPLIT;
+        return NODE_SPLIT;
     }
     if (p != 0) | (get(a, FANOUTS, n) != 3) {
         return NO_EVENT;
@@ -113,7 +116,7 @@ pub fn root_plan(a: &Words, p: u32) -> Plan {
     let is_full = is_full(a, p, n);
     Plan {
         parties: latched_by_others(a, p, top) | latched_by_others(a, p, n),
-        event: 26,
+        event: LATCH_WAIT,
         refusal: lack(a, plus(is_full as u32, (is_full & (n == top)) as u32)),
         beside: 0,
         lock: NOWHERE,
@@ -126,7 +129,7 @@ pub fn way_plan(a: &Words, p: u32, n: u32) -> Plan {
         let is_new = (p != 0) & !is_stored(a, field(a, p, TARGET));
         return Plan {
             parties: 0,
-            event: 26,
+            event: LATCH_WAIT,
             refusal: lack(a, is_new as u32),
             beside: 0,
             lock: NOWHERE,
@@ -138,8 +141,8 @@ pub fn way_plan(a: &Words, p: u32, n: u32) -> Plan {
     Plan {
         parties: latched_by_others(a, p, get(a, CHILDREN, at))
             | latched_by_others(a, p, get(a, CHILDREN, other)),
-        event: 26,
-        refusal: lack(a, (event == SPLIT) as u32),
+        event: LATCH_WAIT,
+        refusal: lack(a, (event == NODE_SPLIT) as u32),
         beside: 0,
         lock: NOWHERE,
     }
@@ -152,7 +155,7 @@ pub fn enter(a: &mut Words, p: u32) -> Said {
     drop_root(a, n, is_full);
     if is_full {
         let top = split_root(a, n);
-        return enter_son(a, p, 0, top);
+        return enter_son(a, p, ROOT_SPLIT, top);
     }
     reply(a, p, NO_EVENT, plus(AT, n), MORE, 0, 0)
 }
@@ -161,8 +164,8 @@ pub fn enter(a: &mut Words, p: u32) -> Said {
 fn drop_root(a: &mut Words, n: u32, is_split: bool) {
     let top = get(a, HEADER, ROOT);
     if top != n {
-        note(a, 6);
-        raise(a, COUNTERS, 7, is_split as u32);
+        note(a, ROOT_DROPPED);
+        raise(a, COUNTERS, DROPPED_AND_SPLIT, is_split as u32);
         free_node(a, top);
         set(a, HEADER, ROOT, n);
     }
@@ -188,7 +191,7 @@ pub fn go_down(a: &mut Words, p: u32, n: u32) -> Said {
 
 // Does to the node at a place what is due.
 fn rebuild(a: &mut Words, at: u32, event: u32) {
-    if event == SPLIT {
+    if event == NODE_SPLIT {
         split(a, at);
     }
     if minus(event, JOIN) < 2 {
@@ -213,8 +216,8 @@ fn arrive(a: &mut Words, p: u32, n: u32) -> Said {
 
 fn make_descriptor(a: &mut Words, n: u32, key: u32) {
     let holders = gap_below(a, key);
-    note(a, 8);
-    raise(a, COUNTERS, 9, (holders != 0) as u32);
+    note(a, MADE);
+    raise(a, COUNTERS, MADE_IN_HELD_GAP, (holders != 0) as u32);
     add_descriptor(a, n, key, holders);
 }
 
@@ -253,5 +256,5 @@ fn tidy(a: &mut Words, n: u32, key: u32) -> Said {
         remove_descriptor(a, n, key);
     }
     let removed = is_useless as u32;
-    reply(a, 0, minus(11, removed), IDLE, DONE, key, removed)
+    reply(a, 0, minus(DECLINED, removed), IDLE, DONE, key, removed)
 }

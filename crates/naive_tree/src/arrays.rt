@@ -95,10 +95,8 @@ pub const TARGET: u32 = 5;
 
 pub const LAST: u32 = 6;
 
-// A number that is added to take one away, the number of no event, and an element that no array has.
+// A number that is added to take one away, and an element that no array has.
 pub const LESS: u32 = 4294967295;
-
-pub const NO_EVENT: u32 = 4294967295;
 
 pub const NOWHERE: u32 = 68376;
 
@@ -128,7 +126,7 @@ pub fn add_bits(a: &mut Words, base: u32, i: u32, bits: u32) {
     set(a, base, i, x);
 }
 
-// Counts an event, by the numbers that `counted` takes.
+// Counts an event.
 pub fn note(a: &mut Words, event: u32) {
     raise(a, COUNTERS, event, 1);
 }

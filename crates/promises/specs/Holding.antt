@@ -1,8 +1,8 @@
 -- Demand 2 of the words over every list of calls: for every entry and every key, empty ones too, the holders read from the store are the sessions that were
 -- granted it since format; and a locate that is done holds every key of its range until its session ends.
 use mathlib.Core.Path.{_≡_, refl, sym, ap, subst, _∙_}
-use mathlib.Core.Bool.{true, not, _&&_, _||_}
-use mathlib.Core.List.{List, [], _∷_, _++_, map}
+use mathlib.Core.Bool.{true}
+use mathlib.Core.List.{List, _∷_, _++_}
 use Prim.Native.Nat.{ℕ, _≤_}
 use lib.ListN.{length}
 use Rattle.sessions.specs.declared.Session.{Session}
@@ -11,41 +11,20 @@ use Rattle.serial.specs.Locks as L
 use Rattle.serial.specs.Calls.{Turn, Run}
 use Rattle.serial.specs.Calls as C
 use Rattle.machine.specs.State.{State, fresh}
-use Rattle.machine.specs.Calls.{Call, call, records-for}
+use Rattle.machine.specs.Calls.{records-for}
 use Rattle.machine.specs.Sound as S
 use Rattle.machine.specs.View.{holders}
-use Rattle.machine.specs.Keeping.{keeps}
-use Rattle.machine.specs.Ledger.{Ledger, no-locks, granted, ended-by, next-ledger, ledger-after}
-use Rattle.machine.specs.Held.{ledger-step, Lasts, LocateDone, located-held}
-use Rattle.machine.specs.Demand.{Lent, call-of, machine, fresh-formatted}
+use Rattle.machine.specs.Ledger.{Ledger, no-locks, ledger-after}
+use Rattle.machine.specs.Held.{calls-on, ledger-run, Lasts, LocateDone, located-held}
+use Rattle.machine.specs.Demand.{machine, fresh-formatted}
 use Rattle.meaning.specs.Reading.{meaning}
 use Rattle.meaning.specs.Sound.{Sound}
 use Rattle.promises.specs.Relations.{Formats}
 use Rattle.promises.specs.Demands.{Lending, words, lent, runs-performed}
 
--- The calls of a list of turns, on a store of so many words.
-abbrev pub calls-on : ℕ → List Turn → List Call
-calls-on n ks = map (λ k. call-of (k .call) n) ks
-
 -- The holders read from what the host lends.
 abbrev pub holders-in : Lending → Ledger
 holders-in x = holders (meaning (x .store) (x .table))
-
--- ---- of the machine
-
-run-ledger : {x y : Lent} {ks : List Turn} → Run machine x ks y → S.Sound (x .state) → (l : Ledger) → ((k : Kind) (m : Mode) (q z : ℕ) → holders (x .state) k m q z ≡ l k m q z)
-    → (k : Kind) (m : Mode) (q z : ℕ) → holders (y .state) k m q z ≡ ledger-after l (calls-on (x .words) ks) (x .state) k m q z
-unfolding ledger-after
-run-ledger C.stop A l h = h
-run-ledger (C.next {x} {y} {z} {k} {ks} d r) A l h = λ e m q v.
-    let c = call-of (k .call) (x .words) in
-    let o = call c (x .state) in
-    let next = next-ledger l (x .state) c o in
-    let sound : S.Sound (y .state) = subst S.Sound (sym (d .state-is)) (keeps c (x .state) A) in
-    let here : (e : Kind) (m : Mode) (q v : ℕ) → holders (y .state) e m q v ≡ next e m q v =
-    λ e m q v. ap (λ s. holders s e m q v) (d .state-is) ∙ ledger-step c (x .state) A e m q v ∙ ap (λ b. not (ended-by c o q) && (b || granted (x .state) c o e m q v)) (h e m q v) in
-    run-ledger r sound next here e m q v
-    ∙ ap (λ s. ledger-after next (calls-on (y .words) ks) s e m q v) (d .state-is) ∙ ap (λ n. ledger-after next (calls-on n ks) (o .next) e m q v) (d .words-same)
 
 -- ---- of the words, from a store as an accepted format leaves it
 
@@ -66,7 +45,7 @@ module _ (m : ℕ) (s s′ : List ℕ) (t t′ : List Session) (F : Formats m s 
   pub holders-run : (ks : List Turn) (y : Lending) → Run words start ks y → (k : Kind) (i : Mode) (q z : ℕ)
       → holders-in y k i q z ≡ ledger-after no-locks (calls-on (length s) ks) first k i q z
   holders-run ks y run k i q z =
-      run-ledger (runs-performed sound run) (sound .state) no-locks (λ k i q z. ap (λ v. holders v k i q z) means ∙ fresh-formatted m (records-for m (length s)) .no-holds k i q z) k i q z
+      ledger-run (runs-performed sound run) (sound .state) no-locks (λ k i q z. ap (λ v. holders v k i q z) means ∙ fresh-formatted m (records-for m (length s)) .no-holds k i q z) k i q z
       ∙ ap (λ v. ledger-after no-locks (calls-on (length s′) ks) v k i q z) means ∙ ap (λ n. ledger-after no-locks (calls-on n ks) first k i q z) (F .long)
 
   -- By calls and answers alone: once a locate of session p is done, it holds every key of its range, stored or not, until its end.

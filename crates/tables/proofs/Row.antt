@@ -60,9 +60,9 @@ module _ {M : Type 1} (𝓤 : URA M) (H : Heap 𝓤) (A : Atoms 𝓤) where
 pub spelled : (s : Session) (v : Val) → Is R s (v ∷ []) → Is R s (valsOf s)
 spelled s v g = subst (Is R s) (tell s (v ∷ []) g) g
 
--- ---- 17 of them by value
+-- ---- one for each party, by value
 abbrev pub Rows : RattleType
-Rows = Array R 17
+Rows = Array R parties
 
 abbrev pub valsOfRows : List Session → List Val
 valsOfRows = array-vals valsOf

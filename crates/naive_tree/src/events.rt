@@ -1,0 +1,60 @@
+// Events: what the model counts, in the order in which they are reported. A counter of that number in the array COUNTERS says how often each was.
+
+pub const ROOT_SPLIT: u32 = 0;
+
+pub const NODE_SPLIT: u32 = 1;
+
+// With the left neighbour; the number of the right one is one more.
+pub const JOIN: u32 = 2;
+
+pub const MOVE: u32 = 4;
+
+pub const ROOT_DROPPED: u32 = 6;
+
+// In one step; counted as each of the two as well.
+pub const DROPPED_AND_SPLIT: u32 = 7;
+
+pub const MADE: u32 = 8;
+
+pub const MADE_IN_HELD_GAP: u32 = 9;
+
+pub const TIDIED: u32 = 10;
+
+pub const DECLINED: u32 = 11;
+
+pub const NOTHING_ABOVE: u32 = 12;
+
+// Inserts and removes: those that change the group have odd numbers.
+pub const ADDED: u32 = 13;
+
+pub const WAS_MEMBER: u32 = 14;
+
+pub const TAKEN_OUT: u32 = 15;
+
+pub const WAS_ABSENT: u32 = 16;
+
+pub const READ_DONE: u32 = 17;
+
+pub const WRITE_DONE: u32 = 18;
+
+pub const LOCATE_DONE: u32 = 19;
+
+pub const KEY_TAKEN: u32 = 20;
+
+pub const ENTRY_WAIT: u32 = 21;
+
+pub const KEY_WAIT: u32 = 22;
+
+pub const LATCH_WAIT: u32 = 23;
+
+pub const VALUE_UNDONE: u32 = 24;
+
+pub const INSERT_UNDONE: u32 = 25;
+
+pub const REMOVE_UNDONE: u32 = 26;
+
+pub const ABORT_IN_HAND: u32 = 27;
+
+pub const COMMIT_WITH_UNDOS: u32 = 28;
+
+pub const NO_EVENT: u32 = 4294967295;
