@@ -9,48 +9,9 @@ use Rattle.machine.specs.Holders.{width}
 use Rattle.machine.specs.Sound.{times}
 use Rattle.meaning.specs.Reading.{Leaf, numbers}
 use Rattle.meaning.specs.Sound.{All, Once}
-use Rattle.meaning.specs.Numbers.{all-as, one-is, one-not, apart-times}
+use Rattle.meaning.specs.Numbers.{all-as, one-is, apart-times}
+use Rattle.meaning.specs.Counts.{count-all, count-most, count-ones}
 use Rattle.layout.specs.Layout.{Undone, Lay, Owned, leaves-in, firsts, undo-numbers, members-of, undos-from, all-records}
-
--- ---- as many as there are places
-
--- How many of l are among 1 to r.
-count : ℕ → List ℕ → ℕ
-count zero l = 0
-count (suc r) l = times (suc r) l + count r l
-
-count-none : (r : ℕ) → count r [] ≡ 0
-unfolding count
-count-none zero = refl
-count-none (suc r) = omega (arith, count-none r)
-
-count-past : (r x : ℕ) (l : List ℕ) → r < x → count r (x ∷ l) ≡ count r l
-unfolding count
-count-past zero x l h = refl
-count-past (suc r) x l h = omega (arith, one-not x (suc r) (λ e. omega (arith, e, h)), count-past r x l (omega (arith, h)))
-
-count-one : (r x : ℕ) (l : List ℕ) → 1 ≤ x → x ≤ r → count r (x ∷ l) ≡ 1 + count r l
-unfolding count
-count-one zero x l a b = absurd (omega (arith, a, b))
-count-one (suc r) x l a b = go (ℕ-discrete x (suc r)) (count-one r x l a)
-  where
-    go : Dec (x ≡ suc r) → (x ≤ r → count r (x ∷ l) ≡ 1 + count r l) → times (suc r) (x ∷ l) + count r (x ∷ l) ≡ 1 + (times (suc r) l + count r l)
-    go (yes e) ih = omega (arith, one-is x (suc r) e, count-past r x l (omega (arith, e)))
-    go (no n) ih = omega (arith, one-not x (suc r) n, ih (omega (arith, n, b)))
-
-count-all : (r : ℕ) (l : List ℕ) → All (λ i. (1 ≤ i) × (i ≤ r)) l → count r l ≡ length l
-count-all r [] p = count-none r
-count-all r (x ∷ l) p = omega (arith, count-one r x l (p .0 .0) (p .0 .1), count-all r l (p .1))
-
-count-ones : (r : ℕ) (l : List ℕ) → ((k : ℕ) → 1 ≤ k → k ≤ r → times k l ≡ 1) → count r l ≡ r
-unfolding count
-count-ones zero l h = refl
-count-ones (suc r) l h = omega (arith, h (suc r) (omega arith) (omega arith), count-ones r l (λ k a b. h k a (omega (arith, b))))
-
-count-most : (r : ℕ) (l : List ℕ) → ((k : ℕ) → times k l ≤ 1) → count r l ≤ r
-unfolding count
-count-most zero l h = omega arith
-count-most (suc r) l h = omega (arith, h (suc r), count-most r l h)
 
 -- Numbers from 1 to r, none twice, are at most r.
 pub short : (r : ℕ) (l : List ℕ) → All (λ i. (1 ≤ i) × (i ≤ r)) l → ((k : ℕ) → times k l ≤ 1) → length l ≤ r
@@ -95,6 +56,9 @@ module _ (L : Lay) (O : Owned L) where
 
   most : length (all-records L) ≤ L .records
   most = omega (arith, count-all (L .records) (all-records L) (O .no-other), count-ones (L .records) (all-records L) (O .once))
+
+  pub tree-short : length tree-part ≤ L .records
+  tree-short = omega (arith, most, parts (length (all-records L)) refl)
 
   pub free-short : length (L .free) ≤ L .records
   free-short = omega (arith, most, parts (length (all-records L)) refl)

@@ -1,6 +1,8 @@
 pub mod Reading
 pub mod Sound
 pub mod Numbers
+pub mod Counts
+pub mod Heights
 pub mod Frame
 pub mod Parts
 pub mod Writes

@@ -14,6 +14,7 @@ use Rattle.machine.specs.State.{Desc, top}
 use Rattle.machine.specs.Sound.{Shaped, stored-in}
 use Rattle.meaning.specs.Reading.{Numbered, Chained, read-tree, erase, numbers, node-numbers, height-of}
 use Rattle.meaning.specs.Sound.{All}
+use Rattle.meaning.specs.Heights.{height-low}
 use Rattle.marks.specs.Steps.{both}
 use Rattle.tree_walk.specs.TreeWalk.{Tour, tour, treeFrom, endTour, startWalk, rootTour}
 use Rattle.soundness.specs.Marking.{Fresh, Among, all-in, all-from, once-most}
@@ -21,7 +22,7 @@ use Rattle.soundness.specs.TreeTrace.{same-tour, mark-each, fill, fill-i
 use Rattle.soundness.specs.TreeRecords.{kinds, leaf-numbers, latched-many, leaf-in, trace, trace-fits, kinds-length, TreeMarks, tree-marks}
 use Rattle.soundness.specs.TreeWalked.{Few, low-after, past-yes, stopped}
 use Rattle.soundness.specs.TreePass.{InOrder, toured, tree-found, tree-walks}
-use Rattle.soundness.specs.Spine.{numbers-same, kinds-same, nodes-same, leaves-same, latched-same, spine-up, spine-down, height-low}
+use Rattle.soundness.specs.Spine.{numbers-same, kinds-same, nodes-same, leaves-same, latched-same, spine-up, spine-down}
 
 -- The tree that the store means, and as the walk bounds it: the upper infinity is no key.
 abbrev pub root-tree : (s : List ℕ) → ℕ → ℕ → Numbered (suc (height-of s))

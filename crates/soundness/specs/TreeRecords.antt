@@ -30,10 +30,6 @@ unfoldable pub latched-many : (h : ℕ) → Tree h → ℕ
 latched-many zero t = 0
 latched-many (suc h) t = cond (eqb (t .latch) 0) 0 1 + sumE (latched-many h) (t .sons)
 
-pub erase-many : {A B : Type 0} (f : A → B) (es : List (A × ℕ)) → length (mapE f es) ≡ length es
-erase-many f [] = refl
-erase-many f (p ∷ es) = ap suc (erase-many f es)
-
 pub read-many : {A B : Type 0} (f : ℕ → ℕ → A) (g : A → B) (es : List (ℕ × ℕ)) → length (mapE g (read-sons f es)) ≡ length es
 read-many f g [] = refl
 read-many f g (p ∷ es) = ap suc (read-many f g es)

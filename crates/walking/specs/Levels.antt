@@ -37,6 +37,7 @@ use Rattle.meaning.specs.Reading.{Chained, Leaf, Mark, Numbered, erase, numbers
 use Rattle.meaning.specs.Sound.{All}
 use Rattle.meaning.specs.Numbers.{times-append}
 use Rattle.meaning.specs.Around.{NCtx, fill, num-of, bound-in, leaves-fill, before, behind, nothing}
+pub use Rattle.meaning.specs.Heights.{length-mapE}
 use Rattle.layout.specs.Layout.{Lay, Each, NodeFits, TreeFits, SomeSon, Marked, Holds, means}
 use Rattle.layout.specs.Row.{Becomes}
 use Rattle.layout.specs.Keep.{with-tree, Hands, each-cut, each-join, chained-keep, marked-fill}
@@ -49,10 +50,6 @@ use Rattle.walking.specs.Holes.{fits-usable, Ours, hole-most, ours-has, 
 use Rattle.walking.specs.Hands.{nd, standing-at, own-hand, some-mid, some-right, some-cut, marked-into, marked-below, marked-under, marked-self, node-times, flat-times, one-self, means-level, becomes-at}
 
 -- ---- lists
-
-pub length-mapE : {A B : Type 0} (f : A → B) (es : List (A × ℕ)) → length (mapE f es) ≡ length es
-length-mapE f [] = refl
-length-mapE f (e ∷ es) = ap suc (length-mapE f es)
 
 pub mapE-take : {A B : Type 0} (f : A → B) (i : ℕ) (es : List (A × ℕ)) → mapE f (take i es) ≡ take i (mapE f es)
 mapE-take f zero es = refl
