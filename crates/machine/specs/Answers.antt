@@ -196,7 +196,7 @@ written-fits p n s S = call-cases (λ o. 2 * length (o .written) ≤ n) p n s S 
 
 -- A request q that is done with these numbers.
 pub record Answered (q : Req) (s : State) (o : Outcome) (ns : List ℕ) : Type 0 where
-  pub number-is : ns ≡ ans q (model s) .number ∷ []
+  pub number-is : ns ≡ ans q (model s) .numbers
   pub words-are : two-words (o .written) ≡ ans q (model s) .words
   pub after : Logical (eff q (model s)) (o .next)
 
@@ -247,7 +247,7 @@ req-locate r e = ap (λ c. cond (eqb c 1) (R.read (r .entry)) (cond (eqb c 2) (R
 -- Refusal 12 brings the number of memberships in the range back, for which the n words that are lent are too few.
 pub record TooShort (r : Request) (s : State) (n k : ℕ) : Type 0 where
   pub locates : req-of r ≡ R.locate (r .first) (r .second)
-  pub count-is : k ≡ ans (R.locate (r .first) (r .second)) (model s) .number
+  pub count-is : k ≡ length (R.located (r .first) (r .second) (model s))
   pub short : n < 2 * k
 
 pub refused-12 : (p n k : ℕ) (s : State) → Sound s → call (step p n) s .answer ≡ refused 12 k → (r : Request) × (sessionOf p s .hand ≡ some r) × TooShort r s n k
@@ -287,7 +287,7 @@ module _ (s : State) (S : Sound s) (m n : ℕ) (r : Request) (hand : sessionOf (
   does-model (unseen u x) = quiet-step u (x .db-kept)
   does-model (locks u x) = quiet-step (ap unfinished u) (x .db-kept)
   does-model (finishes t a u w l f) = subst (AsModel (req-of r) s o) (sym u) (record {
-    number-is = ap (λ z. z .number ∷ []) answers;
+    number-is = ap (λ z. z .numbers) answers;
     words-are = w ∙ ap (λ z. z .words) answers;
     after = logical-from (eff (req-of r) (model s)) (o .next) (eff-good (req-of r) (model s) (sound-good S)) (keeps c s S)
         (λ i. f .change i ∙ eff-local (req-of r) (f .model) (model s) (f .model-good) (sound-good S) (λ j d. alike j) i (alike i));

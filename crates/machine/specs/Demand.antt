@@ -209,15 +209,15 @@ twice (p ∷ l) = omega (arith, twice l)
 
 -- The model's answer is the number beside done and, for a locate, twice so many words of the list.
 answer-is : (c e f g : ℕ) (st : Stage) (d : R.Db) (l : List ℕ) → 1 ≤ c → c ≤ 5
-    → answer-of c (R.ans (req-of (record { code = c; entry = e; first = f; second = g; stage = st })) d .number ∷ [])
+    → answer-of c (R.ans (req-of (record { code = c; entry = e; first = f; second = g; stage = st })) d .numbers)
     (R.ans (req-of (record { code = c; entry = e; first = f; second = g; stage = st })) d .words ++ l)
     ≡ R.ans (req-of (record { code = c; entry = e; first = f; second = g; stage = st })) d
 unfolding req-of
 answer-is c e f g st d l lo hi = code-cases
-    (λ b. answer-of b (R.ans (req-of (record { code = b; entry = e; first = f; second = g; stage = st })) d .number ∷ [])
+    (λ b. answer-of b (R.ans (req-of (record { code = b; entry = e; first = f; second = g; stage = st })) d .numbers)
     (R.ans (req-of (record { code = b; entry = e; first = f; second = g; stage = st })) d .words ++ l)
     ≡ R.ans (req-of (record { code = b; entry = e; first = f; second = g; stage = st })) d) c lo hi refl refl refl refl
-    (ap (λ w. record { number = length (R.located f g d); words = w })
+    (ap (λ w. record { numbers = length (R.located f g d) ∷ []; words = w })
     (ap (λ n. take n (two-words (R.located f g d) ++ l)) (sym (twice (R.located f g d))) ∙ take-append-seam (two-words (R.located f g d)) l))
 
 -- ---- a fresh store
@@ -284,15 +284,15 @@ step-told m n r s o l t c h w (locks u x) = subst (λ a. Told-so s (o .next) t (
 step-told m n r s o l t c h w (finishes i a u v x y) = subst (λ b. Told-so s (o .next) t (tell-of (C.step (suc m) []) b l t)) (sym u) (record {
   events = S.grow (suc m) ∷ (S.finish (suc m) (req-of r) a ∷ []);
   moved = M.more x (M.more y M.still);
-  past-is = ap (λ z. finished (suc m) z (a .number ∷ []) l (t .past)) h
-      ∙ ap (λ z. fed (suc m) z (answer-of (r .code) (a .number ∷ []) l) (t .past)) (asked-is (r .code) (r .entry) (r .first) (r .second) (r .stage) (c .0) (c .1))
+  past-is = ap (λ z. finished (suc m) z (a .numbers) l (t .past)) h
+      ∙ ap (λ z. fed (suc m) z (answer-of (r .code) (a .numbers) l) (t .past)) (asked-is (r .code) (r .entry) (r .first) (r .second) (r .stage) (c .0) (c .1))
       ∙ ap (λ z. hstep store (S.finish (suc m) (req-of r) z) (t .past)) answered;
   begun-told = λ g p. y .begun-same p ∙ x .begun-same p ∙ g p;
 })
   where
-    answered : answer-of (r .code) (a .number ∷ []) l ≡ a
-    answered = ap (λ z. answer-of (r .code) (a .number ∷ []) z) (w .1 ∙ ap (λ z. z ++ w .0) v)
-        ∙ ap (λ z. answer-of (r .code) (z .number ∷ []) (z .words ++ w .0)) (y .answer)
+    answered : answer-of (r .code) (a .numbers) l ≡ a
+    answered = ap (λ z. answer-of (r .code) (a .numbers) z) (w .1 ∙ ap (λ z. z ++ w .0) v)
+        ∙ ap (λ z. answer-of (r .code) (z .numbers) (z .words ++ w .0)) (y .answer)
         ∙ answer-is (r .code) (r .entry) (r .first) (r .second) (r .stage) (y .model) (w .0) (c .0) (c .1) ∙ sym (y .answer)
 
 pub call-told : (c : Call) (s : State) (o : Outcome) (l : List ℕ) (t : Told) → Sound s → ((p : ℕ) → hand-put (sessionOf p s .hand) ≡ t .hands p) → ListOf c l o → Moves s o c

@@ -11,7 +11,7 @@ use Rattle.serial.specs.Serial.{true≢false}
 use Rattle.serial.specs.Model.{two-words}
 use Rattle.serial.specs.Locks.{lock-rule, lock-rule-strict}
 use Rattle.serial.specs.LockMachine.{Acts, Formatted}
-use Rattle.serial.specs.Calls.{Turn, Told, nothing, tell, told, Run, Demand-3, Knows, Anew, Laws, demand-3}
+use Rattle.serial.specs.Calls.{Turn, Told, nothing, tell, told, Run, Demand-3, Knows, Made, Anew, Laws, demand-3, calls-made}
 use Rattle.serial.specs.Calls as C
 use Rattle.machine.specs.Logic.{eqb-yes}
 use Rattle.machine.specs.Holders.{width}
@@ -150,12 +150,18 @@ machine-laws = record {
 abbrev pub fresh-lent : ℕ → ℕ → ℕ → Lent
 fresh-lent m r words = record { state = fresh m r; words = words }
 
+fresh-known : (m r words : ℕ) → 1 ≤ m → m ≤ 1024 → 8 ≤ r → r ≤ 4096 → Knows machine nothing (fresh-lent m r words)
+fresh-known m r words a b c d = record {
+  sound = fresh-sound m r a b c d;
+  hand-told = λ p. ap (λ z. hand-put (z .hand)) (fresh-session m r p);
+  begun-told = λ p. ap (λ z. z .begun) (fresh-session m r p);
+}
+
 -- Any list of calls, whoever's turn each is, from a fresh store.
 pub machine-demand-3 : (m r words : ℕ) → 1 ≤ m → m ≤ 1024 → 8 ≤ r → r ≤ 4096 → (ks : List Turn) (y : Lent) → Run machine (fresh-lent m r words) ks y
     → Demand-3 machine (told nothing ks) y
-machine-demand-3 m r words a b c d ks y run = demand-3 machine lock-rule lock-rule-strict machine-laws (fresh-lent m r words) y ks
-    (record {
-      sound = fresh-sound m r a b c d;
-      hand-told = λ p. ap (λ z. hand-put (z .hand)) (fresh-session m r p);
-      begun-told = λ p. ap (λ z. z .begun) (fresh-session m r p);
-    }) (fresh-formatted m r) run
+machine-demand-3 m r words a b c d ks y run = demand-3 machine lock-rule lock-rule-strict machine-laws (fresh-lent m r words) y ks (fresh-known m r words a b c d) (fresh-formatted m r) run
+
+-- Every list of calls from a fresh store has a run.
+pub machine-made : (m r words : ℕ) → 1 ≤ m → m ≤ 1024 → 8 ≤ r → r ≤ 4096 → (cs : List C.Call) → Made machine (fresh-lent m r words) cs
+machine-made m r words a b c d cs = calls-made machine lock-rule lock-rule-strict machine-laws cs nothing (fresh-lent m r words) (fresh-known m r words a b c d)

@@ -386,7 +386,7 @@ module _ (p x : ℕ) (s : State) (u : Tree 1) (o : Ordered s) (F : StoodAt p x s
     records-same = refl;
     gap-same = pruned-gaps;
     stays = λ z h. stays z h (ℕ-discrete x z);
-    zero-stored = pruned-other 0 (λ z. true≢false (T .not-zero) (ap not (eqb-yes (gone .key) 0 (e ∙ z)))) ∙ K .zero-stored;
+    zero-stored = pruned-other 0 (λ z. T .not-zero (e ∙ z)) ∙ K .zero-stored;
     top-free = pruned-other top (λ z. true≢false was-stored (ap (λ k. stored-in k (lvs s)) z ∙ K .top-free)) ∙ K .top-free;
     listed = placed-unlisted x (suc top) gone (lvs (pruned p x s)) (lvs s) e pruned-placed (length (s .entries)) (K .listed);
   }
@@ -405,7 +405,7 @@ keeper-stored s r x c (to-first d q) = absurd (omega (arith, c, d))
 keeper-stored s r x c (to-second d q) = absurd (omega (arith, c, d))
 keeper-stored s r x c (to-choice C) = C .stored
 
-keeper-pins : (r : Request) (x : ℕ) → r .code ≡ 6 → pinned r (at x) ≡ []
+pub keeper-pins : (r : Request) (x : ℕ) → r .code ≡ 6 → pinned r (at x) ≡ []
 unfolding pinned
 keeper-pins r x c = rw (eqb-no (r .code) 5 (λ z. omega (arith, z, c))) refl
 

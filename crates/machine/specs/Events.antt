@@ -37,7 +37,7 @@ unfinished (refused n b) = true
 pub data Does (p : ℕ) (q : Req) (s : State) (o : Outcome) : Type 0 where
   unseen : unfinished (o .answer) ≡ true → Unseen (view s) (view (o .next)) → Does p q s o
   locks : o .answer ≡ more → Locked rule p (view s) (view (o .next)) → Does p q s o
-  finishes : (t : State) (a : Ans) → o .answer ≡ done (a .number ∷ []) → two-words (o .written) ≡ a .words → Locked rule p (view s) (view t) → Finished p q a (view t) (view (o .next)) → Does p q s o
+  finishes : (t : State) (a : Ans) → o .answer ≡ done (a .numbers) → two-words (o .written) ≡ a .words → Locked rule p (view s) (view t) → Finished p q a (view t) (view (o .next)) → Does p q s o
 
 -- A guarded step: where it is done, nobody is in the way.
 pub guard-does : (p : ℕ) (q : Req) (bs : List ℕ) (need : ℕ) (r : Request) (s : State) (o : Outcome) → (bs ≡ [] → Does p q s o) → Does p q s (guarded bs need p r s o)

@@ -2,6 +2,7 @@
 use mathlib.Core.Path.{_≡_, refl, sym, _∙_, subst, ap}
 use mathlib.Core.Bool.{Bool, true, false, cond, not, _&&_, false≢true}
 use mathlib.Core.List.{List, [], _∷_, _++_, map}
+use mathlib.Core.Logic.{_↔_}
 use Prim.Native.Nat.{zero, suc, _+_, _-_, _≤_, ℕ}
 use native.Mathlib.Omega.{arith}
 use lib.Dec.{eqb}
@@ -10,7 +11,7 @@ use Rattle.serial.specs.Model as R
 use Rattle.serial.specs.Locks.{Kind, Mode, weak, strong}
 use Rattle.serial.specs.Locks as L
 use Rattle.serial.specs.LockMachine.{Unseen}
-use Rattle.machine.specs.Logic.{both, eqb-is, eqb-not}
+use Rattle.machine.specs.Logic.{eqb-is, eqb-not}
 use Rattle.machine.specs.Holders.{holds, elem, latch-word}
 use Rattle.machine.specs.Tree.{pick}
 use Rattle.machine.specs.State.{Desc, Tree, Request, State, top, no-desc, same, or-none, sessionOf, stored, gap-below, descOf, with-free, on-tree, more, Stage, start, enter, change, take, at}
@@ -139,40 +140,35 @@ make-like p x s u F ne =
 
 -- ---- removing
 
-so-empty : {A : Type 0} (l : List A) → is-empty l ≡ true → l ≡ []
-so-empty [] e = refl
-so-empty (x ∷ l) e = absurd (false≢true e)
-
 -- What tidy's rule says.
 pub record Goes (g : ℕ) (d : Desc) : Type 0 where
-  pub not-zero : not (eqb (d .key) 0) ≡ true
+  pub not-zero : ¬ (d .key ≡ 0)
   pub not-pinned : d .pins ≡ 0
   pub no-members : d .members ≡ []
   pub no-update : d .update ≡ 0
   pub same-locate : d .locate ≡ g
   pub same-gap : d .gap ≡ g
 
-pub removable-goes : (g : ℕ) (d : Desc) → removable g d ≡ true → Goes g d
+-- Tidy's test is this, both ways.
+pub removable-is : (g : ℕ) (d : Desc) → (removable g d ≡ true) ↔ Goes g d
 unfolding removable
-removable-goes g d e =
-    let a = not (eqb (d .key) 0) in
-    let b = eqb (d .pins) 0 in
-    let c = is-empty (d .members) in
-    let u = eqb (d .update) 0 in
-    let l = eqb (d .locate) g in
-    let p₅ = both (a && b && c && u && l) (eqb (d .gap) g) e in
-    let p₄ = both (a && b && c && u) l (p₅ .0) in
-    let p₃ = both (a && b && c) u (p₄ .0) in
-    let p₂ = both (a && b) c (p₃ .0) in
-    let p₁ = both a b (p₂ .0) in
-    record {
-      not-zero = p₁ .0;
-      not-pinned = eqb-is (d .pins) 0 (p₁ .1);
-      no-members = so-empty (d .members) (p₂ .1);
-      no-update = eqb-is (d .update) 0 (p₃ .1);
-      same-locate = eqb-is (d .locate) g (p₄ .1);
-      same-gap = eqb-is (d .gap) g (p₅ .1);
-    }
+removable-is g d = go (eqb (d .key) 0) refl (eqb (d .pins) 0) refl (d .members) refl (eqb (d .update) 0) refl (eqb (d .locate) g) refl (eqb (d .gap) g) refl
+  where
+    go : (a : Bool) → eqb (d .key) 0 ≡ a → (b : Bool) → eqb (d .pins) 0 ≡ b → (c : List ℕ) → d .members ≡ c → (u : Bool) → eqb (d .update) 0 ≡ u → (l : Bool) → eqb (d .locate) g ≡ l
+        → (w : Bool) → eqb (d .gap) g ≡ w → ((not a && b && is-empty c && u && l && w) ≡ true) ↔ Goes g d
+    go true e b f c h u i l j w k = ((λ x. absurd (false≢true x)), λ G. absurd (G .not-zero (eqb-is (d .key) 0 e)))
+    go false e false f c h u i l j w k = ((λ x. absurd (false≢true x)), λ G. absurd (eqb-not (d .pins) 0 f (G .not-pinned)))
+    go false e true f (m ∷ ms) h u i l j w k = ((λ x. absurd (false≢true x)), λ G. absurd (false≢true (ap is-empty (sym h ∙ G .no-members))))
+    go false e true f [] h false i l j w k = ((λ x. absurd (false≢true x)), λ G. absurd (eqb-not (d .update) 0 i (G .no-update)))
+    go false e true f [] h true i false j w k = ((λ x. absurd (false≢true x)), λ G. absurd (eqb-not (d .locate) g j (G .same-locate)))
+    go false e true f [] h true i true j false k = ((λ x. absurd (false≢true x)), λ G. absurd (eqb-not (d .gap) g k (G .same-gap)))
+    go false e true f [] h true i true j true k = (
+      (λ x. record { not-zero = eqb-not (d .key) 0 e; not-pinned = eqb-is (d .pins) 0 f; no-members = h; no-update = eqb-is (d .update) 0 i; same-locate = eqb-is (d .locate) g j; same-gap = eqb-is (d .gap) g k }),
+      λ G. refl,
+    )
+
+pub removable-goes : (g : ℕ) (d : Desc) → removable g d ≡ true → Goes g d
+removable-goes g d = removable-is g d .0
 
 pub taken-list : (x upto : ℕ) (d : Desc) (l m : List Desc) → d .key ≡ x → Placed 0 x upto d m l → words m ≡ dropped x (words l)
 taken-list x upto d l m k P =

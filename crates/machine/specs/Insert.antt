@@ -171,12 +171,12 @@ module _ (n k e : ℕ) (s : State) (F : Fit s) (K : Kept k s) (b : sessionOf (su
             (cond o (guarded (group-blockers strong p (descOf k s)) 0 p r s (finished p r (0 ∷ []) hold))
             (guarded (group-blockers strong p (descOf k s)) 2 p r s (finished p r (1 ∷ []) (add-undo p (added e k) (with-free (s .free - 2) add)))))
         go true h = guard-does p (R.insert e k) (group-blockers strong p (descOf k s)) 0 r s (finished p r (0 ∷ []) hold) λ free.
-            finishes ht (ans (R.insert e k) (model ht)) (ap (λ a. done (a .number ∷ [])) (sym (ap (λ v. just (1 - v)) (ht-count true h)))) refl (update-locked p k s K F free b)
+            finishes ht (ans (R.insert e k) (model ht)) (ap (λ a. done (a .numbers)) (sym (ap (λ v. just (1 - v)) (ht-count true h)))) refl (update-locked p k s K F free b)
             (follows-finished p k s K F (R.insert e k) (ended p r ht)
             (none-follows (R.insert e k) (ended p r ht) (ended-same p r ht) ht-needs (set-none k e ht (R.insert e k) true (cell-inserted e k (model ht)) (ht-frame (R.insert e k) (frame (R.insert e k) (model ht) ht-good)) (ht-elem ∙ h))
             (by-member k e ht ht-is true (ht-elem ∙ h) ((R.cell k e, 0) ∷ []) [])) ht-begun)
         go false h = guard-does p (R.insert e k) (group-blockers strong p (descOf k s)) 2 r s (finished p r (1 ∷ []) (add-undo p (added e k) (with-free (s .free - 2) add))) λ free.
-            finishes ht (ans (R.insert e k) (model ht)) (ap (λ a. done (a .number ∷ [])) (sym (ap (λ v. just (1 - v)) (ht-count false h)))) refl (update-locked p k s K F free b)
+            finishes ht (ans (R.insert e k) (model ht)) (ap (λ a. done (a .numbers)) (sym (ap (λ v. just (1 - v)) (ht-count false h)))) refl (update-locked p k s K F free b)
             (follows-finished p k s K F (R.insert e k) (ended p r (cu (with-member e) (added e k) (s .free - 2)))
             (one-follows (R.insert e k) (with-member e) (added e k) (s .free - 2) (ended p r (cu (with-member e) (added e k) (s .free - 2))) (ended-same p r (cu (with-member e) (added e k) (s .free - 2))) ht-needs
             (ht-one (R.insert e k) (with-member e) true (cell-inserted e k (model ht)) (frame (R.insert e k) (model ht) ht-good) (elem-with-same e (group-in k (seen ht)))
@@ -196,12 +196,12 @@ module _ (n k e : ℕ) (s : State) (F : Fit s) (K : Kept k s) (b : sessionOf (su
         go : group-blockers strong p (descOf k s) ≡ [] → (o : Bool) → elem e (descOf k s .members) ≡ o → Does p (R.remove e k) s
             (cond o (finished p r (1 ∷ []) (add-undo p (taken e k) out)) (finished p r (0 ∷ []) hold))
         go free false h =
-            finishes ht (ans (R.remove e k) (model ht)) (ap (λ a. done (a .number ∷ [])) (sym (ap just (ht-count false h)))) refl (update-locked p k s K F free b)
+            finishes ht (ans (R.remove e k) (model ht)) (ap (λ a. done (a .numbers)) (sym (ap just (ht-count false h)))) refl (update-locked p k s K F free b)
             (follows-finished p k s K F (R.remove e k) (ended p r ht)
             (none-follows (R.remove e k) (ended p r ht) (ended-same p r ht) ht-needs (set-none k e ht (R.remove e k) false (cell-removed e k (model ht)) (ht-frame (R.remove e k) (frame (R.remove e k) (model ht) ht-good)) (ht-elem ∙ h))
             (by-member k e ht ht-is false (ht-elem ∙ h) [] ((R.cell k e, 1) ∷ []))) ht-begun)
         go free true h =
-            finishes ht (ans (R.remove e k) (model ht)) (ap (λ a. done (a .number ∷ [])) (sym (ap just (ht-count true h)))) refl (update-locked p k s K F free b)
+            finishes ht (ans (R.remove e k) (model ht)) (ap (λ a. done (a .numbers)) (sym (ap just (ht-count true h)))) refl (update-locked p k s K F free b)
             (follows-finished p k s K F (R.remove e k) (ended p r (cu (without-member e) (taken e k) (s .free)))
             (one-follows (R.remove e k) (without-member e) (taken e k) (s .free) (ended p r (cu (without-member e) (taken e k) (s .free))) (ended-same p r (cu (without-member e) (taken e k) (s .free))) ht-needs
             (ht-one (R.remove e k) (without-member e) false (cell-removed e k (model ht)) (frame (R.remove e k) (model ht) ht-good) (elem-without-same e 1 (group-in k (seen ht)) (held-up p k s K F (without-member e)))

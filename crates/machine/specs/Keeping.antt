@@ -7,9 +7,8 @@ use Prim.Native.Nat.{zero, suc, _*_, _≤_, _<_, ℕ}
 use native.Mathlib.Omega.{arith}
 use lib.Dec.{leb, ltb, eqb, eqb·suc-zero}
 use lib.ListN.{length}
-use Rattle.serial.specs.Serial.{true≢false}
 use Rattle.serial.specs.Locks.{strong, weak}
-use Rattle.machine.specs.Logic.{leb-no, eqb-yes, eqb-no, eqb-is, leb-is, either, eqb-not}
+use Rattle.machine.specs.Logic.{leb-no, eqb-no, eqb-is, leb-is, either, eqb-not}
 use Rattle.machine.specs.Holders.{held-by, elem, latch-word}
 use Rattle.machine.specs.Tree.{pick}
 use Rattle.machine.specs.State.{Desc, Tree, Stage, start, enter, change, take, Request, State, more, done, refused, Outcome, top, no-desc, same, or-none, sessionOf, stored, descOf, lowest-from, gap-below, hold-desc, in-stage, at}
@@ -126,7 +125,7 @@ module _ (r : Request) (x : ℕ) (s : State) (S : Sound s) (e : sessionOf 0 s .h
           → Sound (cond o (finished 0 r (x ∷ 1 ∷ []) (tidied-state 0 x s)) (finished 0 r (x ∷ 0 ∷ []) s) .next)
       go true w =
           let G = removable-goes (gap-below x 0 (stored s)) chosen w in
-          let n : ¬ (x ≡ 0) = λ z. true≢false (G .not-zero) (ap not (eqb-yes (chosen .key) 0 (key ∙ z))) in
+          let n : ¬ (x ≡ 0) = λ z. G .not-zero (key ∙ z) in
           sound-from (tidy-formed r (x ∷ 1 ∷ []) x s S (stored-most s (sound-ordered S) x there) n u F key (G .no-members) q)
           (tidy-latches r (x ∷ 1 ∷ []) x s S e q (stored-most s (sound-ordered S) x there) u F) (tidy-keyed r (x ∷ 1 ∷ []) x s S e q u F key w)
       go false w = finish-sound 0 r (x ∷ 0 ∷ []) s S e

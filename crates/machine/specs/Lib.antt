@@ -12,6 +12,8 @@ pub mod View
 pub mod Model
 pub mod Sound
 pub mod Context
+pub mod InTheWay
+pub mod Blocking
 pub mod Effect
 -- What is read of a state, and of a state after a change.
 pub mod Logic
@@ -69,6 +71,8 @@ pub mod Moves
 pub mod Safety
 -- Demand 2: waits, going forward, long locks, answers; what a step needs.
 pub mod Waits
+pub mod Conflicts
+pub mod Tidying
 pub mod Forward
 pub mod Ledger
 pub mod Grows

@@ -16,7 +16,7 @@ use Rattle.serial.specs.Locks.{Kind, Mode, weak, strong}
 use Rattle.serial.specs.Locks as L
 use Rattle.serial.specs.LockMachine.{Locked}
 use Rattle.machine.specs.Logic.{leb-not}
-use Rattle.machine.specs.Holders.{width, holds, held-by, blockers, elem}
+use Rattle.machine.specs.Holders.{width, holds, held-by, elem}
 use Rattle.machine.specs.State.{Desc, Stage, take, Request, State, done, refused, Outcome, sessionOf, stored, on-tree, on-desc, hold-desc, same}
 use Rattle.machine.specs.Steps.{rule, group-blockers, ended, goes-on, memberships, last-take, take-desc, pairs-of, answer}
 use Rattle.machine.specs.Gaps.{by-tri, locators, updaters}
@@ -26,8 +26,9 @@ use Rattle.machine.specs.Bits.{held-same, held-other, held-more, holds-n
 use Rattle.machine.specs.Descents.{goes-same}
 use Rattle.machine.specs.Groups.{words, Rises}
 use Rattle.machine.specs.Housekeeping.{lvs}
+use Rattle.machine.specs.Blocking.{group-free}
 use Rattle.machine.specs.Keys.{Kept, was-shown, was-locate, was-update, put-shown, put-locate-here, put-locate-below, put-update-kept, put-group-kept, put-rises, put-listed-kept, above-locate, above-update}
-use Rattle.machine.specs.Agreement.{grown-agree, unblocked}
+use Rattle.machine.specs.Agreement.{grown-agree}
 use Rattle.machine.specs.Entries.{Fit}
 use Rattle.machine.specs.Events.{Does, unseen, locks, finishes, guard-does, asked, locked-then, finished-quiet}
 
@@ -136,17 +137,13 @@ module _ (p k : ℕ) (s : State) (K : Kept k s) (γ : ℕ → ℕ) (Γ : Adds p 
       at W (no e) = inl (sym (loc-others L.group weak q z e) ∙ h)
 
   module _ (F : Fit s) (free : group-blockers weak p (K .d) ≡ []) where
-    free-here : blockers rule L.group weak p (locate-word k (seen s)) (update-word k (seen s)) ≡ []
-    unfolding group-blockers
-    free-here = ap₂ (λ a b. blockers rule L.group weak p a b) (was-locate k s K) (was-update k s K) ∙ free
-
     gap-update : (z : ℕ) → k < z → InGap (K .B) z → update-word z (seen s) ≡ 0
     gap-update z h G = above-update (was-shown k s K) z h ∙ G .1
 
     loc-clear : (n : Mode) (q z : ℕ) → Z z → ¬ (p ≡ q) → holders s L.group n q z ≡ true → rule L.group n weak ≡ true
     loc-clear weak q z y ne h = refl
     loc-clear strong q z (inl e) ne h = let b = F .few L.group strong q z h in
-        unblocked L.group weak p (locate-word k (seen s)) (update-word k (seen s)) free-here q (b .0) (b .1) ne .1 (subst (λ w. holds (update-word w (seen s)) q ≡ true) (sym e) h)
+        group-free weak p (K .d) free q (b .0) (b .1) ne .1 (ap (λ w. holds w q) (sym (was-update k s K)) ∙ subst (λ w. holds (update-word w (seen s)) q ≡ true) (sym e) h)
     loc-clear strong q z (inr y) ne h = absurd (true≢false h (ap (λ w. holds w q) (gap-update z (y .0) (y .1)) ∙ holds-none q))
 
     -- It is a lock of the lock machine.

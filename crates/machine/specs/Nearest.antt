@@ -101,7 +101,7 @@ nearest x lo e (a ∷ l) r k h q = go (cmp x (a .key)) (nearest x (suc (a .key))
           least = λ y i c. N .least y (stored-past x y a l b c i) c;
         }
 
-lowest-here : (k from : ℕ) (d : Desc) → d .key ≡ k → (A B : List Desc) → In from k A → lowest-from k (A ++ d ∷ B) ≡ some d
+pub lowest-here : (k from : ℕ) (d : Desc) → d .key ≡ k → (A B : List Desc) → In from k A → lowest-from k (A ++ d ∷ B) ≡ some d
 lowest-here k from d e [] B i = lowest-head k d B (omega (arith, e))
 lowest-here k from d e (a ∷ A) B i = lowest-past k a (A ++ d ∷ B) (i .0 .1) ∙ lowest-here k from d e A B (i .1)
 

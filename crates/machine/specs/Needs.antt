@@ -11,7 +11,6 @@ use lib.Dec.{leb, ltb, eqb}
 use lib.ListN.{length}
 use Rattle.serial.specs.Serial.{true≢false}
 use Rattle.serial.specs.Locks.{weak, strong}
-use Rattle.serial.specs.Model.{ans}
 use Rattle.serial.specs.Model as R
 use Rattle.machine.specs.Logic.{eqb-is, leb-is, leb-not, leb-yes, either}
 use Rattle.machine.specs.Holders.{latch-word, elem}
@@ -210,7 +209,7 @@ module _ (n p : ℕ) (r : Request) (s : State) (S : Sound s) (e : sessionOf p s 
       found : List R.Pair
       found = memberships (r .first) (r .second) (stored s)
 
-      count : length found ≡ ans (R.locate (r .first) (r .second)) (model s) .number
+      count : length found ≡ length (R.located (r .first) (r .second) (model s))
       count = ap length (memberships-are (r .first) (r .second) (stored s))
 
       last : Bool → Outcome

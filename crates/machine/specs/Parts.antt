@@ -12,8 +12,9 @@ use Rattle.machine.specs.Holders.{latch-word, elem, latch-blockers}
 use Rattle.machine.specs.Tree.{onp, pick, sumE, sumE-append, Seg, Below, Cmp, low, high, cmp, Hit, hit, onp-hit, pick-hit}
 use Rattle.machine.specs.State.{Tree, same}
 use Rattle.machine.specs.Descent.{Sons, node, sons-of, halves, down-to, on-last, last-of, joined, moved-right, moved-left, joins, mended, on-pair, pick-pair}
-use Rattle.machine.specs.Steps.{stepped, taking-part, son-at, level-blockers, is-empty, descended}
+use Rattle.machine.specs.Steps.{stepped, son-at, level-blockers, is-empty, descended}
 use Rattle.machine.specs.Sound.{Shaped, OnPath, Latched, latch-count}
+use Rattle.machine.specs.Blocking.{words-of, son-free, pair-free}
 use Rattle.machine.specs.Looks.{shaped-le}
 use Rattle.machine.specs.Fanout.{last-one, length-last, halves-seg, of-pair, mended-seg, PairHit, pair-hit}
 use Rattle.machine.specs.Paths.{path-swap, path-left, path-right, first-bound, last-bound}
@@ -308,18 +309,29 @@ hit-shaped x h lo hi es s lx xh = go (hit (Shaped (suc h) 3) x lo (suc hi) es s 
     go H = subst (λ t. (3 ≤ sons-of t) × (sons-of t ≤ 8))
         (sym (ap (pick x (node 0 []) same) (H .eq) ∙ pick-hit x (node 0 []) same (H .pre) (H .a) (H .u) (H .post) (H .below) (H .upto))) (H .here .0, H .here .1)
 
+no-lone : (p : ℕ) {A : Type 0} (es : List A) → (p ≡ 0 → 2 ≤ length es) → p ≡ 0 → ¬ (length es ≡ 1)
+no-lone p es n z i = omega (arith, n z, i)
+
+all-free : (p : ℕ) (ws : List ℕ) → ((w : ℕ) → elem w ws ≡ true → Free p w) → AllFree p ws
+all-free p [] f = tt
+all-free p (w ∷ ws) f = (f w (ap (λ b. b || elem w ws) (eqb-yes w w refl)), all-free p ws (λ v i. f v (later (eqb v w) (elem v ws) i)))
+  where
+    later : (a b : Bool) → b ≡ true → (a || b) ≡ true
+    later true b i = refl
+    later false b i = i
+
 pub part : (p x h lo hi : ℕ) (es : Sons (suc h)) → Seg (Shaped (suc h) 3) lo (suc hi) es → lo ≤ x → x ≤ hi → (p ≡ 0 → 2 ≤ length es) → level-blockers p x h es (son-at x h es) ≡ []
     → Part p x h es (stepped p x h (son-at x h es) es)
-unfolding stepped taking-part
-part zero x h lo hi es s lx xh n bs = go (eqb (sons-of t) 3) refl bs
+unfolding stepped
+part zero x h lo hi es s lx xh n bs = go (eqb (sons-of t) 3) refl
   where
     t : Tree (suc h)
     t = son-at x h es
 
-    go : (c : Bool) → eqb (sons-of t) 3 ≡ c → latch-blockers 0 (cond c (pick-pair x [] (λ a b. a .0 .latch ∷ b .0 .latch ∷ []) es) (t .latch ∷ [])) ≡ []
-        → Part 0 x h es (cond c (on-pair x (mended 1 x h) es) (onp x (λ a u. (node 1 (a .sons), u) ∷ []) es))
-    go true e b = part-pair x h lo hi es s lx xh (n refl) (eqb-is (sons-of t) 3 e) (free-words 0 (pick-pair x [] (λ a b. a .0 .latch ∷ b .0 .latch ∷ []) es) b)
-    go false e b = part-one 0 x h lo hi es s lx xh (λ a u. (node 1 (a .sons), u) ∷ []) (free-words 0 (t .latch ∷ []) b .0)
+    go : (c : Bool) → eqb (sons-of t) 3 ≡ c → Part 0 x h es (cond c (on-pair x (mended 1 x h) es) (onp x (λ a u. (node 1 (a .sons), u) ∷ []) es))
+    go true e = part-pair x h lo hi es s lx xh (n refl) (eqb-is (sons-of t) 3 e)
+        (all-free 0 (pick-pair x [] (words-of h) es) (pair-free (λ h. Shaped (suc h) 3) (λ h. shaped-le (suc h) 3) 0 x h lo (suc hi) es s (no-lone 0 es n) bs refl (eqb-is (sons-of t) 3 e)))
+    go false e = part-one 0 x h lo hi es s lx xh (λ a u. (node 1 (a .sons), u) ∷ []) (son-free (λ h. Shaped (suc h) 3) (λ h. shaped-le (suc h) 3) 0 x h lo (suc hi) es s (no-lone 0 es n) bs)
         (λ m u a q S l. relatched-swap 0 x h m u a l S (subst (λ c. 4 ≤ sons-of c) q four))
       where
         four : 4 ≤ sons-of t
@@ -328,7 +340,7 @@ part zero x h lo hi es s lx xh n bs = go (eqb (sons-of t) 3) refl bs
             let w : ¬ (sons-of t ≡ 3) = λ w. false≢true (sym e ∙ eqb-yes (sons-of t) 3 w) in
             omega (arith, z .0)
 part (suc k) x h lo hi es s lx xh n bs =
-    rw (eqb-no (suc k) 0 (omega arith)) (go (eqb (sons-of t) 8) refl (free-words (suc k) (t .latch ∷ []) (rw (eqb-no (suc k) 0 (omega arith)) at bs) .0))
+    rw (eqb-no (suc k) 0 (omega arith)) (go (eqb (sons-of t) 8) refl (son-free (λ h. Shaped (suc h) 3) (λ h. shaped-le (suc h) 3) (suc k) x h lo (suc hi) es s (no-lone (suc k) es n) bs))
   where
     t : Tree (suc h)
     t = son-at x h es

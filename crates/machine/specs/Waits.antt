@@ -15,6 +15,7 @@ use Rattle.machine.specs.State.{Desc, Tree, Stage, start, enter, change,
 use Rattle.machine.specs.Descent.{Sons, at-latch}
 use Rattle.machine.specs.Steps.{rule, ended, goes-on, finished, guarded, entry-blockers, group-blockers, read-step, write-step, entry-step, insert-step, remove-step, change-step, memberships, last-take, take-desc, take-step, root-blockers, root-need, enter-step, level-blockers, level-step, son-at, pin-step, make-step, removable, tidied-state, tidy-step, lowest-step, stand-step, at-step, first-step, next-step, updating-state, removed-state, answer}
 use Rattle.machine.specs.Descents.{latch-cases}
+use Rattle.machine.specs.Blocking.{group-blocks}
 
 -- ---- the parties in the way of the next step
 
@@ -171,12 +172,19 @@ unfolding stand-blockers
 stand-others p x zero t = refl
 stand-others p x (suc h) t = latch-others p _
 
+not-own : (m : Mode) (p : ℕ) (d : Desc) → elem p (group-blockers m p d) ≡ false
+not-own m p d = go (elem p (group-blockers m p d)) refl
+  where
+    go : (b : Bool) → elem p (group-blockers m p d) ≡ b → b ≡ false
+    go true e = absurd (group-blocks m p d p .0 e .2 refl)
+    go false e = refl
+
 pub never-the-asker : (p : ℕ) (r : Request) (s : State) (g : Stage) → elem p (step-blockers p r s g) ≡ false
-unfolding step-blockers entry-blockers group-blockers
+unfolding step-blockers entry-blockers
 never-the-asker p r s start =
     either (λ l. elem p l ≡ false) (eqb (r .code) 1) (entry-blockers weak p r s) (cond (leb (r .code) 4) (entry-blockers strong p r s) []) (blockers-others _ weak p _ _)
     (either (λ l. elem p l ≡ false) (leb (r .code) 4) (entry-blockers strong p r s) [] (blockers-others _ strong p _ _) refl)
 never-the-asker p r s (enter x) = latch-others p _
 never-the-asker p r s (at x) = latch-cases (λ l. elem p l ≡ false) (latch-word p) x [] (stand-blockers p x) (suc (s .root .height)) (s .root .node) refl (stand-others p x)
-never-the-asker p r s change = blockers-others _ strong p _ _
-never-the-asker p r s (take x) = blockers-others _ weak p _ _
+never-the-asker p r s change = not-own strong p (descOf (r .first) s)
+never-the-asker p r s (take x) = not-own weak p (or-none (lowest-from x (stored s)))

@@ -1,6 +1,6 @@
 -- Demand 2 of the words: what the promises of the calls say of answers, holders and waits.
 use mathlib.Core.Path.{_≡_, refl, sym, ap, subst, _∙_}
-use mathlib.Core.Bool.{Bool, true, false}
+use mathlib.Core.Bool.{true, false}
 use mathlib.Core.List.{List, [], _∷_, _++_}
 use mathlib.Core.Logic.{_↔_}
 use mathlib.Core.Option.{some}
@@ -13,7 +13,10 @@ use Rattle.serial.specs.Locks.{Kind, Mode}
 use Rattle.serial.specs.Calls as C
 use Rattle.machine.specs.Holders.{elem}
 use Rattle.machine.specs.State.{State, Stage, Request, Answer, ok, more, wait, done, refused, Outcome, sessionOf}
-use Rattle.machine.specs.Steps.{answer}
+use Rattle.machine.specs.Steps.{next-step}
+use Rattle.machine.specs.InTheWay.{InTheWay}
+use Rattle.machine.specs.Conflicts.{blockers-exactly, nobody-in-the-way}
+use Rattle.machine.specs.Tidying.{Tidy, tidy, tidy-said}
 use Rattle.machine.specs.Calls.{Call, call}
 use Rattle.machine.specs.View.{items, holders}
 use Rattle.machine.specs.Session.{req-of}
@@ -31,12 +34,12 @@ use Rattle.machine.specs.Model.{model}
 use Rattle.machine.specs.State.{in-stage}
 use Rattle.sessions.specs.Sessions.{session-at}
 use Rattle.layout.specs.Asked.{request-in}
-use Rattle.promises.specs.Steps.{hand-is, outcome-is, party}
+use Rattle.promises.specs.Steps.{hand-is, outcome-is}
 use Rattle.promises.specs.Demand1.{refusal-of}
 
 -- A request that is done: it answers, writes and leaves what the logical model does with it.
 pub record Modelled (q : Req) (s : List ℕ) (t : List Session) (l ns l′ s′ : List ℕ) (t′ : List Session) : Type 0 where
-  pub number-is : ns ≡ ans q (model (meaning s t)) .number ∷ []
+  pub number-is : ns ≡ ans q (model (meaning s t)) .numbers
   pub list-is : l′ ≡ ans q (model (meaning s t)) .words ++ drop (length (ans q (model (meaning s t)) .words)) l
   pub after : Logical (eff q (model (meaning s t))) (meaning s′ t′)
 
@@ -44,20 +47,22 @@ pub record Modelled (q : Req) (s : List ℕ) (t : List Session) (l ns l′ s′ 
 pub record Demand-2 (p : ℕ) (r : Request) (l s : List ℕ) (t : List Session) (a : C.Answer) (l′ s′ : List ℕ) (t′ : List Session) : Type 0 where
   -- Every request answers as the logical model does.
   pub answers : ¬ (p ≡ 0) → (ns : List ℕ) → a ≡ C.done ns → Modelled (req-of r) s t l ns l′ s′ t′
-  -- A step waits exactly if another party's lock conflicts with it, and names one whose lock does,
-  pub waits : ((q : ℕ) × (a ≡ C.wait q)) ↔ ¬ (step-blockers p r (meaning s t) (r .stage) ≡ [])
-  pub names : (q : ℕ) → a ≡ C.wait q → elem q (step-blockers p r (meaning s t) (r .stage)) ≡ true
+  -- A step waits exactly if another party's lock conflicts with it (machine/InTheWay), and names one whose lock does,
+  pub waits : ((q : ℕ) × (a ≡ C.wait q)) ↔ ((q : ℕ) × InTheWay p r (meaning s t) (r .stage) q)
+  pub names : (q : ℕ) → a ≡ C.wait q → InTheWay p r (meaning s t) (r .stage) q
   -- and otherwise goes forward or is refused (Demand1.Accepts):
   pub forward : a ≡ C.more → (g : Stage) × (sessionOf p (meaning s′ t′) .hand ≡ some (in-stage g r)) × Ahead p r (meaning s t) (r .stage) (meaning s′ t′) g
   -- 11, with 0 beside it, exactly if nobody is in the way and fewer records are free than this step needs,
   pub free-records : (k : ℕ)
-      → (a ≡ C.refused 11 k) ↔ ((k ≡ 0) × (step-blockers p r (meaning s t) (r .stage) ≡ []) × (meaning s t .free < step-needs p r (meaning s t) (r .stage)))
+      → (a ≡ C.refused 11 k) ↔ ((k ≡ 0) × ((q : ℕ) → ¬ InTheWay p r (meaning s t) (r .stage) q) × (meaning s t .free < step-needs p r (meaning s t) (r .stage)))
   -- 12 exactly if it is a locate's step at second, nobody is in the way, and the list is shorter than twice the count of memberships in the range, which comes back too.
   pub list-short : (k : ℕ)
-      → (a ≡ C.refused 12 k) ↔ (AtSecond r (meaning s t) (r .stage) × (step-blockers p r (meaning s t) (r .stage) ≡ []) × TooShort r (meaning s t) (length l) k)
+      → (a ≡ C.refused 12 k) ↔ (AtSecond r (meaning s t) (r .stage) × ((q : ℕ) → ¬ InTheWay p r (meaning s t) (r .stage) q) × TooShort r (meaning s t) (length l) k)
   -- Housekeeping changes no entry, membership or holder.
   pub housekeeping : p ≡ 0 → ((i : Item) → items (meaning s′ t′) i ≡ items (meaning s t) i)
       × ((k : Kind) (m : Mode) (q z : ℕ) → holders (meaning s′ t′) k m q z ≡ holders (meaning s t) k m q z)
+  -- Tidy removes the chosen descriptor exactly if it may go, answers so, and changes nothing else.
+  pub tidies : p ≡ 0 → Tidy r (meaning s t) (λ ns. a ≡ C.done ns) (meaning s′ t′)
 
 -- Any call on sound words: the holders of every entry and key, empty keys too, are the sessions granted it; no call but the last step of a session's request, an
 -- abort and a format changes a value or a membership.
@@ -91,13 +96,13 @@ told-wait (wait ps) q e = refl
 told-wait (done ms) q e = cc
 told-wait (refused n b) q e = cc
 
-abbrev some-in : List ℕ → Bool
-some-in [] = false
-some-in (b ∷ bs) = true
-
-waits-from : (z : State) (bs : List ℕ) (o : Outcome) (a : C.Answer) → WaitsFor z bs o → Tells (o .answer) a → ((q : ℕ) × (a ≡ C.wait q)) ↔ ¬ (bs ≡ [])
-waits-from z [] o a w e = ((λ h n. true≢false (told-wait (o .answer) (h .0) (subst (Tells (o .answer)) (h .1) e)) w), λ n. absurd (n refl))
-waits-from z (b ∷ bs) o a w e = let h : Tells (wait (b ∷ bs)) a = subst (λ x. Tells (x .answer) a) w e in ((λ k n. true≢false {b = true} refl (ap some-in n)), λ n. (h .0, h .2))
+waits-from : (p : ℕ) (r : Request) (z : State) (g : Stage) (bs : List ℕ) (o : Outcome) (a : C.Answer) → WaitsFor z bs o → ((q : ℕ) → (elem q bs ≡ true) ↔ InTheWay p r z g q) → Tells (o .answer) a
+    → ((q : ℕ) × (a ≡ C.wait q)) ↔ ((q : ℕ) × InTheWay p r z g q)
+waits-from p r z g [] o a w f e = (
+  (λ h. absurd (true≢false (told-wait (o .answer) (h .0) (subst (Tells (o .answer)) (h .1) e)) w)),
+  λ h. absurd (true≢false (f (h .0) .1 (h .1)) refl),
+)
+waits-from p r z g (b ∷ bs) o a w f e = let h : Tells (wait (b ∷ bs)) a = subst (λ x. Tells (x .answer) a) w e in ((λ k. (h .0, f (h .0) .0 (h .1))), λ k. (h .0, h .2))
 
 names-from : (z : State) (bs : List ℕ) (o : Outcome) (a : C.Answer) → WaitsFor z bs o → Tells (o .answer) a → (q : ℕ) → a ≡ C.wait q → elem q bs ≡ true
 names-from z [] o a w e q i = absurd (true≢false (told-wait (o .answer) q (subst (Tells (o .answer)) i e)) w)
@@ -105,6 +110,10 @@ names-from z (b ∷ bs) o a w e q i = let h : Tells (wait (b ∷ bs)) a = subst 
   where
     party-same : (i j : ℕ) → C.wait i ≡ C.wait j → i ≡ j
     party-same i j e = cc
+
+-- Nobody in the way, said by the guards and by document 01's words.
+swap-11 : {X : Type 0} {A N B D : Type 0} → N ↔ B → X ↔ (A × N × D) → X ↔ (A × B × D)
+swap-11 f h = ((λ x. let z = h .0 x in (z .0, f .0 (z .1), z .2)), λ z. h .1 (z .0, f .1 (z .1), z .2))
 
 -- A refusal comes exactly if the machine's comes.
 refused-from : (z : Answer) (a : C.Answer) (n k : ℕ) (X : Type 0) → Tells z a → (z ≡ refused n k) ↔ X → (a ≡ C.refused n k) ↔ X
@@ -146,17 +155,26 @@ module _ (p : ℕ) (l s : List ℕ) (t : List Session) (a : C.Answer) (l′ s′
   blocked : WaitsFor (meaning s t) (step-blockers p r (meaning s t) (r .stage)) o
   blocked = subst (WaitsFor (meaning s t) (step-blockers p r (meaning s t) (r .stage))) (sym (outcome-is s t p l S z)) (step-waits (length l) p r (meaning s t) (r .stage))
 
+  abbrev Free : Type 0
+  Free = (q : ℕ) → ¬ InTheWay p r (meaning s t) (r .stage) q
+
+  free : (step-blockers p r (meaning s t) (r .stage) ≡ []) ↔ Free
+  free = nobody-in-the-way (S .state) p r in-hand
+
+  in-way : (q : ℕ) → (elem q (step-blockers p r (meaning s t) (r .stage)) ≡ true) ↔ InTheWay p r (meaning s t) (r .stage) q
+  in-way = blockers-exactly (S .state) p r in-hand
+
   abbrev Unserved : ℕ → Type 0
-  Unserved k = (k ≡ 0) × (step-blockers p r (meaning s t) (r .stage) ≡ []) × (meaning s t .free < step-needs p r (meaning s t) (r .stage))
+  Unserved k = (k ≡ 0) × Free × (meaning s t .free < step-needs p r (meaning s t) (r .stage))
 
   refused-11 : (k : ℕ) → (o .answer ≡ refused 11 k) ↔ Unserved k
-  refused-11 k = subst (λ (x : Outcome). (x .answer ≡ refused 11 k) ↔ Unserved k) (sym (outcome-is s t p l S z)) (step-11 (length l) p r (meaning s t) (r .stage) k)
+  refused-11 k = subst (λ (x : Outcome). (x .answer ≡ refused 11 k) ↔ Unserved k) (sym (outcome-is s t p l S z)) (swap-11 free (step-11 (length l) p r (meaning s t) (r .stage) k))
 
   abbrev Unlisted : ℕ → Type 0
-  Unlisted k = AtSecond r (meaning s t) (r .stage) × (step-blockers p r (meaning s t) (r .stage) ≡ []) × TooShort r (meaning s t) (length l) k
+  Unlisted k = AtSecond r (meaning s t) (r .stage) × Free × TooShort r (meaning s t) (length l) k
 
   refused-12 : (k : ℕ) → (o .answer ≡ refused 12 k) ↔ Unlisted k
-  refused-12 k = subst (λ (x : Outcome). (x .answer ≡ refused 12 k) ↔ Unlisted k) (sym (outcome-is s t p l S z)) (step-12 (length l) p r (meaning s t) (S .state) in-hand k)
+  refused-12 k = subst (λ (x : Outcome). (x .answer ≡ refused 12 k) ↔ Unlisted k) (sym (outcome-is s t p l S z)) (swap-11 free (step-12 (length l) p r (meaning s t) (S .state) in-hand k))
 
   onward : a ≡ C.more → (g : Stage) × (sessionOf p (meaning s′ t′) .hand ≡ some (in-stage g r)) × Ahead p r (meaning s t) (r .stage) (meaning s′ t′) g
   onward e =
@@ -164,14 +182,23 @@ module _ (p : ℕ) (l s : List ℕ) (t : List Session) (a : C.Answer) (l′ s′
       let k : Onward p r (meaning s t) (r .stage) more (o .next) = subst (λ x. Onward p r (meaning s t) (r .stage) x (o .next)) (told-more (o .answer) (subst (Tells (o .answer)) e (A .tells))) h in
       subst (λ x. (g : Stage) × (sessionOf p x .hand ≡ some (in-stage g r)) × Ahead p r (meaning s t) (r .stage) x g) (sym (A .means)) k
 
+  tidied : p ≡ 0 → Tidy r (meaning s t) (λ ns. a ≡ C.done ns) (meaning s′ t′)
+  tidied e = tidy-said both (subst (λ x. Tidy r (meaning s t) (λ ns. o .answer ≡ done ns) x) (sym (A .means)) (subst (λ (x : Outcome). Tidy r (meaning s t) (λ ns. x .answer ≡ done ns) (x .next)) (sym (outcome-is s t p l S z))
+      (subst (λ k. Tidy r (meaning s t) (λ ns. next-step (length l) k r (meaning s t) (r .stage) .answer ≡ done ns) (next-step (length l) k r (meaning s t) (r .stage) .next)) (sym e)
+      (tidy (length l) r (meaning s t) (S .state) (ap (λ k. sessionOf k (meaning s t) .hand) (sym e) ∙ in-hand)))))
+    where
+      both : (ns : List ℕ) → (o .answer ≡ done ns) ↔ (a ≡ C.done ns)
+      both ns = ((λ i. subst (λ y. Tells y a) i (A .tells)), λ i. told-done (o .answer) ns (subst (Tells (o .answer)) i (A .tells)))
+
   pub demand-2 : Demand-2 p (request-in (session-at t p)) l s t a l′ s′ t′
   demand-2 = record {
     answers = λ n ns e. as-model ns e (answers-model n ns e);
-    waits = waits-from (meaning s t) (step-blockers p r (meaning s t) (r .stage)) o a blocked (A .tells);
-    names = names-from (meaning s t) (step-blockers p r (meaning s t) (r .stage)) o a blocked (A .tells);
+    waits = waits-from p r (meaning s t) (r .stage) (step-blockers p r (meaning s t) (r .stage)) o a blocked in-way (A .tells);
+    names = λ q e. in-way q .0 (names-from (meaning s t) (step-blockers p r (meaning s t) (r .stage)) o a blocked (A .tells) q e);
     forward = onward;
     free-records = λ k. refused-from (o .answer) a 11 k (Unserved k) (A .tells) (refused-11 k);
     list-short = λ k. refused-from (o .answer) a 12 k (Unlisted k) (A .tells) (refused-12 k);
     housekeeping = λ e. subst (λ x. ((i : Item) → items x i ≡ items (meaning s t) i) × ((k : Kind) (m : Mode) (q z : ℕ) → holders x k m q z ≡ holders (meaning s t) k m q z)) (sym (A .means))
         (descents-keep p (length l) (meaning s t) (S .state) (ap (λ k. unseen-step k (meaning s t)) e));
+    tidies = tidied;
   }

@@ -7,7 +7,7 @@ use lib.ListN.{length}
 use Rattle.sessions.specs.declared.Session.{Session}
 use Rattle.serial.specs.Locks.{lock-rule, lock-rule-strict}
 use Rattle.serial.specs.LockMachine.{Formatted}
-use Rattle.serial.specs.Calls.{Turn, Told, nothing, tell, told, Machine, Run, Demand-3, Knows, Anew, Laws, demand-3}
+use Rattle.serial.specs.Calls.{Turn, Told, nothing, tell, told, Machine, Run, Demand-3, Knows, Made, Anew, Laws, demand-3, calls-made}
 use Rattle.serial.specs.Calls as C
 use Rattle.machine.specs.State.{sessionOf, fresh}
 use Rattle.machine.specs.View.{view}
@@ -68,11 +68,17 @@ module _ (returns : (c : C.Call) (x : Lending) → Sound (x .store) (x .table) �
       go k x y t (inl m) = inl (record { events = m .events; moved = m .moved; as-told = m .as-told })
       go k x y t (inr a) = inr (record { nothing-told = a .nothing-told; as-new = a .as-new })
 
+  fresh-known : (m r : ℕ) (x : Lending) → Sound (x .store) (x .table) → meaning (x .store) (x .table) ≡ fresh m r → Knows words nothing x
+  fresh-known m r x S e = record {
+    sound = S;
+    hand-told = λ p. ap (λ z. hand-put (sessionOf p z .hand)) e ∙ ap (λ z. hand-put (z .hand)) (fresh-session m r p);
+    begun-told = λ p. ap (λ z. sessionOf p z .begun) e ∙ ap (λ z. z .begun) (fresh-session m r p);
+  }
+
+  -- Every list of calls has a run from there.
+  pub words-made : (m r : ℕ) (x : Lending) → Sound (x .store) (x .table) → meaning (x .store) (x .table) ≡ fresh m r → (cs : List C.Call) → Made words x cs
+  words-made m r x S e cs = calls-made words lock-rule lock-rule-strict words-laws cs nothing x (fresh-known m r x S e)
+
   -- Any list of calls, whoever's turn each is, from a store as an accepted format leaves it.
   pub words-demand-3 : (m r : ℕ) (x : Lending) → Sound (x .store) (x .table) → meaning (x .store) (x .table) ≡ fresh m r → (ks : List Turn) (y : Lending) → Run words x ks y → Demand-3 words (told nothing ks) y
-  words-demand-3 m r x S e ks y run = demand-3 words lock-rule lock-rule-strict words-laws x y ks
-      (record {
-        sound = S;
-        hand-told = λ p. ap (λ z. hand-put (sessionOf p z .hand)) e ∙ ap (λ z. hand-put (z .hand)) (fresh-session m r p);
-        begun-told = λ p. ap (λ z. sessionOf p z .begun) e ∙ ap (λ z. z .begun) (fresh-session m r p);
-      }) (subst (λ z. Formatted (view z)) (sym e) (fresh-formatted m r)) run
+  words-demand-3 m r x S e ks y run = demand-3 words lock-rule lock-rule-strict words-laws x y ks (fresh-known m r x S e) (subst (λ z. Formatted (view z)) (sym e) (fresh-formatted m r)) run

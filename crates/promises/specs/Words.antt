@@ -5,7 +5,7 @@ use Prim.Native.Nat.{ℕ}
 use native.Mathlib.Decide.{ℕ-discrete}
 use lib.ListN.{length}
 use Rattle.sessions.specs.declared.Session.{Session}
-use Rattle.serial.specs.Calls.{Turn, nothing, told, Run, Demand-3}
+use Rattle.serial.specs.Calls.{Turn, nothing, told, Run, Demand-3, Made}
 use Rattle.serial.specs.Calls as C
 use Rattle.machine.specs.State.{fresh}
 use Rattle.machine.specs.Calls.{format-checks, records-for}
@@ -13,7 +13,7 @@ use Rattle.meaning.specs.Reading.{M-of, meaning}
 use Rattle.meaning.specs.Sound.{Sound}
 use Rattle.refusals.specs.Refusing.{first-of, begin-list, put-list, step-list, commit-list, abort-list}
 use Rattle.promises.specs.Relations.{Answered, Formats}
-use Rattle.promises.specs.Demands.{Lending, Returns, words, words-demand-3}
+use Rattle.promises.specs.Demands.{Lending, Returns, words, words-demand-3, words-made}
 use Rattle.promises.specs.Ways.{Serves, begin-done, begin-refuses, put-done, put-refuses, commit-done, commit-refuses, abort-done, abort-refuses, format-answers, format-refused-answers}
 use Rattle.promises.specs.Steps.{step-done, step-refuses}
 
@@ -69,3 +69,9 @@ pub formatted-calls : (m : ℕ) (s s′ : List ℕ) (t t′ : List Session) → 
 formatted-calls m s s′ t t′ F ks y run =
     let a = F .accepts refl in
     all-calls m (records-for m (length s)) (record { store = s′; table = t′ }) (a .0) (a .1) ks y run
+
+-- Every list of calls has a run from there.
+pub formatted-made : (m : ℕ) (s s′ : List ℕ) (t t′ : List Session) → Formats m s t C.ok s′ t′ → (cs : List C.Call) → Made words (record { store = s′; table = t′ }) cs
+formatted-made m s s′ t t′ F cs =
+    let a = F .accepts refl in
+    words-made words-returns m (records-for m (length s)) (record { store = s′; table = t′ }) (a .0) (a .1) cs

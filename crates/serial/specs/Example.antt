@@ -15,7 +15,7 @@ use Rattle.serial.specs.Model.{both, Db, empty, Req, read, write, insert
 use Rattle.serial.specs.Footprints.{Good, store}
 use Rattle.serial.specs.Locks.{Kind, entry, group, Mode, weak, strong, lock-rule, Holds, Agree, undo-of}
 use Rattle.serial.specs.LockMachine.{Store}
-use Rattle.serial.specs.Calls.{Call, format, begin, commit, abort, step, Answer, ok, wait, done, refused, Turn, Asked, Machine}
+use Rattle.serial.specs.Calls.{Call, format, begin, commit, abort, step, Answer, ok, wait, done, refused, Turn, Asked, Machine, number-of}
 use Rattle.serial.specs.Calls as C
 
 -- ---- long locks
@@ -208,8 +208,8 @@ short a l = pick (decLt (length l) (length (a .words))) true false
 
 -- The request ends: refused with its count, or done under its locks.
 abbrev pub serve : ℕ → List ℕ → State → Req → Bool → Result
-serve s l x r true = (refused 12 (ans r (x .now) .number), l, handed s none x)
-serve s l x r false = (done (ans r (x .now) .number ∷ []), written (ans r (x .now)) l, served s r x)
+serve s l x r true = (refused 12 (number-of (ans r (x .now) .numbers)), l, handed s none x)
+serve s l x r false = (done (ans r (x .now) .numbers), written (ans r (x .now)) l, served s r x)
 
 -- It waits for the holder of a lock in the way.
 abbrev pub try : ℕ → List ℕ → State → Req → Option ℕ → Result

@@ -245,16 +245,16 @@ code-cases P p₁ p₂ p₃ p₄ p₅ rest c =
     is n p e = subst P (sym (eqb→eq c n (subst T (sym e) tt))) p
 
 abbrev Tells : ℕ → Type 0
-Tells c = (e f g : ℕ) (r : Req) (d : Db) (l : List ℕ) → request-of c e f g ≡ some r → answer-of c (ans r d .number ∷ []) (written (ans r d) l) ≡ ans r d
+Tells c = (e f g : ℕ) (r : Req) (d : Db) (l : List ℕ) → request-of c e f g ≡ some r → answer-of c (ans r d .numbers) (written (ans r d) l) ≡ ans r d
 
 abbrev Told-as : ℕ → Db → List ℕ → Req → Type 0
-Told-as c d l r = answer-of c (ans r d .number ∷ []) (written (ans r d) l) ≡ ans r d
+Told-as c d l r = answer-of c (ans r d .numbers) (written (ans r d) l) ≡ ans r d
 
 some-same : {A : Type 0} {a b : A} → some a ≡ some b → a ≡ b
 some-same e = cc
 
 locate-told : (f g : ℕ) (d : Db) (l : List ℕ) → Told-as 5 d l (locate f g)
-locate-told f g d l = ap (λ ws. record { number = length (located f g d); words = ws })
+locate-told f g d l = ap (λ ws. record { numbers = length (located f g d) ∷ []; words = ws })
     (ap (λ n. take n (written (ans (locate f g) d) l)) (sym (two-words-length (located f g d)))
     ∙ take-append-seam (two-words (located f g d)) (drop (length (two-words (located f g d))) l))
 
@@ -456,7 +456,7 @@ module _ (t : Told) (x : State) (w : Knows example t x) where
       inl (record {
         events = S.grow (suc k) ∷ (S.finish (suc k) r (ans r (x .now)) ∷ []);
         moved = M.more {y = meaning (locked (suc k) r x)} (locked-acts (suc k) r b g) (M.more (served-acts (suc k) r b) M.still);
-        as-told = done-told (some r) f (ans r (x .now) .number ∷ []) (written (ans r (x .now)) l)
+        as-told = done-told (some r) f _ (written (ans r (x .now)) l)
             ∙ ap (λ a. fed (suc k) (some r) a (t .past)) (tells (q .code) (q .entry) (q .first) (q .second) r (x .now) l f);
       }),
     )

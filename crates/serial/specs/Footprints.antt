@@ -1,4 +1,5 @@
 -- What each request of the logical model depends on and changes, item by item, and the model as one that the serial-run theorem speaks of.
+use mathlib.Core.List.{[], _∷_}
 use mathlib.Core.Path.{_≡_, refl, sym, _∙_, ap, subst}
 use Prim.Native.Nat.{ℕ, _-_}
 use native.Mathlib.Decide.{ℕ-discrete}
@@ -44,7 +45,7 @@ ans-local (read x) d e gd ge h = ap just (h (value x) refl)
 ans-local (write x v) d e gd ge h = refl
 ans-local (insert x k) d e gd ge h = ap (λ n. just (1 - n)) (h (cell k x) refl)
 ans-local (remove x k) d e gd ge h = ap just (h (cell k x) refl)
-ans-local (locate lo hi) d e gd ge h = ap (λ l. record { number = length l; words = two-words l }) (located-local lo hi d e gd ge h)
+ans-local (locate lo hi) d e gd ge h = ap (λ l. record { numbers = length l ∷ []; words = two-words l }) (located-local lo hi d e gd ge h)
 
 cell-pair : {k x k′ x′ : ℕ} → _≡_ {A = Pair} (k, x) (k′, x′) → cell k x ≡ cell k′ x′
 cell-pair e = ap (λ p. cell (p .0) (p .1)) e

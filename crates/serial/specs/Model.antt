@@ -67,13 +67,13 @@ pub data Req : Type 0 where
   read : ℕ → Req
   write insert remove locate : ℕ → ℕ → Req
 
--- The number beside done, and a locate's written words.
+-- The numbers beside done, all of them, and a locate's written words.
 pub record Ans : Type 0 where
-  pub number : ℕ
+  pub numbers : List ℕ
   pub words : List ℕ
 
 abbrev pub just : ℕ → Ans
-just n = record { number = n; words = [] }
+just n = record { numbers = n ∷ []; words = [] }
 
 abbrev pub InRange : ℕ → ℕ → Pair → Type 0
 InRange lo hi p = (lo ≤ p .0) × (p .0 ≤ hi)
@@ -101,7 +101,7 @@ feed (read e) d = (just (d .values e), d)
 feed (write e v) d = (just 0, record { values = λ x. pick (ℕ-discrete e x) v (d .values x); members = d .members })
 feed (insert e k) d = (just (1 - has by-key (k, e) (d .members)), record { values = d .values; members = ins by-key (k, e) (d .members) })
 feed (remove e k) d = (just (has by-key (k, e) (d .members)), record { values = d .values; members = del by-key (k, e) (d .members) })
-feed (locate lo hi) d = (record { number = length (located lo hi d); words = two-words (located lo hi d) }, d)
+feed (locate lo hi) d = (record { numbers = length (located lo hi d) ∷ []; words = two-words (located lo hi d) }, d)
 
 abbrev pub ans : Req → Db → Ans
 ans r d = feed r d .0

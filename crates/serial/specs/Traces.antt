@@ -21,9 +21,9 @@ three-sessions = (insert 5 500 ∷ insert 5 500 ∷ insert 3 500 ∷ write 5 77 
     ∷ []
 
 abbrev three-answers : List (List Ans)
-three-answers = (just 1 ∷ just 0 ∷ just 1 ∷ just 0 ∷ record { number = 2; words = 500 ∷ 3 ∷ 500 ∷ 5 ∷ [] } ∷ [])
+three-answers = (just 1 ∷ just 0 ∷ just 1 ∷ just 0 ∷ record { numbers = 2 ∷ []; words = 500 ∷ 3 ∷ 500 ∷ 5 ∷ [] } ∷ [])
     ∷ (just 1 ∷ just 0 ∷ just 77 ∷ [])
-    ∷ (record { number = 1; words = 500 ∷ 3 ∷ [] } ∷ just 0 ∷ [])
+    ∷ (record { numbers = 1 ∷ []; words = 500 ∷ 3 ∷ [] } ∷ just 0 ∷ [])
     ∷ []
 
 model-run : serial-answers store three-sessions empty ≡ three-answers
