@@ -33,12 +33,12 @@ module _ (w x h : ℕ) (t : Tree h) (u : Tree 1) (from upto : ℕ) (F : Found w 
   abbrev fl : Sons 0 → List Desc
   fl es = flat (leaves Desc ℕ 0) es
 
-  the-hit : Hit (Ord 0) x (F .lo) (suc (F .hi)) (u .sons)
+  pub the-hit : Hit (Ord 0) x (F .lo) (suc (F .hi)) (u .sons)
   unfolding Ord
   the-hit = hit (Ord 0) x (F .lo) (suc (F .hi)) (u .sons) (F .ord) (F .at-least) (let z = F .at-most in omega arith)
 
   module _ (H : Hit (Ord 0) x (F .lo) (suc (F .hi)) (u .sons)) where
-    key-is : pick x no-desc same (u .sons) ≡ H .a
+    pub key-is : pick x no-desc same (u .sons) ≡ H .a
     key-is = ap (pick x no-desc same) (H .eq) ∙ pick-hit x no-desc same (H .pre) (H .a) (H .u) (H .post) (H .below) (H .upto)
 
     leaf-is : leafAt Desc ℕ x h t ≡ some (H .a)

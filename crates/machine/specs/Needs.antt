@@ -21,6 +21,8 @@ use Rattle.machine.specs.Steps.{ended, goes-on, finished, guarded, entry
 use Rattle.machine.specs.Model.{memberships-are, model}
 use Rattle.machine.specs.Sound.{Sound}
 use Rattle.machine.specs.Nearest.{takes-of}
+use Rattle.machine.specs.InTheWay.{InTheWay}
+use Rattle.machine.specs.Conflicts.{nobody-in-the-way}
 use Rattle.machine.specs.Waits.{stand-blockers, step-blockers}
 use Rattle.machine.specs.Answers.{TooShort, req-locate, ordinary, first-plain, enter-plain, at-plain, change-plain}
 
@@ -43,7 +45,7 @@ step-needs p r s (take x) = 0
 -- ---- 11
 
 -- Refused 11, with 0 beside it, exactly if nobody is in the way and fewer records are free than needed.
-abbrev pub Lacks : State → List ℕ → ℕ → Outcome → Type 0
+abbrev Lacks : State → List ℕ → ℕ → Outcome → Type 0
 Lacks s bs need o = (k : ℕ) → (o .answer ≡ refused 11 k) ↔ ((k ≡ 0) × (bs ≡ []) × (s .free < need))
 
 abbrev lacking : Answer → Bool
@@ -164,15 +166,22 @@ take-lacks n p r x s =
     guard-lacks (group-blockers weak p d) 0 p r s _
     (either Enough (ltb (d .key) (r .second)) _ _ refl (either Enough (leb (2 * length (memberships (r .first) (r .second) (stored s))) n) _ _ refl refl))
 
--- Every step of every party.
-pub step-11 : (n p : ℕ) (r : Request) (s : State) (g : Stage) (k : ℕ)
-    → (next-step n p r s g .answer ≡ refused 11 k) ↔ ((k ≡ 0) × (step-blockers p r s g ≡ []) × (s .free < step-needs p r s g))
+step-lacks : (n p : ℕ) (r : Request) (s : State) (g : Stage) → Lacks s (step-blockers p r s g) (step-needs p r s g) (next-step n p r s g)
 unfolding next-step
-step-11 n p r s start = first-lacks p r s
-step-11 n p r s (enter x) = enter-lacks p r x s
-step-11 n p r s (at x) = at-lacks p r x s
-step-11 n p r s change = change-lacks p r s
-step-11 n p r s (take x) = take-lacks n p r x s
+step-lacks n p r s start = first-lacks p r s
+step-lacks n p r s (enter x) = enter-lacks p r x s
+step-lacks n p r s (at x) = at-lacks p r x s
+step-lacks n p r s change = change-lacks p r s
+step-lacks n p r s (take x) = take-lacks n p r x s
+
+-- Nobody in the way, by the guards and by document 01's words.
+in-words : {X A N B D : Type 0} → N ↔ B → X ↔ (A × N × D) → X ↔ (A × B × D)
+in-words f h = ((λ x. let z = h .0 x in (z .0, f .0 (z .1), z .2)), λ z. h .1 (z .0, f .1 (z .1), z .2))
+
+-- Every step of every party, from every sound state.
+pub step-11 : (n p : ℕ) (r : Request) (s : State) → Sound s → sessionOf p s .hand ≡ some r → (k : ℕ)
+    → (next-step n p r s (r .stage) .answer ≡ refused 11 k) ↔ ((k ≡ 0) × ((q : ℕ) → ¬ InTheWay p r s (r .stage) q) × (s .free < step-needs p r s (r .stage)))
+step-11 n p r s S e k = in-words (nobody-in-the-way S p r e) (step-lacks n p r s (r .stage) k)
 
 -- ---- 12
 
@@ -245,6 +254,6 @@ module _ (n p : ℕ) (r : Request) (s : State) (S : Sound s) (e : sessionOf p s 
   step-12-at change k q = never (step-blockers p r s change ≡ []) (TooShort r s n k) (change-step p r s) k (change-plain Plain p r s (λ a t h. h))
   step-12-at (take x) k q = take-12 x k q
 
-  -- Every step of every party.
-  pub step-12 : (k : ℕ) → (next-step n p r s (r .stage) .answer ≡ refused 12 k) ↔ (AtSecond r s (r .stage) × (step-blockers p r s (r .stage) ≡ []) × TooShort r s n k)
-  step-12 k = step-12-at (r .stage) k refl
+  -- Every step of every party, from every sound state.
+  pub step-12 : (k : ℕ) → (next-step n p r s (r .stage) .answer ≡ refused 12 k) ↔ (AtSecond r s (r .stage) × ((q : ℕ) → ¬ InTheWay p r s (r .stage) q) × TooShort r s n k)
+  step-12 k = in-words (nobody-in-the-way S p r e) (step-12-at (r .stage) k refl)

@@ -1,27 +1,30 @@
 -- Tidy's last step, answer and effect both ways (document 01, "Long locks": "Tidy removes the chosen descriptor exactly if ..").
-use mathlib.Core.Path.{_≡_, refl, sym, _∙_, subst, ap}
+use mathlib.Core.Path.{_≡_, refl, sym, _∙_, subst, ap, ap₂}
 use mathlib.Core.Bool.{Bool, true, false, cond, not}
-use mathlib.Core.List.{List, [], _∷_, _++_, append-assoc}
+use mathlib.Core.List.{List, [], _∷_, _++_, append-assoc, append-nil}
 use mathlib.Core.Logic.{_↔_, _⊎_, inl, inr}
 use mathlib.Core.Option.{none, some, Option·some-injective}
-use Prim.Native.Nat.{zero, suc, _+_, _≤_, ℕ}
+use Prim.Native.Nat.{zero, suc, _+_, _≤_, _<_, ℕ}
 use native.Mathlib.Omega.{arith}
 use lib.Dec.{leb, eqb}
+use lib.ListN.{length, length-append}
 use Rattle.serial.specs.Serial.{true≢false}
 use Rattle.machine.specs.Logic.{eqb-yes, eqb-no, leb-yes, leb-no, either}
 use Rattle.machine.specs.Holders.{filter, latch-word}
-use Rattle.machine.specs.Tree.{pick}
+use Rattle.machine.specs.Tree.{onp, pick, flat, leaves, Below, onp-hit}
+use Rattle.machine.specs.Descent.{Sons, bound-of, on-last, node, sons-of, taken-out, on-latch, unlatched}
 use Rattle.machine.specs.State.{Desc, Tree, Request, State, Answer, ok, more, wait, refused, enter, change, take, done, Outcome, Stage, start, no-desc, same, or-none, sessionOf, stored, lowest-from, gap-below, descOf, set-hand, on-session, on-tree, top, at}
-use Rattle.machine.specs.Steps.{guarded, goes-on, root-blockers, root-need, enter-step, level-blockers, level-need, level-step, son-at, unlatch, ended, unpin, pinned, finished, removable, tidied-state, tidy-step, lowest-step, stand-step, at-step, next-step, first-step, answer}
-use Rattle.machine.specs.Sound.{Sound, Stands, stored-in}
-use Rattle.machine.specs.Context.{Focus}
+use Rattle.machine.specs.Steps.{guarded, goes-on, root-blockers, root-need, enter-step, level-blockers, level-need, level-step, son-at, unlatch, ended, unpin, pinned, finished, removable, on-lowest, tidied-state, tidy-step, lowest-step, stand-step, at-step, next-step, first-step, answer}
+use Rattle.machine.specs.Sound.{Sound, Stands, Room, stored-in}
+use Rattle.machine.specs.Context.{Ctx, hole, down, plug, Clear, Focus}
 use Rattle.machine.specs.InTheWay.{At}
-use Rattle.machine.specs.Order.{In, in-wide}
+use Rattle.machine.specs.Order.{In, in-wide, lv}
+use Rattle.machine.specs.Latched.{on-latch-plug}
 use Rattle.machine.specs.Groups.{Rises}
 use Rattle.machine.specs.Housekeeping.{lvs, Goes, removable-is, StoodAt, unlatch-leaves}
-use Rattle.machine.specs.Lowest.{taken-at, same-leaf}
+use Rattle.machine.specs.Lowest.{the-hit, key-is, taken-at, same-leaf}
 use Rattle.machine.specs.Keys.{Kept}
-use Rattle.machine.specs.Table.{ended-own, ended-other, hand-seat}
+use Rattle.machine.specs.Table.{with-hand, session-same, ended-own, ended-other, hand-seat}
 use Rattle.machine.specs.Checks.{keeper-code}
 use Rattle.machine.specs.Looks.{sound-ordered, ordered-rises, stored-most, stored-parts, stored-range, kept-of}
 use Rattle.machine.specs.Nearest.{lowest-here}
@@ -50,27 +53,36 @@ pub record MayGo (x : ℕ) (l : List Desc) : Type 0 where
 abbrev pub but-key : ℕ → List Desc → List Desc
 but-key x l = filter (λ d. not (eqb (d .key) x)) l
 
--- From s to t the descriptor of x is gone from the stored ones, its record is free, the housekeeper's request has ended, and nothing else is another.
-pub record Removed (x : ℕ) (s t : State) : Type 0 where
-  pub stored-are : lvs t ≡ but-key x (lvs s)
-  pub one-more-free : t .free ≡ s .free + 1
+-- The sons es of a lowest node become fs: the descriptor of x goes, and the boundary behind it; where it was the last one, the descriptor before it has the node's own bound.
+pub data LosesSon (x : ℕ) (es fs : Sons 0) : Type 0 where
+  between : (pre : Sons 0) (d : Desc) (b : ℕ) (q : Desc × ℕ) (post : Sons 0) → d .key ≡ x → es ≡ pre ++ (d, b) ∷ q ∷ post → fs ≡ pre ++ q ∷ post → LosesSon x es fs
+  the-last : (pre : Sons 0) (c : Desc) (a : ℕ) (d : Desc) (b : ℕ) → d .key ≡ x → es ≡ pre ++ (c, a) ∷ (d, b) ∷ [] → fs ≡ pre ++ (c, b) ∷ [] → LosesSon x es fs
+
+-- From s to t the lowest node u lost its latch and has the sons fs, so many records more are free, and the housekeeper's request has ended. Nothing else is another: no other node, boundary or latch,
+-- no entry, no other party's session.
+pub record Leaves (u : Tree 1) (fs : Sons 0) (many : ℕ) (s t : State) : Type 0 where
+  pub around : Ctx 1 (suc (s .root .height))
+  pub was : s .root .node ≡ plug around u
+  pub tree-is : t .root ≡ record { height = s .root .height; node = plug around (node 0 fs) }
+  pub free-is : t .free ≡ s .free + many
   pub entries-same : t .entries ≡ s .entries
   pub records-same : t .records ≡ s .records
-  pub hand-gone : sessionOf 0 t .hand ≡ none
+  pub hand-gone : sessionOf 0 t ≡ with-hand none (sessionOf 0 s)
   pub others-same : (q : ℕ) → ¬ (0 ≡ q) → sessionOf q t ≡ sessionOf q s
 
--- Tidy's last step at the descriptor of x, from s to t; Done ns says that it answers done with the numbers ns. It is its key and 1 exactly if the descriptor may go, and then that is gone; its key and 0
--- exactly if it may not, and then the request and its latch end and nothing else is another.
-pub record Tidies (x : ℕ) (s : State) (Done : List ℕ → Type 0) (t : State) : Type 0 where
+-- Tidy's last step at the descriptor of x under the lowest node u, from s to t; Done ns says that it answers done with the numbers ns. It is its key and 1 exactly if the descriptor may go, and then that
+-- alone is gone; its key and 0 exactly if it may not, and then it stays.
+pub record Tidies (x : ℕ) (u : Tree 1) (s : State) (Done : List ℕ → Type 0) (t : State) : Type 0 where
   pub removes : Done (x ∷ 1 ∷ []) ↔ MayGo x (lvs s)
   pub declines : Done (x ∷ 0 ∷ []) ↔ ¬ MayGo x (lvs s)
-  pub gone : MayGo x (lvs s) → Removed x s t
-  pub stays : ¬ MayGo x (lvs s) → t ≡ set-hand 0 none (unlatch 0 (at x) s)
+  pub gone : MayGo x (lvs s) → (fs : Sons 0) × LosesSon x (u .sons) fs × Leaves u fs 1 s t
+  pub stored-are : MayGo x (lvs s) → lvs t ≡ but-key x (lvs s)
+  pub stays : ¬ MayGo x (lvs s) → Leaves u (u .sons) 0 s t
 
 -- A step of the housekeeper's request r: 0 and 0 where no descriptor was chosen, the last step as above, and no other step is done.
 pub record Tidy (r : Request) (s : State) (Done : List ℕ → Type 0) (t : State) : Type 0 where
   pub none-chosen : r .stage ≡ start → Done (0 ∷ 0 ∷ [])
-  pub last-step : (x : ℕ) → r .stage ≡ at x → (u : Tree 1) → At 0 x s 0 u → Tidies x s Done t
+  pub last-step : (x : ℕ) → r .stage ≡ at x → (u : Tree 1) → At 0 x s 0 u → Tidies x u s Done t
   pub no-other : (ns : List ℕ) → Done ns → (r .stage ≡ start) ⊎ ((x : ℕ) × (r .stage ≡ at x) × ((u : Tree 1) × At 0 x s 0 u))
 
 -- The same of another way to say done.
@@ -81,6 +93,7 @@ tidy-said f T = record {
     removes = ((λ h. L .removes .0 (f (x ∷ 1 ∷ []) .1 h)), λ h. f (x ∷ 1 ∷ []) .0 (L .removes .1 h));
     declines = ((λ h. L .declines .0 (f (x ∷ 0 ∷ []) .1 h)), λ h. f (x ∷ 0 ∷ []) .0 (L .declines .1 h));
     gone = L .gone;
+    stored-are = L .stored-are;
     stays = L .stays;
   };
   no-other = λ ns h. T .no-other ns (f ns .1 h);
@@ -104,7 +117,7 @@ rises-low lo e (a ∷ A) d B r = (
   in-wide (suc (a .key)) (d .key) lo (d .key) A (rises-low (suc (a .key)) e A d B (r .1)) (omega (arith, r .0 .0)) (omega arith),
 )
 
-snoc-of : (a : Desc) (l : List Desc) → (pre : List Desc) × (c : Desc) × (a ∷ l ≡ pre ++ c ∷ [])
+snoc-of : {X : Type 0} (a : X) (l : List X) → (pre : List X) × (c : X) × (a ∷ l ≡ pre ++ c ∷ [])
 snoc-of a [] = ([], a, refl)
 snoc-of a (b ∷ l) = let z = snoc-of b l in (a ∷ z .0, z .1, ap (λ k. a ∷ k) (z .2))
 
@@ -118,6 +131,44 @@ but-high x upto (d ∷ D) i = rw (eqb-no (d .key) x (λ z. omega (arith, z, i .0
 
 but-here : (x : ℕ) (d : Desc) (D : List Desc) → d .key ≡ x → but-key x (d ∷ D) ≡ but-key x D
 but-here x d D e = rw (eqb-yes (d .key) x e) refl
+
+-- ---- a lowest node without one of its sons
+
+bound-tail : (z : ℕ) (pre : Sons 0) (q : Desc × ℕ) (post : Sons 0) → bound-of z (pre ++ q ∷ post) ≡ bound-of (q .1) post
+bound-tail z [] q post = refl
+bound-tail z (p ∷ pre) q post = bound-tail (p .1) pre q post
+
+last-same : (z v : ℕ) (es : Sons 0) → v ≡ bound-of z es → on-last (λ _ _. v) es ≡ es
+last-same z v [] i = refl
+last-same z v (p ∷ []) i = ap (λ b. (p .0, b) ∷ []) i
+last-same z v (p ∷ q ∷ es) i = ap (λ l. p ∷ l) (last-same (p .1) v (q ∷ es) i)
+
+last-set : (v : ℕ) (pre : Sons 0) (p : Desc × ℕ) → on-last (λ _ _. v) (pre ++ p ∷ []) ≡ pre ++ (p .0, v) ∷ []
+last-set v [] p = refl
+last-set v (q ∷ []) p = refl
+last-set v (q ∷ o ∷ pre) p = ap (λ l. q ∷ l) (last-set v (o ∷ pre) p)
+
+loses : (x : ℕ) (es pre : Sons 0) (d : Desc) (b : ℕ) (post : Sons 0) → es ≡ pre ++ (d, b) ∷ post → Below x pre → x ≤ b → d .key ≡ x → (es ≡ (d, b) ∷ [] → ⊥) → LosesSon x es (taken-out x es)
+unfolding taken-out
+loses x es pre d b (q ∷ post) i low up k n = between pre d b q post k i
+    (ap₂ (λ v l. on-last (λ _ _. v) l) (ap (bound-of 0) i ∙ bound-tail 0 pre (d, b) (q ∷ post)) (cut (q ∷ post) i) ∙ last-same 0 (bound-of (q .1) post) (pre ++ q ∷ post) (sym (bound-tail 0 pre q post)))
+  where
+    cut : (l : Sons 0) → es ≡ pre ++ (d, b) ∷ l → onp x (λ _ _. []) es ≡ pre ++ l
+    cut l i = ap (onp x (λ _ _. [])) i ∙ onp-hit x (λ _ _. []) pre d b l low up
+loses x es [] d b [] i low up k n = absurd (n i)
+loses x es (p ∷ pre) d b [] i low up k n =
+    let z = snoc-of p pre in
+    the-last (z .0) (z .1 .0) (z .1 .1) d b k (i ∙ ap (λ l. l ++ (d, b) ∷ []) (z .2) ∙ append-assoc (z .0) (z .1 ∷ []) ((d, b) ∷ []))
+    (ap₂ (λ v l. on-last (λ _ _. v) l) (ap (bound-of 0) i ∙ bound-tail 0 (p ∷ pre) (d, b) []) (ap (onp x (λ _ _. [])) i ∙ onp-hit x (λ _ _. []) (p ∷ pre) d b [] low up ∙ append-nil (p ∷ pre) ∙ z .2) ∙ last-set b (z .0) (z .1))
+
+abbrev top-latch : ℕ → (h : ℕ) → Tree h → Type 0
+top-latch w zero t = ⊥
+top-latch w (suc h) t = t .latch ≡ w
+
+-- A node that has the latch, where none above it has, is the root, if that has it.
+only-top : {k h : ℕ} (w : ℕ) (c : Ctx (suc k) h) (u : Tree (suc k)) → Clear w c → top-latch w h (plug c u) → lv h (plug c u) ≡ lv (suc k) u
+only-top w hole u n l = refl
+only-top w (down v pre c b post) u n l = absurd (n .0 l)
 
 -- ---- the step
 
@@ -217,26 +268,55 @@ module _ (n : ℕ) (r : Request) (x : ℕ) (s : State) (S : Sound s) (e : sessio
       ap lvs (ended-at (tidied-state 0 x s)) ∙ unlatch-leaves 0 (at x) (tidied-state 0 x s) ∙ P .is-without
       ∙ sym (ap (but-key x) (P .is-with) ∙ but-low x 0 (P .C) (d ∷ P .D) (P .low) ∙ ap (λ l. P .C ++ l) (but-here x d (P .D) d-key ∙ but-high x (suc top) (P .D) (P .high)))
 
-  removed : Removed x s after
-  unfolding on-tree set-hand on-session unlatch
-  removed = record {
-    stored-are = after-stored;
-    one-more-free = ap (λ t. t .free) (ended-at (tidied-state 0 x s));
-    entries-same = ap (λ t. t .entries) (ended-at (tidied-state 0 x s));
-    records-same = ap (λ t. t .records) (ended-at (tidied-state 0 x s));
-    hand-gone = ap (λ t. t .hand) (ended-own 0 r (tidied-state 0 x s) (hand-seat 0 r s e));
-    others-same = λ p n. ended-other 0 p r (tidied-state 0 x s) n ∙ tidied-table p;
+  -- The last step ends the request, and the tree is f's at the latched node, unlatched.
+  leaves-ended : (f : Sons 0 → Sons 0) (many : ℕ) (z : State) → z .root ≡ on-tree (on-latch (latch-word 0) x (on-lowest f)) s .root → z .free ≡ s .free + many → z .entries ≡ s .entries → z .records ≡ s .records
+      → z .table ≡ s .table → Leaves u (f (u .sons)) many s (ended 0 r z)
+  unfolding on-tree set-hand on-session unlatch unlatched
+  leaves-ended f many z i j k l m = record {
+    around = F .around;
+    was = F .is;
+    tree-is = ap (λ y. y .root) (ended-at z) ∙ ap (λ y. record { height = y .height; node = on-latch (latch-word 0) x unlatched (suc (y .height)) (y .node) }) i
+        ∙ ap (λ y. record { height = s .root .height; node = on-latch (latch-word 0) x unlatched (suc (s .root .height)) y }) (F .changes (on-lowest f))
+        ∙ ap (λ y. record { height = s .root .height; node = y })
+        (on-latch-plug (latch-word 0) x unlatched (F .around) (node (u .latch) (f (u .sons))) (F .way) (F .clear) (F .latch));
+    free-is = ap (λ y. y .free) (ended-at z) ∙ j;
+    entries-same = ap (λ y. y .entries) (ended-at z) ∙ k;
+    records-same = ap (λ y. y .records) (ended-at z) ∙ l;
+    hand-gone = ended-own 0 r z (subst (λ y. 0 < length y) (sym m) (hand-seat 0 r s e)) ∙ ap (with-hand none) (session-same s z m 0);
+    others-same = λ p n. ended-other 0 p r z n ∙ session-same s z m p;
   }
+
+  -- The node that a descriptor goes from has another one.
+  not-alone : MayGo x (lvs s) → (c : Desc) (b : ℕ) → u .sons ≡ (c, b) ∷ [] → ⊥
+  not-alone M c b i = go (F .room)
     where
-      tidied-table : (p : ℕ) → sessionOf p (tidied-state 0 x s) ≡ sessionOf p s
-      tidied-table p = unfold sessionOf in refl
+      go : Room s 0 0 (sons-of u) → ⊥
+      go (inl h) = omega (arith, h, ap length i)
+      go (inr (h, k)) =
+          let l : lvs s ≡ c ∷ [] = ap (lv (suc (s .root .height))) (F .is) ∙ only-top (latch-word 0) (F .around) u (F .clear) (sym (ap (λ y. y .latch) (F .is)) ∙ h) ∙ (unfold leaves in (ap (flat (leaves Desc ℕ 0)) i)) in
+          let n = length-append (M .before) (M .prior ∷ M .chosen ∷ M .behind) in
+          omega (arith, n, ap length (sym (M .are) ∙ l))
+
+  removed : MayGo x (lvs s) → (fs : Sons 0) × LosesSon x (u .sons) fs × Leaves u fs 1 s after
+  unfolding on-tree
+  removed M =
+      let H = the-hit (latch-word 0) x (suc (s .root .height)) (s .root .node) u 0 (suc top) G in
+      let k = key-is (latch-word 0) x (suc (s .root .height)) (s .root .node) u 0 (suc top) G H in (
+        taken-out x (u .sons),
+        loses x (u .sons) (H .pre) (H .a) (H .u) (H .post) (H .eq) (H .below) (H .upto) (ap (λ c. c .key) (sym k) ∙ d-key) (not-alone M (H .a) (H .u)),
+        leaves-ended (taken-out x) 1 (tidied-state 0 x s) refl refl refl refl refl,
+      )
+
+  declined : Leaves u (u .sons) 0 s (ended 0 r s)
+  unfolding on-tree
+  declined = leaves-ended (λ es. es) 0 s (ap (λ y. record { height = s .root .height; node = y }) (F .is ∙ sym (F .changes (on-lowest (λ es. es))))) (omega arith) refl refl refl
 
   step-is : next-step n 0 r s (at x) ≡ tidy-step 0 r x d s
   unfolding next-step at-step stand-step lowest-step
   step-is = F .answers _ (stand-step 0 r x s)
 
   abbrev By : Outcome → Type 0
-  By o = Tidies x s (λ ns. o .answer ≡ done ns) (o .next)
+  By o = Tidies x u s (λ ns. o .answer ≡ done ns) (o .next)
 
   tidies : By (next-step n 0 r s (at x))
   unfolding tidy-step finished stored
@@ -249,14 +329,16 @@ module _ (n : ℕ) (r : Request) (x : ℕ) (s : State) (S : Sound s) (e : sessio
       go true i = let M = goes-may (removable-is g d .0 i) in record {
         removes = ((λ _. M), λ _. refl);
         declines = ((λ h. absurd (omega (arith, second 1 0 h))), λ h. absurd (h M));
-        gone = λ _. removed;
+        gone = removed;
+        stored-are = λ _. after-stored;
         stays = λ h. absurd (h M);
       }
       go false i = let N : ¬ MayGo x (lvs s) = λ M. true≢false (removable-is g d .1 (may-goes M)) i in record {
         removes = ((λ h. absurd (omega (arith, second 0 1 h))), λ M. absurd (N M));
         declines = ((λ _. N), λ _. refl);
         gone = λ M. absurd (N M);
-        stays = λ _. ended-at s;
+        stored-are = λ M. absurd (N M);
+        stays = λ _. declined;
       }
 
 -- ---- every step of the housekeeper
@@ -307,6 +389,6 @@ module _ (n : ℕ) (r : Request) (s : State) (S : Sound s) (e : sessionOf 0 s .h
   unfolding next-step
   tidy = record {
     none-chosen = λ i. ap (λ g. next-step n 0 r s g .answer) i ∙ first-done;
-    last-step = λ x i u A. subst (λ g. Tidies x s (λ ns. next-step n 0 r s g .answer ≡ done ns) (next-step n 0 r s g .next)) (sym i) (tidies n r x s S e i u A);
+    last-step = λ x i u A. subst (λ g. Tidies x u s (λ ns. next-step n 0 r s g .answer ≡ done ns) (next-step n 0 r s g .next)) (sym i) (tidies n r x s S e i u A);
     no-other = λ ns h. done-only (r .stage) refl ns h;
   }

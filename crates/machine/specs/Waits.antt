@@ -1,21 +1,18 @@
--- Demand 2, waiting: a step waits exactly if another party's lock is in its way, and then changes nothing; the asker is never in its own way.
+-- Demand 2, waiting, by the guards of the steps: a step waits exactly if they find somebody, and then changes nothing. Whom they find is said in Conflicts.
 use mathlib.Core.Path.{_≡_, refl, sym, subst}
-use mathlib.Core.Bool.{Bool, true, false, cond, not, _&&_, _||_}
+use mathlib.Core.Bool.{Bool, true, false, cond}
 use mathlib.Core.List.{List, [], _∷_}
-use Prim.Native.Nat.{zero, suc, _-_, _*_, ℕ}
-use native.Mathlib.Omega.{arith}
+use Prim.Native.Nat.{zero, suc, _*_, ℕ}
 use lib.Dec.{leb, ltb, eqb}
 use lib.ListN.{length}
 use Rattle.serial.specs.Serial.{true≢false}
-use Rattle.serial.specs.Locks.{Kind, Mode, weak, strong}
-use Rattle.machine.specs.Logic.{eqb-no, eqb-is, either, eqb-not}
-use Rattle.machine.specs.Holders.{width, holds, count-from, filter, in-the-way, blockers, latch-word, elem, latch-blockers}
+use Rattle.serial.specs.Locks.{weak, strong}
+use Rattle.machine.specs.Logic.{eqb-is, either}
+use Rattle.machine.specs.Holders.{latch-word, elem}
 use Rattle.machine.specs.Tree.{pick}
 use Rattle.machine.specs.State.{Desc, Tree, Stage, start, enter, change, take, Request, State, Answer, more, wait, done, refused, no-desc, same, or-none, stored, lowest-from, gap-below, descOf, at, ok, Outcome}
 use Rattle.machine.specs.Descent.{Sons, at-latch}
-use Rattle.machine.specs.Steps.{rule, ended, goes-on, finished, guarded, entry-blockers, group-blockers, read-step, write-step, entry-step, insert-step, remove-step, change-step, memberships, last-take, take-desc, take-step, root-blockers, root-need, enter-step, level-blockers, level-step, son-at, pin-step, make-step, removable, tidied-state, tidy-step, lowest-step, stand-step, at-step, first-step, next-step, updating-state, removed-state, answer}
-use Rattle.machine.specs.Descents.{latch-cases}
-use Rattle.machine.specs.Blocking.{group-blocks}
+use Rattle.machine.specs.Steps.{ended, goes-on, finished, guarded, entry-blockers, group-blockers, read-step, write-step, entry-step, insert-step, remove-step, change-step, memberships, last-take, take-desc, take-step, root-blockers, root-need, enter-step, level-blockers, level-step, son-at, pin-step, make-step, removable, tidied-state, tidy-step, lowest-step, stand-step, at-step, first-step, next-step, updating-state, removed-state, answer}
 
 -- ---- the parties in the way of the next step
 
@@ -136,55 +133,3 @@ step-waits n p r s (enter x) = enter-waits p r x s
 step-waits n p r s (at x) = at-waits p r x s
 step-waits n p r s change = change-waits p r s
 step-waits n p r s (take x) = take-waits n p r x s
-
--- ---- the asker is never in its own way
-
-pub blockers-others : (k : Kind) (m : Mode) (p hw hs : ℕ) → elem p (blockers rule k m p hw hs) ≡ false
-unfolding blockers
-blockers-others k m p hw hs = go (count-from 1 width)
-  where
-    skip : (t : ℕ) (l : List ℕ) → elem p l ≡ false → (b : Bool) → eqb t p ≡ b → (c : Bool) → elem p (cond (not b && c) (t ∷ l) l) ≡ false
-    skip t l h true e c = h
-    skip t l h false e true = rw (eqb-no p t (λ q. eqb-not t p e (sym q))) h
-    skip t l h false e false = h
-
-    go : (l : List ℕ) → elem p (filter (in-the-way rule k m p hw hs) l) ≡ false
-    go [] = refl
-    go (t ∷ l) = skip t (filter (in-the-way rule k m p hw hs) l) (go l) (eqb t p) refl ((holds hw t && not (rule k weak m)) || (holds hs t && not (rule k strong m)))
-
-pub latch-others : (p : ℕ) (ws : List ℕ) → elem p (latch-blockers p ws) ≡ false
-unfolding latch-blockers
-latch-others p [] = refl
-latch-others p (w ∷ ws) = add w (latch-blockers p ws) (latch-others p ws) (eqb w 0) refl (eqb w (latch-word p)) refl (elem (w - 1) (latch-blockers p ws))
-  where
-    add : (w : ℕ) (l : List ℕ) → elem p l ≡ false → (a : Bool) → eqb w 0 ≡ a → (b : Bool) → eqb w (latch-word p) ≡ b → (c : Bool) → elem p (cond (a || b || c) l ((w - 1) ∷ l)) ≡ false
-    add w l h true e b f c = h
-    add w l h false e true f c = h
-    add w l h false e false f true = h
-    add w l h false e false f false = rw (eqb-no p (w - 1) (other w e f)) h
-      where
-        other : (v : ℕ) → eqb v 0 ≡ false → eqb v (latch-word p) ≡ false → ¬ (p ≡ v - 1)
-        other zero i j q = true≢false {b = true} refl i
-        other (suc v) i j q = eqb-not (suc v) (latch-word p) j (omega (arith, q))
-
-stand-others : (p x h : ℕ) (t : Tree (suc h)) → elem p (stand-blockers p x h t) ≡ false
-unfolding stand-blockers
-stand-others p x zero t = refl
-stand-others p x (suc h) t = latch-others p _
-
-not-own : (m : Mode) (p : ℕ) (d : Desc) → elem p (group-blockers m p d) ≡ false
-not-own m p d = go (elem p (group-blockers m p d)) refl
-  where
-    go : (b : Bool) → elem p (group-blockers m p d) ≡ b → b ≡ false
-    go true e = absurd (group-blocks m p d p .0 e .2 refl)
-    go false e = refl
-
-pub never-the-asker : (p : ℕ) (r : Request) (s : State) (g : Stage) → elem p (step-blockers p r s g) ≡ false
-unfolding step-blockers entry-blockers
-never-the-asker p r s start =
-    either (λ l. elem p l ≡ false) (eqb (r .code) 1) (entry-blockers weak p r s) (cond (leb (r .code) 4) (entry-blockers strong p r s) []) (blockers-others _ weak p _ _)
-    (either (λ l. elem p l ≡ false) (leb (r .code) 4) (entry-blockers strong p r s) [] (blockers-others _ strong p _ _) refl)
-never-the-asker p r s (enter x) = latch-others p _
-never-the-asker p r s (at x) = latch-cases (λ l. elem p l ≡ false) (latch-word p) x [] (stand-blockers p x) (suc (s .root .height)) (s .root .node) refl (stand-others p x)
-never-the-asker p r s change = not-own strong p (descOf (r .first) s)
-never-the-asker p r s (take x) = not-own weak p (or-none (lowest-from x (stored s)))

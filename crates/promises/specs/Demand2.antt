@@ -15,7 +15,7 @@ use Rattle.machine.specs.Holders.{elem}
 use Rattle.machine.specs.State.{State, Stage, Request, Answer, ok, more, wait, done, refused, Outcome, sessionOf}
 use Rattle.machine.specs.Steps.{next-step}
 use Rattle.machine.specs.InTheWay.{InTheWay}
-use Rattle.machine.specs.Conflicts.{blockers-exactly, nobody-in-the-way}
+use Rattle.machine.specs.Conflicts.{blockers-exactly}
 use Rattle.machine.specs.Tidying.{Tidy, tidy, tidy-said}
 use Rattle.machine.specs.Calls.{Call, call}
 use Rattle.machine.specs.View.{items, holders}
@@ -111,10 +111,6 @@ names-from z (b ∷ bs) o a w e q i = let h : Tells (wait (b ∷ bs)) a = subst 
     party-same : (i j : ℕ) → C.wait i ≡ C.wait j → i ≡ j
     party-same i j e = cc
 
--- Nobody in the way, said by the guards and by document 01's words.
-swap-11 : {X : Type 0} {A N B D : Type 0} → N ↔ B → X ↔ (A × N × D) → X ↔ (A × B × D)
-swap-11 f h = ((λ x. let z = h .0 x in (z .0, f .0 (z .1), z .2)), λ z. h .1 (z .0, f .1 (z .1), z .2))
-
 -- A refusal comes exactly if the machine's comes.
 refused-from : (z : Answer) (a : C.Answer) (n k : ℕ) (X : Type 0) → Tells z a → (z ≡ refused n k) ↔ X → (a ≡ C.refused n k) ↔ X
 refused-from z a n k X e h = ((λ i. h .0 (told-refused z n k (subst (Tells z) i e))), λ x. subst (λ y. Tells y a) (h .1 x) e)
@@ -158,9 +154,6 @@ module _ (p : ℕ) (l s : List ℕ) (t : List Session) (a : C.Answer) (l′ s′
   abbrev Free : Type 0
   Free = (q : ℕ) → ¬ InTheWay p r (meaning s t) (r .stage) q
 
-  free : (step-blockers p r (meaning s t) (r .stage) ≡ []) ↔ Free
-  free = nobody-in-the-way (S .state) p r in-hand
-
   in-way : (q : ℕ) → (elem q (step-blockers p r (meaning s t) (r .stage)) ≡ true) ↔ InTheWay p r (meaning s t) (r .stage) q
   in-way = blockers-exactly (S .state) p r in-hand
 
@@ -168,13 +161,13 @@ module _ (p : ℕ) (l s : List ℕ) (t : List Session) (a : C.Answer) (l′ s′
   Unserved k = (k ≡ 0) × Free × (meaning s t .free < step-needs p r (meaning s t) (r .stage))
 
   refused-11 : (k : ℕ) → (o .answer ≡ refused 11 k) ↔ Unserved k
-  refused-11 k = subst (λ (x : Outcome). (x .answer ≡ refused 11 k) ↔ Unserved k) (sym (outcome-is s t p l S z)) (swap-11 free (step-11 (length l) p r (meaning s t) (r .stage) k))
+  refused-11 k = subst (λ (x : Outcome). (x .answer ≡ refused 11 k) ↔ Unserved k) (sym (outcome-is s t p l S z)) (step-11 (length l) p r (meaning s t) (S .state) in-hand k)
 
   abbrev Unlisted : ℕ → Type 0
   Unlisted k = AtSecond r (meaning s t) (r .stage) × Free × TooShort r (meaning s t) (length l) k
 
   refused-12 : (k : ℕ) → (o .answer ≡ refused 12 k) ↔ Unlisted k
-  refused-12 k = subst (λ (x : Outcome). (x .answer ≡ refused 12 k) ↔ Unlisted k) (sym (outcome-is s t p l S z)) (swap-11 free (step-12 (length l) p r (meaning s t) (S .state) in-hand k))
+  refused-12 k = subst (λ (x : Outcome). (x .answer ≡ refused 12 k) ↔ Unlisted k) (sym (outcome-is s t p l S z)) (step-12 (length l) p r (meaning s t) (S .state) in-hand k)
 
   onward : a ≡ C.more → (g : Stage) × (sessionOf p (meaning s′ t′) .hand ≡ some (in-stage g r)) × Ahead p r (meaning s t) (r .stage) (meaning s′ t′) g
   onward e =
