@@ -7,7 +7,7 @@ use Prim.Native.Nat.{suc, _+_, _-_, _*_, _/_, min, ℕ}
 use lib.Dec.{leb, ltb, eqb}
 use lib.ListN.{length}
 use Rattle.machine.specs.Holders.{width, left-by}
-use Rattle.machine.specs.State.{Entry, Desc, Stage, start, enter, Request, Undo, added, taken, State, Answer, more, refused, Outcome, top, idle, sessionOf, stored, lowest-from, with-entries, with-free, on-entry, on-session, on-tree, on-leaves, on-desc, hold-desc, group-desc, with-member, without-member, set-hand, fresh, value, ok}
+use Rattle.machine.specs.State.{Entry, Desc, Stage, start, enter, Request, Undo, added, taken, State, more, refused, Outcome, top, idle, sessionOf, stored, lowest-from, with-entries, with-free, on-entry, on-session, on-tree, on-leaves, on-desc, hold-desc, group-desc, with-member, without-member, set-hand, fresh, value, ok}
 use Rattle.machine.specs.Steps.{ended, next-step, answer}
 
 pub data Call : Type 0 where
@@ -140,11 +140,3 @@ call (put p c e f g) s = refusing (put-checks p c e f g s) s (answer ok (accepte
 call (step p n) s = refusing (step-checks p s) s (steps p n (sessionOf p s .hand) s)
 call (commit p) s = refusing (commit-checks p s) s (answer ok (commits p s))
 call (abort p) s = refusing (abort-checks p s) s (answer ok (aborts p s))
-
--- A list of calls: the answers and written pairs, and the state at the end.
-unfoldable pub play : List Call → State → List (Answer × List (ℕ × ℕ)) × State
-play [] s = ([], s)
-play (c ∷ cs) s =
-    let o = call c s in
-    let rest = play cs (o .next) in
-    ((o .answer, o .written) ∷ rest .0, rest .1)

@@ -3,8 +3,9 @@ use mathlib.Core.Path.{_≡_, refl, sym, _∙_, subst, ap, ap₂}
 use mathlib.Core.Bool.{Bool, true, false, cond, not}
 use mathlib.Core.List.{List, [], _∷_, _++_, append-assoc, append-nil}
 use mathlib.Core.Logic.{_↔_, _⊎_, inl, inr}
-use mathlib.Core.Option.{none, some, Option·some-injective}
+use mathlib.Core.Option.{Option, none, some, Option·some-injective, Option·none-ne-some}
 use Prim.Native.Nat.{zero, suc, _+_, _≤_, _<_, ℕ}
+use native.Mathlib.Decide.{decLe}
 use native.Mathlib.Omega.{arith}
 use lib.Dec.{leb, eqb}
 use lib.ListN.{length, length-append}
@@ -15,19 +16,20 @@ use Rattle.machine.specs.Tree.{onp, pick, flat, leaves, Below, onp-hit}
 use Rattle.machine.specs.Descent.{Sons, bound-of, on-last, node, sons-of, taken-out, on-latch, unlatched}
 use Rattle.machine.specs.State.{Desc, Tree, Request, State, Answer, ok, more, wait, refused, enter, change, take, done, Outcome, Stage, start, no-desc, same, or-none, sessionOf, stored, lowest-from, gap-below, descOf, set-hand, on-session, on-tree, top, at}
 use Rattle.machine.specs.Steps.{guarded, goes-on, root-blockers, root-need, enter-step, level-blockers, level-need, level-step, son-at, unlatch, ended, unpin, pinned, finished, removable, on-lowest, tidied-state, tidy-step, lowest-step, stand-step, at-step, next-step, first-step, answer}
+use Rattle.machine.specs.Calls.{call, put, put-checks, accepted, first-stage, tidy-from}
 use Rattle.machine.specs.Sound.{Sound, Stands, Room, stored-in}
 use Rattle.machine.specs.Context.{Ctx, hole, down, plug, Clear, Focus}
-use Rattle.machine.specs.InTheWay.{At}
+use Rattle.machine.specs.InTheWay.{LowestFrom, At}
 use Rattle.machine.specs.Order.{In, in-wide, lv}
 use Rattle.machine.specs.Latched.{on-latch-plug}
 use Rattle.machine.specs.Groups.{Rises}
 use Rattle.machine.specs.Housekeeping.{lvs, Goes, removable-is, StoodAt, unlatch-leaves}
 use Rattle.machine.specs.Lowest.{the-hit, key-is, taken-at, same-leaf}
 use Rattle.machine.specs.Keys.{Kept}
-use Rattle.machine.specs.Table.{with-hand, session-same, ended-own, ended-other, hand-seat}
-use Rattle.machine.specs.Checks.{keeper-code}
+use Rattle.machine.specs.Table.{with-hand, hand-put, session-same, ended-own, ended-other, hand-seat}
+use Rattle.machine.specs.Checks.{refusing-cases, keeper-code}
 use Rattle.machine.specs.Looks.{sound-ordered, ordered-rises, stored-most, stored-parts, stored-range, kept-of}
-use Rattle.machine.specs.Nearest.{lowest-here}
+use Rattle.machine.specs.Nearest.{Nearest, lowest-stored, nearest, lowest-here}
 use Rattle.machine.specs.Descending.{stood, keeper-stored, keeper-pins}
 use Rattle.machine.specs.Conflicts.{focus-at, stood-at}
 
@@ -48,6 +50,11 @@ pub record MayGo (x : ℕ) (l : List Desc) : Type 0 where
   pub no-update : chosen .update ≡ 0
   pub same-locate : chosen .locate ≡ prior .gap
   pub same-gap : chosen .gap ≡ prior .gap
+
+-- "At the put, the lowest stored descriptor above first is chosen": the stage that a tidy above f starts at, where there is one and where there is none.
+pub data Chooses (f : ℕ) (s : State) (g : Stage) : Type 0 where
+  chosen : (x : ℕ) → g ≡ enter x → LowestFrom (suc f) s x → Chooses f s g
+  none-above : g ≡ start → ((y : ℕ) → stored-in y (lvs s) ≡ true → y ≤ f) → Chooses f s g
 
 -- The list without the descriptors of key x.
 abbrev pub but-key : ℕ → List Desc → List Desc
@@ -392,3 +399,40 @@ module _ (n : ℕ) (r : Request) (s : State) (S : Sound s) (e : sessionOf 0 s .h
     last-step = λ x i u A. subst (λ g. Tidies x u s (λ ns. next-step n 0 r s g .answer ≡ done ns) (next-step n 0 r s g .next)) (sym i) (tidies n r x s S e i u A);
     no-other = λ ns h. done-only (r .stage) refl ns h;
   }
+
+-- ---- the put of a tidy
+
+chooses : (f : ℕ) (s : State) → Sound s → Chooses f s (first-stage 6 f s)
+unfolding first-stage stored
+chooses f s S = go (lowest-from (suc f) (lvs s)) refl
+  where
+    from : (k : ℕ) → stored-in k (lvs s) ≡ true → suc f ≤ k → Nearest (suc f) (lvs s)
+    from = nearest (suc f) 0 4294967296 (lvs s) (ordered-rises s (sound-ordered S))
+
+    go : (o : Option Desc) → lowest-from (suc f) (lvs s) ≡ o → Chooses f s (tidy-from o)
+    go none i = none-above refl (λ y h. at-most y h (decLe y f))
+      where
+        at-most : (y : ℕ) → stored-in y (lvs s) ≡ true → Dec (y ≤ f) → y ≤ f
+        at-most y h (yes l) = l
+        at-most y h (no n) = let N = from y h (omega (arith, n)) in absurd (Option·none-ne-some (N .d) (sym i ∙ N .is))
+    go (some d) i =
+        let z = lowest-stored (suc f) (lvs s) d i in
+        let N = from (d .key) (z .1) (z .0) in
+        let k : N .d .key ≡ d .key = ap (λ c. c .key) (Option·some-injective (N .d) d (sym (N .is) ∙ i)) in
+        chosen (d .key) refl (record { is-stored = z .1; from = z .0; lowest = λ y h l. omega (arith, k, N .least y h l) })
+
+-- A tidy that is put is in hand, and has made its choice.
+pub put-chooses : (e f g : ℕ) (s : State) → Sound s → call (put 0 6 e f g) s .answer ≡ ok
+    → (h : Stage) × (sessionOf 0 (call (put 0 6 e f g) s .next) .hand ≡ some (record { code = 6; entry = e; first = f; second = g; stage = h })) × Chooses f s h
+unfolding call accepted
+put-chooses e f g s S = refusing-cases
+    (λ o. o .answer ≡ ok → (h : Stage) × (sessionOf 0 (o .next) .hand ≡ some (record { code = 6; entry = e; first = f; second = g; stage = h })) × Chooses f s h)
+    (put-checks 0 6 e f g s) s (answer ok (accepted 0 6 e f g s)) (λ n i. absurd (true≢false {b = true} refl (sym (ap is-ok i))))
+    (λ k i. (first-stage 6 f s, ap (λ x. x .hand) (hand-put 0 (some (record { code = 6; entry = e; first = f; second = g; stage = first-stage 6 f s })) s (omega (arith, S .seats))), chooses f s S))
+  where
+    is-ok : Answer → Bool
+    is-ok ok = true
+    is-ok more = false
+    is-ok (wait ps) = false
+    is-ok (done ns) = false
+    is-ok (refused n b) = false

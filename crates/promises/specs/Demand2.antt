@@ -16,7 +16,7 @@ use Rattle.machine.specs.State.{State, Stage, Request, Answer, ok, more, wait, 
 use Rattle.machine.specs.Steps.{next-step}
 use Rattle.machine.specs.InTheWay.{InTheWay}
 use Rattle.machine.specs.Conflicts.{blockers-exactly}
-use Rattle.machine.specs.Tidying.{Tidy, tidy, tidy-said}
+use Rattle.machine.specs.Tidying.{Chooses, put-chooses, Tidy, tidy, tidy-said}
 use Rattle.machine.specs.Calls.{Call, call}
 use Rattle.machine.specs.View.{items, holders}
 use Rattle.machine.specs.Session.{req-of}
@@ -79,6 +79,23 @@ holders-2 c s t a l′ s′ t′ P S =
       holders-are = λ k m q z. ap (λ x. holders x k m q z) (A .means) ∙ ledger-step d (meaning s t) (S .state) k m q z;
       logical-kept = λ e. subst (Untouched (meaning s t)) (sym (A .means)) (leaves-logical d (meaning s t) (S .state) e);
     }
+
+-- ---- the put of a tidy
+
+told-ok : (z : Answer) → Tells z C.ok → z ≡ ok
+told-ok ok e = refl
+told-ok more e = cc
+told-ok (wait ps) e = let q = e .2 in cc
+told-ok (done ms) e = cc
+told-ok (refused n b) e = cc
+
+-- An accepted put of a tidy above f, on sound words: it has chosen the lowest stored descriptor above f, or there is none.
+pub tidy-chosen : (e f g : ℕ) (s : List ℕ) (t : List Session) (l′ s′ : List ℕ) (t′ : List Session) → Calls (C.put 0 6 e f g) s t C.ok l′ s′ t′ → Sound s t
+    → (h : Stage) × (sessionOf 0 (meaning s′ t′) .hand ≡ some (record { code = 6; entry = e; first = f; second = g; stage = h })) × Chooses f (meaning s t) h
+tidy-chosen e f g s t l′ s′ t′ P S =
+    let A = P .answers S .0 in
+    let c = put-chooses e f g (meaning s t) (S .state) (told-ok (outcome (C.put 0 6 e f g) s t .answer) (A .tells)) in
+    (c .0, ap (λ x. sessionOf 0 x .hand) (A .means) ∙ c .1, c .2)
 
 -- ---- a step
 

@@ -235,8 +235,11 @@ module _ (𝓢 : Machine) where
   same-listed : (t u : Told) → u .unfinished ≡ t .unfinished → Listed t → Listed u
   same-listed t u q l = (l .0, record { once = l .1 .once; each = λ v i. ap (λ f. f v) q ∙ l .1 .each v i; all = λ v h. l .1 .all v (ap (λ f. f v) (sym q) ∙ h) })
 
+  nothing-listed : Listed nothing
+  nothing-listed = ([], record { once = tt; each = λ v i. absurd i; all = λ v h. absurd (true≢false h refl) })
+
   ok-listed : (c : Call) (t : Told) → Listed t → Listed (tell-ok c t)
-  ok-listed (format m) t l = ([], record { once = tt; each = λ v i. absurd i; all = λ v h. absurd (true≢false h refl) })
+  ok-listed (format m) t l = nothing-listed
   ok-listed (begin s) t l = begin-listed s t l
   ok-listed (commit s) t l = end-listed s t (tell-ok (commit s) t) refl l
   ok-listed (abort s) t l = end-listed s t (tell-ok (abort s) t) refl l
@@ -276,7 +279,7 @@ module _ (𝓢 : Machine) where
 
   -- For every list of turns there is a list of the sessions that are unfinished after them, each once.
   pub unfinished-told : (ks : List Turn) → (ss : List ℕ) × Unfinished (told nothing ks) ss
-  unfinished-told ks = told-listed ks nothing (ok-listed (format 0) nothing ([], record { once = tt; each = λ v i. absurd i; all = λ v h. absurd (true≢false h refl) }))
+  unfinished-told ks = told-listed ks nothing nothing-listed
 
   abbrev pub calls-of : List Turn → List Call
   calls-of ks = map (λ k. k .call) ks
