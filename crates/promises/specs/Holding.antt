@@ -41,7 +41,7 @@ module _ (m : ℕ) (s s′ : List ℕ) (t t′ : List Session) (F : Formats m s 
   means : meaning s′ t′ ≡ first
   means = F .accepts refl .1
 
-  -- The holders are the ledger's, which knows what each call granted, and of the store only which keys were stored then.
+  -- The holders are the ledger's, which knows what each call granted. It reads the request in hand, its stage, the answer and which keys were stored, and of the store nothing else.
   pub holders-run : (ks : List Turn) (y : Lending) → Run words start ks y → (k : Kind) (i : Mode) (q z : ℕ)
       → holders-in y k i q z ≡ ledger-after no-locks (calls-on (length s) ks) first k i q z
   holders-run ks y run k i q z =
