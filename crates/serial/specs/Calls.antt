@@ -141,6 +141,19 @@ pub record Machine : Type 1 where
 abbrev pub committed-db : Told → Db
 committed-db t = serial-db store (map (requests store) (t .past .closed)) empty
 
+-- The sessions of ss are the unfinished ones, each once.
+pub record Unfinished (t : Told) (ss : List ℕ) : Type 0 where
+  pub once : Distinct ss
+  pub each : (s : ℕ) → In s ss → t .unfinished s ≡ true
+  pub all : (s : ℕ) → t .unfinished s ≡ true → In s ss
+
+abbrev pub calls-of : List Turn → List Call
+calls-of ks = map (λ k. k .call) ks
+
+abbrev pub Accepted : List Turn → Type 0
+Accepted [] = Unit {0}
+Accepted (k ∷ ks) = (k .answer ≡ ok) × Accepted ks
+
 module _ (𝓢 : Machine) where
   open Machine 𝓢 using (X, Sound, meaning, hand, Does)
 
@@ -148,145 +161,6 @@ module _ (𝓢 : Machine) where
   pub data Run : X → List Turn → X → Type 0 where
     stop : {x : X} → Run x [] x
     next : {x y z : X} {k : Turn} {ks : List Turn} → Does x k y → Run y ks z → Run x (k ∷ ks) z
-
-  -- The sessions of ss are the unfinished ones, each once.
-  pub record Unfinished (t : Told) (ss : List ℕ) : Type 0 where
-    pub once : Distinct ss
-    pub each : (s : ℕ) → In s ss → t .unfinished s ≡ true
-    pub all : (s : ℕ) → t .unfinished s ≡ true → In s ss
-
-  -- Whatever was told, the unfinished sessions can be listed so.
-  abbrev Listed : Told → Type 0
-  Listed t = (ss : List ℕ) × Unfinished t ss
-
-  begin-listed : (s : ℕ) (t : Told) → Listed t → Listed (tell-ok (begin s) t)
-  begin-listed s t l = go (t .unfinished s) refl
-    where
-      now : ℕ → Bool
-      now = S.put (t .unfinished) s true
-
-      go : (b : Bool) → t .unfinished s ≡ b → Listed (tell-ok (begin s) t)
-      go true e = (l .0, record { once = l .1 .once; each = λ v i. kept v (l .1 .each v i) (ℕ-discrete s v); all = λ v h. l .1 .all v (was v h (ℕ-discrete s v)) })
-        where
-          kept : (v : ℕ) → t .unfinished v ≡ true → Dec (s ≡ v) → now v ≡ true
-          kept v h (yes q) = subst (λ z. now z ≡ true) q (put-same (t .unfinished) s true)
-          kept v h (no n) = put-other (t .unfinished) s true v n ∙ h
-
-          was : (v : ℕ) → now v ≡ true → Dec (s ≡ v) → t .unfinished v ≡ true
-          was v h (yes q) = subst (λ z. t .unfinished z ≡ true) q e
-          was v h (no n) = sym (put-other (t .unfinished) s true v n) ∙ h
-      go false e = (
-        s ∷ l .0,
-        record {
-          once = ((λ i. true≢false (l .1 .each s i) e), l .1 .once);
-          each = each;
-          all = λ v h. all v h (ℕ-discrete s v);
-        },
-      )
-        where
-          other : (v : ℕ) → t .unfinished v ≡ true → ¬ (s ≡ v)
-          other v h q = true≢false h (subst (λ z. t .unfinished z ≡ false) q e)
-
-          each : (v : ℕ) → In v (s ∷ l .0) → now v ≡ true
-          each v (inl q) = subst (λ z. now z ≡ true) (sym q) (put-same (t .unfinished) s true)
-          each v (inr i) = put-other (t .unfinished) s true v (other v (l .1 .each v i)) ∙ l .1 .each v i
-
-          all : (v : ℕ) → now v ≡ true → Dec (s ≡ v) → In v (s ∷ l .0)
-          all v h (yes q) = inl (sym q)
-          all v h (no n) = inr (l .1 .all v (sym (put-other (t .unfinished) s true v n) ∙ h))
-
-  record Less (s : ℕ) (ss : List ℕ) : Type 0 where
-    left : List ℕ
-    once : Distinct left
-    among : (v : ℕ) → In v left → In v ss × ¬ (s ≡ v)
-    others : (v : ℕ) → In v ss → ¬ (s ≡ v) → In v left
-
-  less : (s : ℕ) (ss : List ℕ) → Distinct ss → Less s ss
-  less s [] d = record { left = []; once = tt; among = λ v i. absurd i; others = λ v i n. i }
-  less s (x ∷ ss) d = go (ℕ-discrete s x) (less s ss (d .1))
-    where
-      go : Dec (s ≡ x) → Less s ss → Less s (x ∷ ss)
-      go (yes q) L = record { left = L .left; once = L .once; among = λ v i. (inr (L .among v i .0), L .among v i .1); others = others }
-        where
-          others : (v : ℕ) → In v (x ∷ ss) → ¬ (s ≡ v) → In v (L .left)
-          others v (inl w) n = absurd (n (q ∙ sym w))
-          others v (inr i) n = L .others v i n
-      go (no q) L = record { left = x ∷ L .left; once = ((λ i. d .0 (L .among x i .0)), L .once); among = among; others = others }
-        where
-          among : (v : ℕ) → In v (x ∷ L .left) → In v (x ∷ ss) × ¬ (s ≡ v)
-          among v (inl w) = (inl w, λ z. q (z ∙ w))
-          among v (inr i) = (inr (L .among v i .0), L .among v i .1)
-
-          others : (v : ℕ) → In v (x ∷ ss) → ¬ (s ≡ v) → In v (x ∷ L .left)
-          others v (inl w) n = inl w
-          others v (inr i) n = inr (L .others v i n)
-
-  -- A commit or an abort.
-  end-listed : (s : ℕ) (t u : Told) → u .unfinished ≡ S.put (t .unfinished) s false → Listed t → Listed u
-  end-listed s t u q l = let L = less s (l .0) (l .1 .once) in (L .left, record { once = L .once; each = λ v i. each v (L .among v i); all = λ v h. all L v (ap (λ f. f v) (sym q) ∙ h) (ℕ-discrete s v) })
-    where
-      each : (v : ℕ) → In v (l .0) × ¬ (s ≡ v) → u .unfinished v ≡ true
-      each v i = ap (λ f. f v) q ∙ put-other (t .unfinished) s false v (i .1) ∙ l .1 .each v (i .0)
-
-      all : (L : Less s (l .0)) (v : ℕ) → S.put (t .unfinished) s false v ≡ true → Dec (s ≡ v) → In v (L .left)
-      all L v h (yes z) = absurd (true≢false h (subst (λ y. S.put (t .unfinished) s false y ≡ false) z (put-same (t .unfinished) s false)))
-      all L v h (no n) = L .others v (l .1 .all v (sym (put-other (t .unfinished) s false v n) ∙ h)) n
-
-  same-listed : (t u : Told) → u .unfinished ≡ t .unfinished → Listed t → Listed u
-  same-listed t u q l = (l .0, record { once = l .1 .once; each = λ v i. ap (λ f. f v) q ∙ l .1 .each v i; all = λ v h. l .1 .all v (ap (λ f. f v) (sym q) ∙ h) })
-
-  nothing-listed : Listed nothing
-  nothing-listed = ([], record { once = tt; each = λ v i. absurd i; all = λ v h. absurd (true≢false h refl) })
-
-  ok-listed : (c : Call) (t : Told) → Listed t → Listed (tell-ok c t)
-  ok-listed (format m) t l = nothing-listed
-  ok-listed (begin s) t l = begin-listed s t l
-  ok-listed (commit s) t l = end-listed s t (tell-ok (commit s) t) refl l
-  ok-listed (abort s) t l = end-listed s t (tell-ok (abort s) t) refl l
-  ok-listed (put p c e f g) t l = same-listed t (tell-ok (put p c e f g) t) refl l
-  ok-listed (step p ws) t l = l
-
-  done-listed : (c : Call) (ns ws : List ℕ) (t : Told) → tell-done c ns ws t .unfinished ≡ t .unfinished
-  done-listed (format m) ns ws t = refl
-  done-listed (begin s) ns ws t = refl
-  done-listed (commit s) ns ws t = refl
-  done-listed (abort s) ns ws t = refl
-  done-listed (put p c e f g) ns ws t = refl
-  done-listed (step p l) ns ws t = refl
-
-  refused-listed : (c : Call) (n : ℕ) (t : Told) → tell-refused c n t .unfinished ≡ t .unfinished
-  refused-listed (format m) n t = refl
-  refused-listed (begin s) n t = refl
-  refused-listed (commit s) n t = refl
-  refused-listed (abort s) n t = refl
-  refused-listed (put p c e f g) n t = refl
-  refused-listed (step p l) n t = at (ends-request n)
-    where
-      at : (b : Bool) → cond b (take-in-hand p none t) t .unfinished ≡ t .unfinished
-      at true = refl
-      at false = refl
-
-  tell-listed : (c : Call) (a : Answer) (ws : List ℕ) (t : Told) → Listed t → Listed (tell-answer c a ws t)
-  tell-listed c ok ws t l = ok-listed c t l
-  tell-listed c more ws t l = l
-  tell-listed c (wait p) ws t l = l
-  tell-listed c (done ns) ws t l = same-listed t (tell-done c ns ws t) (done-listed c ns ws t) l
-  tell-listed c (refused n k) ws t l = same-listed t (tell-refused c n t) (refused-listed c n t) l
-
-  told-listed : (ks : List Turn) (t : Told) → Listed t → Listed (told t ks)
-  told-listed [] t l = l
-  told-listed (k ∷ ks) t l = told-listed ks (tell k t) (tell-listed (k .call) (k .answer) (k .list) t l)
-
-  -- For every list of turns there is a list of the sessions that are unfinished after them, each once.
-  pub unfinished-told : (ks : List Turn) → (ss : List ℕ) × Unfinished (told nothing ks) ss
-  unfinished-told ks = told-listed ks nothing nothing-listed
-
-  abbrev pub calls-of : List Turn → List Call
-  calls-of ks = map (λ k. k .call) ks
-
-  abbrev pub Accepted : List Turn → Type 0
-  Accepted [] = Unit {0}
-  Accepted (k ∷ ks) = (k .answer ≡ ok) × Accepted ks
 
   -- A list of calls ks from x that can be made.
   pub record Made (x : X) (cs : List Call) : Type 0 where
@@ -376,15 +250,6 @@ module _ (𝓢 : Machine) where
           let e : k .answer ≡ ok = 𝓛 .abort-ok s k x y c d (w .sound) (w .begun-told s ∙ u .each s (inl refl)) in
           (e, ap (λ a. tell-answer (k .call) a (k .list) t) e ∙ ap (λ z. tell-ok z t) c)
 
-      abort-runs : (ss : List ℕ) (t : Told) (x : X) → Knows t x → Unfinished t ss → Made x (map abort ss)
-      abort-runs [] t x w u = record { turns = []; last = x; run = stop; as-called = refl }
-      abort-runs (s ∷ ss) t x w u =
-          let o = 𝓛 .returns (abort s) x (w .sound) in
-          let k : Turn = record { call = abort s; answer = o .0; list = o .1 } in
-          let q = abort-told s ss k x (o .2) t refl (o .3) w u in
-          let m = abort-runs ss (tell k t) (o .2) (𝓛 .knows k x (o .2) t (o .3) w) (subst (λ z. Unfinished z ss) (sym (q .1)) (abort-next s ss t u)) in
-          record { turns = k ∷ m .turns; last = m .last; run = next (o .3) (m .run); as-called = ap (λ z. abort s ∷ z) (m .as-called) }
-
       -- Every list of calls can be made, from every sound state of which something is known.
       pub calls-made : (cs : List Call) (t : Told) (x : X) → Knows t x → Made x cs
       calls-made [] t x w = record { turns = []; last = x; run = stop; as-called = refl }
@@ -437,7 +302,7 @@ module _ (𝓢 : Machine) where
           record {
             committed = q .committed;
             unfinished = q .unfinished;
-            can-abort = λ ss u. abort-runs ss t x w u;
+            can-abort = λ ss u. calls-made (map abort ss) t x w;
             aborted = λ ss u ks y e r. all-aborted ss t w v u e r;
           }
 
@@ -446,7 +311,3 @@ module _ (𝓢 : Machine) where
       demand-3 x y ks w f r =
           let q = run-keeps nothing r w (inv-fresh store empty tt (view (meaning x)) (formatted-fresh (meaning x) f)) in
           serial-demand (told nothing ks) y (q .0) (q .1)
-
-      -- From a fresh store every list of calls has a run; after any, the unfinished sessions can be listed, and aborted in that sequence.
-      pub aborts-made : (x y : X) (ks : List Turn) → Knows nothing x → Formatted (meaning x) → Run x ks y → (ss : List ℕ) × Unfinished (told nothing ks) ss × Made y (map abort ss)
-      aborts-made x y ks w f r = let u = unfinished-told ks in (u .0, u .1, demand-3 x y ks w f r .can-abort (u .0) (u .1))

@@ -5,6 +5,7 @@ pub mod Footprints
 pub mod Locks
 pub mod LockMachine
 pub mod Calls
+pub mod Unfinished
 pub mod Example
 pub mod ExampleLaws
 pub mod Traces
