@@ -7,7 +7,7 @@ ghost use mathlib.Core.Path.{_≡_};
 ghost use mathlib.Core.Bool.{true};
 ghost use mathlib.Core.Logic.{_↔_};
 ghost use Rattle.meaning.specs.Sound.{Sound};
-ghost use Rattle.soundness.specs.Sounds.{Table};
+ghost use Rattle.soundness.specs.Parts.{Table};
 use sessions::PARTIES;
 use sessions::Session;
 
