@@ -62,7 +62,7 @@ module _ (s : List ℕ) (t : List Session) (T : Table t) (D : S.Sound s t) where
   first-of : (a b : List ℕ) → Distinct s (a ++ b) → Distinct s a
   first-of a b h = record { inside = all-left (Among r) a b (h .inside); once = once-left a b (h .once) }
 
-  tree : TreeInOrder s t
+  tree : TreeInOrder s
   unfolding meaning
   tree = record {
     rooted = D .rooted;

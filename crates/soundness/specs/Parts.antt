@@ -1,8 +1,8 @@
--- What each number of the test of soundness stands for (sound, specs/Faults): the parts of "Sound means" (document 01), in the order in which they are tested. A part has the
--- clauses of `meaning.Sound` that its pass goes through; it is read in a store whose earlier parts hold.
+-- What each number of the test of soundness stands for (sound, specs/Faults): the parts of "Sound means" (document 01), in the order in which they are tested. A part has
+-- the clauses of `meaning.Sound` that its pass goes through, and speaks of what the parts before it have found in order: the sizes, the tree, the records reached so far.
 use mathlib.Core.Path.{_≡_}
 use mathlib.Core.Bool.{Bool, true, false, cond}
-use mathlib.Core.List.{List, _++_}
+use mathlib.Core.List.{List, _++_, map}
 use Prim.Native.Nat.{ℕ, suc, _≤_}
 use lib.Dec.{eqb}
 use lib.ListN.{length}
@@ -16,7 +16,7 @@ use Rattle.machine.specs.Tree.{leaves}
 use Rattle.machine.specs.State.{Desc, top, sessionOf}
 use Rattle.machine.specs.Housekeeping.{lvs}
 use Rattle.machine.specs.Sound.{times, Shaped, stored-in, ListedTo, pins-in, total, pins-by, cells, Undoable}
-use Rattle.meaning.specs.Reading.{chain, Chained, node-numbers, erase, M-of, R-of, height-of, tree-of, free-chain, meaning}
+use Rattle.meaning.specs.Reading.{chain, Chained, numbers, node-numbers, erase, M-of, R-of, height-of, tree-of, free-chain, meaning}
 use Rattle.meaning.specs.Sound.{All, Once, leaves-of, joined, owners, Members, lists, Undo-words}
 use Rattle.soundness.specs.SizesPass.{Sizes}
 use Rattle.soundness.specs.HeldTests.{EntriesHeld}
@@ -24,7 +24,7 @@ use Rattle.soundness.specs.PartyPass.{Worded}
 use Rattle.soundness.specs.PartiesPass.{Parties, Latches-match}
 use Rattle.soundness.specs.UndoNeeds.{Secured}
 use Rattle.soundness.specs.GroupsHeld.{GroupsSound}
-use Rattle.soundness.specs.Reach.{tree-records, leaf-records, undo-records, member-records, met}
+use Rattle.soundness.specs.Reach.{tree-records, undo-records, member-records, met}
 
 -- A table of a record for each party, of words.
 pub record Table (t : List Session) : Type 0 where
@@ -43,25 +43,25 @@ pub record ZeroFirst (s : List ℕ) : Type 0 where
   pub key : wordOf s (M-of s) (headerWord s firstPlace) 1 ≡ 0
   pub empty : wordOf s (M-of s) (headerWord s firstPlace) 6 ≡ 0
 
--- "All leaves are descriptors at one depth, keys rising and chained in that order; boundaries separate sons ..; a node has 3 to 8 sons .., the root 1 to 8 and never a
--- descriptor": the tree, whose records are reached once.
-pub record TreeInOrder (s : List ℕ) (t : List Session) : Type 0 where
+-- "All leaves are descriptors at one depth, keys rising and chained in that order; boundaries separate sons .., and at a lowest node each is the key of the descriptor before
+-- it; a node has 3 to 8 sons .., the root 1 to 8 and never a descriptor"; no record of the tree is reached twice.
+pub record TreeInOrder (s : List ℕ) : Type 0 where
   pub rooted : 1 ≤ headerWord s heightPlace
-  pub reached : Distinct s (tree-records s t)
+  pub reached : Distinct s (numbers (suc (height-of s)) (tree-of s))
   pub shaped : Shaped (suc (height-of s)) 1 0 top (erase (suc (height-of s)) (tree-of s))
   pub top-free : stored-in top (leaves Desc ℕ (suc (height-of s)) (erase (suc (height-of s)) (tree-of s))) ≡ false
   pub few : All (λ i. wordOf s (M-of s) i 1 ≤ 8) (node-numbers (suc (height-of s)) (tree-of s))
-  pub chained : Chained s (M-of s) (headerWord s firstPlace) (leaf-records s t)
+  pub chained : Chained s (M-of s) (headerWord s firstPlace) (map (λ l. l .num) (leaves-of s))
 
--- "Each take-back chain can be undone .. under locks that its session holds": the chains of undo records end, each record has its kind, its entry and the locks that it needs
--- (`Secured`), and none is reached twice or is one of the tree's.
+-- "Each take-back chain can be undone .. under locks that its session holds": the chains of undo records end, and each record has a kind, an entry of the store and the locks
+-- that it needs (`Secured`); none is reached twice, or is one of the tree's.
 pub record UndosInOrder (s : List ℕ) (t : List Session) : Type 0 where
   pub ends : (p : ℕ) → suc p ≤ width → Chained s (M-of s) (session-at t (suc p) .undo) (chain s (M-of s) (R-of s) (session-at t (suc p) .undo))
   pub secured : (p : ℕ) → suc p ≤ width → All (Secured s (suc p)) (chain s (M-of s) (R-of s) (session-at t (suc p) .undo))
   pub reached : Distinct s (tree-records s t ++ undo-records s t)
 
--- Of the groups: members, whose records are reached once; holders, with what a locate holds of the keys that it has passed (`GroupsSound`); pins; and that "each take-back
--- chain can be undone newest first".
+-- Of the groups: members, whose records are not reached twice, or before; holders of keys and gaps, and what a locate holds of the keys that it has passed (`GroupsSound`);
+-- pins; and "each take-back chain can be undone newest first".
 pub record GroupsInOrder (s : List ℕ) (t : List Session) : Type 0 where
   pub listed : ListedTo (length (meaning s t .entries)) (lvs (meaning s t))
   pub members : All (λ l. Members s (l .num)) (leaves-of s)
@@ -71,7 +71,7 @@ pub record GroupsInOrder (s : List ℕ) (t : List Session) : Type 0 where
   pub undo-words : (p : ℕ) → suc p ≤ width → Undo-words s (chain s (M-of s) (R-of s) (session-at t (suc p) .undo)) (lists s)
   pub undoable : (p : ℕ) → Undoable p (meaning s t) (sessionOf p (meaning s t) .undos) (cells (meaning s t))
 
--- The free chain ends, in 1 to R, and goes to no record that was reached.
+-- The free chain ends, and goes to no record that was reached, or that is none.
 pub record FreeInOrder (s : List ℕ) (t : List Session) : Type 0 where
   pub ends : Chained s (M-of s) (headerWord s freePlace) (free-chain s)
   pub reached : Distinct s (met s t)
@@ -84,13 +84,13 @@ AllReached s t = (i : ℕ) → 1 ≤ i → i ≤ R-of s → 1 ≤ times i (joine
 abbrev pub table-fault : ℕ
 table-fault = 11
 
--- Part n. Numbers that are none stand for nothing.
+-- Part n: of the requests in hand (`Parties`) what Sound says of each party's (PartyPass.Party), of the latches that each is a request's. Other numbers ask for nothing.
 unfoldable pub Part : ℕ → List ℕ → List Session → Type 0
 Part n s t =
     cond (eqb n sizes-fault) (Sizes s)
     (cond (eqb n entries-fault) (EntriesHeld (meaning s t))
     (cond (eqb n zero-fault) (ZeroFirst s)
-    (cond (eqb n tree-fault) (TreeInOrder s t)
+    (cond (eqb n tree-fault) (TreeInOrder s)
     (cond (eqb n requests-fault) (Parties s t)
     (cond (eqb n latches-fault) (Latches-match s t)
     (cond (eqb n undos-fault) (UndosInOrder s t)
@@ -104,7 +104,7 @@ pub record Parts (s : List ℕ) (t : List Session) : Type 0 where
   pub sizes : Sizes s
   pub entries : EntriesHeld (meaning s t)
   pub zero-first : ZeroFirst s
-  pub tree : TreeInOrder s t
+  pub tree : TreeInOrder s
   pub requests : Parties s t
   pub latches : Latches-match s t
   pub undos : UndosInOrder s t

@@ -265,11 +265,11 @@ module _ (s : List ℕ) (t : List Session) (Z : Sizes s) where
 
     -- ---- the tree
 
-    rooted : TreeInOrder s t → RootInOrder s (M-of s) (R-of s) unmet
+    rooted : TreeInOrder s → RootInOrder s (M-of s) (R-of s) unmet
     unfolding tree-of
     rooted C = record { rooted = C .rooted; fresh = distinct-fresh s (tree-records s t) (C .reached); shaped = C .shaped; top-free = C .top-free; few = C .few; chained = C .chained }
 
-    pub tree-pass : (toured s .walk .ok ≡ true) ↔ TreeInOrder s t
+    pub tree-pass : (toured s .walk .ok ≡ true) ↔ TreeInOrder s
     unfolding tree-of
     tree-pass = (
       λ o.
@@ -278,7 +278,7 @@ module _ (s : List ℕ) (t : List Session) (Z : Sizes s) where
       λ C. root-ok s m r unmet unmet few long (rooted C),
     )
 
-    module _ (C : TreeInOrder s t) where
+    module _ (C : TreeInOrder s) where
       abbrev K : RootInOrder s (M-of s) (R-of s) unmet
       K = rooted C
 
