@@ -11,7 +11,7 @@ first-fault-requires : tie.Need-first-fault-requires
 first-fault-requires c κs = search needs
 
 returns : tie.Need-returns
-returns c = names-table _ _ (table-of _ _ (c .before .good .1 .0)) _ (ap (λ (z : Checked). z .fault) (c .first-fault .ensures))
+returns c = names-table _ _ (table-of _ _ (c .before .before .good .1 .0)) _ (ap (λ (z : Checked). z .fault) (c .first-fault .ensures))
 
 pub fault-by-value-spec : {M : Type 1} → statement M
 fault-by-value-spec = tie.close (tie.spec first-fault-requires returns)
