@@ -84,7 +84,8 @@ AllReached s t = (i : ℕ) → 1 ≤ i → i ≤ R-of s → 1 ≤ times i (joine
 abbrev pub table-fault : ℕ
 table-fault = 11
 
--- Part n: of the requests in hand (`Parties`) what Sound says of each party's (PartyPass.Party), of the latches that each is a request's. Other numbers ask for nothing.
+-- Part n. `Sizes` stands in SizesPass, `EntriesHeld` in HeldTests, what is asked of each request in hand (`Parties`) in PartyPass.Party, `Latches-match` in PartiesPass.
+-- A number that is no part's asks for nothing.
 unfoldable pub Part : ℕ → List ℕ → List Session → Type 0
 Part n s t =
     cond (eqb n sizes-fault) (Sizes s)
