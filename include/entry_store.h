@@ -202,10 +202,10 @@ uint64_t entry_store_abort(uint32_t *store, size_t store_words, struct entry_sto
 uint32_t entry_store_lock_count(uint32_t holders);
 
 /* The first part of soundness that store and table break (enum entry_store_part), 0 for none: the test that every call but format makes. It changes
- * nothing. */
+ * nothing. Proved: it is 0 exactly if store and table are sound, and any other number names a part that is broken. */
 uint32_t entry_store_fault(const uint32_t *store, size_t store_words, const struct entry_store_session *table, size_t table_records);
 
-/* The parts of soundness, in the order in which they are tested. */
+/* The parts of soundness, in the order in which they are tested, but that 11 comes before them all. */
 enum entry_store_part {
     ENTRY_STORE_PART_NONE = 0,
     ENTRY_STORE_PART_SIZES = 1,      /* the header's M and R are those that format gives for this length */

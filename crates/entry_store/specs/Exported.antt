@@ -1,18 +1,21 @@
 -- What the exported calls promise: what the store's call of that name promises (store, specs/Lent), of an answer whose packing is returned.
-use mathlib.Core.Path.{_≡_, sym, ap, _∙_}
+use mathlib.Core.Path.{_≡_, refl, sym, ap, subst, _∙_}
 use mathlib.Core.Bool.{cond}
 use mathlib.Core.List.{List}
 use mathlib.Core.Logic.{_↔_}
-use Prim.Native.Nat.{ℕ}
+use Prim.Native.Nat.{ℕ, _<_}
+use native.Mathlib.Omega.{arith}
 use lib.Dec.{eqb}
 use lib.ListN.{length}
 use Rattle.sessions.specs.declared.Session.{Session}
 use Rattle.sessions.specs.Sessions.{parties}
-use Rattle.machine.specs.Logic.{eqb-yes, eqb-is}
+use Rattle.machine.specs.Logic.{eqb-yes, eqb-no}
 use Rattle.meaning.specs.Sound.{Sound}
-use Rattle.sound.specs.Sound.{firstFault, isSound}
-use Rattle.soundness.specs.Sounds.{Table}
-use Rattle.soundness.specs.Exactly.{test-sound, sound-test}
+use Rattle.meaning.specs.Table.{table-many}
+use Rattle.sound.specs.Sound.{firstFault}
+use Rattle.soundness.specs.Parts.{Table, table-fault, Part}
+use Rattle.soundness.specs.Named.{fault-broken, fault-first}
+use Rattle.soundness.specs.Exactly.{sound-parts, fault-none}
 use Rattle.outcomes.specs.declared.Answer.{Answer}
 use Rattle.outcomes.specs.Said.{said}
 use Rattle.store.specs.Lent.{Effect, OnTable, SteppedOnTable}
@@ -32,13 +35,41 @@ pub record Stepped (s : List ℕ) (t : List Session) (l : List ℕ) (p : ℕ) (r
   pub table-long : length t′ ≡ length t
   pub does : SteppedOnTable s t l p answer s′ t′ l′
 
--- The first part of soundness that store and table break (sound, specs/Faults), 0 for none; 11 where the table is not of 17 records.
+-- The first part of soundness that store and table break (soundness, specs/Parts), 0 for none; the table's length stands before the others.
 abbrev pub fault-of : List ℕ → List Session → ℕ
-fault-of s t = cond (eqb (length t) parties) (firstFault s t .fault) 11
+fault-of s t = cond (eqb (length t) parties) (firstFault s t .fault) table-fault
 
--- It is 0 exactly if store and table are sound. (Every lent table of 17 records is a `Table`.)
-pub fault-sound : (s : List ℕ) (t : List Session) → Table t → (fault-of s t ≡ 0) ↔ Sound s t
-unfolding isSound
-fault-sound s t T =
-    let e : fault-of s t ≡ firstFault s t .fault = ap (λ b. cond b (firstFault s t .fault) 11) (eqb-yes (length t) parties (T .seats)) in
-    (λ z. test-sound s t T (eqb-yes (firstFault s t .fault) 0 (sym e ∙ z)), λ D. e ∙ eqb-is (firstFault s t .fault) 0 (sound-test s t T D))
+-- What that number says, of every store and every table.
+pub record Names (s : List ℕ) (t : List Session) (r : ℕ) : Type 0 where
+  pub is : r ≡ fault-of s t
+  -- It is 0 exactly if they are sound.
+  pub sound : (r ≡ 0) ↔ Sound s t
+  -- Above 0 it names a part that is broken: a cause to refuse, for Sound has every part;
+  pub broken : ¬ (r ≡ 0) → ¬ Part r s t
+  pub cause : Sound s t → (n : ℕ) → Part n s t
+  -- and the first, for those before it hold, where the table has a record for each party.
+  pub first : ¬ (r ≡ table-fault) → (k : ℕ) → k < r → Part k s t
+
+-- Of a table that has a record for each party,
+pub names-table : (s : List ℕ) (t : List Session) → Table t → (r : ℕ) → r ≡ firstFault s t .fault → Names s t r
+names-table s t T r e = record {
+  is = e ∙ sym (ap (λ b. cond b (firstFault s t .fault) table-fault) (eqb-yes (length t) parties (T .seats)));
+  sound = (λ z. fault-none s t T .0 (sym e ∙ z), λ D. e ∙ fault-none s t T .1 D);
+  broken = λ n h. fault-broken s t T (λ z. n (e ∙ z)) (subst (λ k. Part k s t) e h);
+  cause = sound-parts s t T;
+  first = λ n k l. fault-first s t T k (omega (arith, l, e));
+}
+
+-- and of another.
+pub names-length : (s : List ℕ) (t : List Session) → ¬ (length t ≡ parties) → Names s t table-fault
+unfolding Part
+names-length s t n = record {
+  is = sym (ap (λ b. cond b (firstFault s t .fault) table-fault) (eqb-no (length t) parties n));
+  sound = (λ z. absurd (omega (arith, z)), λ D. absurd (unsound D));
+  broken = λ z h. n h;
+  cause = λ D. absurd (unsound D);
+  first = λ z. absurd (z refl);
+}
+  where
+    unsound : Sound s t → ⊥
+    unsound D = n (table-many s t (D .state))

@@ -8,9 +8,8 @@
 ghost use mathlib.Core.Path.{_≡_};
 ghost use lib.ListN.{length};
 ghost use Rattle.locks.specs.Holders.{holders, word-bits};
-ghost use Rattle.sound.specs.Sound.{firstFault};
 ghost use Rattle.store.specs.Lent.{Formatted, Begun, Put, Committed, Aborted};
-ghost use Rattle.entry_store.specs.Exported.{Told, Stepped, fault-of};
+ghost use Rattle.entry_store.specs.Exported.{Told, Stepped, Names};
 use sessions::PARTIES;
 use sessions::Session;
 use store::Ask;
@@ -105,16 +104,16 @@ pub extern "C" fn entry_store_lock_count(word: u32) -> u32
 const TABLE: u32 = 11;
 
 fn fault_by_value(store: &[u32], t: [Session; PARTIES]) -> u32
-    ensures { λ r. ⌜ r ≡ firstFault (now (store .entry)) t .fault ⌝ }
+    ensures { λ r. ⌜ Names (now (store .entry)) t r ⌝ }
 {
     let c = sound::first_fault(store, t);
     c.fault
 }
 
-// The first part of soundness that store and table break, 0 for none.
+// The first part of soundness that store and table break, 0 for none: exactly if they are sound.
 #[no_mangle]
 pub extern "C" fn entry_store_fault(store: &[u32], table: &[Session]) -> u32
-    ensures { λ r. ⌜ r ≡ fault-of (now (store .entry)) (now (table .entry)) ⌝ }
+    ensures { λ r. ⌜ Names (now (store .entry)) (now (table .entry)) r ⌝ }
 {
     if table.len() != PARTIES {
         return TABLE;

@@ -12,7 +12,7 @@ use Rattle.sessions.proofs.Session.{the-type}
 use Rattle.sessions.specs.declared.Session.{Session}
 use Rattle.sessions.specs.Sessions.{session-at, parties}
 use Rattle.soundness.specs.PartyPass.{Worded}
-use Rattle.soundness.specs.Sounds.{Table}
+use Rattle.soundness.specs.Parts.{Table}
 
 one-worded : (x : Session) (v : List Val) → Is (row the-type) x v → Worded x
 one-worded x v g =

@@ -1,50 +1,43 @@
--- From Sound to the walks: a sound store and table pass the test. And both directions together: the test is true exactly if Sound.
+-- From Sound to the parts: every part holds of a sound store and table. And both directions together: the test answers 0 exactly if Sound.
 use mathlib.Core.Path.{_≡_, sym, ap, subst, _∙_}
 use mathlib.Core.Bool.{true}
-use mathlib.Core.List.{List, [], _∷_, _++_}
-use mathlib.Core.Logic.{_⊎_, inl, inr}
+use mathlib.Core.List.{List, _++_, append-assoc}
+use mathlib.Core.Logic.{_⊎_, inl, inr, _↔_}
 use mathlib.Core.Option.{some}
-use Prim.Native.Nat.{ℕ, suc, _≤_}
+use Prim.Native.Nat.{ℕ, _≤_}
+use native.Mathlib.Decide.{ℕ-discrete}
 use native.Mathlib.Omega.{arith}
-use lib.ListN.{length, getD}
-use Rattle.words.specs.Store.{wordOf}
+use borrow.Author.Tests.{eq-eqb, eqb-true}
 use Rattle.sessions.specs.declared.Session.{Session}
 use Rattle.sessions.specs.Sessions.{session-at}
 use Rattle.serial.specs.Locks as L
-use Rattle.holders.specs.Holders.{begunMask}
-use Rattle.parties.specs.Parties.{standingAtNodes}
-use Rattle.machine.specs.Holders.{width}
-use Rattle.machine.specs.State.{Desc, take, State, sessionOf}
+use Rattle.machine.specs.State.{take, State, sessionOf}
 use Rattle.machine.specs.Groups.{Rises}
 use Rattle.machine.specs.Housekeeping.{lvs}
-use Rattle.machine.specs.View.{group-in, seen}
-use Rattle.machine.specs.Sound as M
+use Rattle.machine.specs.View.{group-in}
 use Rattle.machine.specs.Sound.{stored-in, Stands}
-use Rattle.meaning.specs.Reading.{Leaf, desc-at, erase, M-of, R-of, height-of, tree-of, free-chain, meaning}
-use Rattle.meaning.specs.Sound.{All, leaves-of, Members}
+use Rattle.meaning.specs.Reading.{Leaf, M-of, R-of, free-chain, meaning}
+use Rattle.meaning.specs.Sound.{leaves-of, Members}
 use Rattle.meaning.specs.Sound as S
-use Rattle.soundness.specs.Marking.{Among, Fresh, all-in, all-from, all-as, fresh-left}
-use Rattle.soundness.specs.HeldTests.{EntriesHeld, entries-is}
-use Rattle.soundness.specs.ListsPass.{come}
-use Rattle.soundness.specs.UndosPass.{Each-session}
-use Rattle.soundness.specs.RootPass.{RootInOrder}
-use Rattle.soundness.specs.TreeKnown.{TreeKnown}
+use Rattle.sound.specs.Sound.{firstFault, isSound}
+use Rattle.soundness.specs.Marking.{Among, all-as, all-left, once-left}
+use Rattle.soundness.specs.HeldTests.{EntriesHeld}
 use Rattle.soundness.specs.UndoLeaves.{leaves-meant, leaves-read}
 use Rattle.soundness.specs.Leaves.{stored-records, entries-meaning}
-use Rattle.soundness.specs.MembersHeld.{MembersCome, all-map, sound-come}
-use Rattle.soundness.specs.GroupsHeld.{Taking, GroupsSound, PinsCounted, LocateHeld, sound-groups, locate-passed, locate-ahead, GroupUndoes, parts-groups}
+use Rattle.soundness.specs.MembersHeld.{all-map}
+use Rattle.soundness.specs.GroupsHeld.{Taking, GroupsSound, LocateHeld, locate-passed, locate-ahead}
 use Rattle.soundness.specs.PartyMeaning.{meaning-hand, request-of, next-of, hand-some, stage-5}
-use Rattle.soundness.specs.PartiesPass.{Requests, Tallied, parties-tallied, parties-walk}
+use Rattle.soundness.specs.PartiesPass.{requests-parties}
 use Rattle.soundness.specs.PartyPins.{requests-of}
-use Rattle.soundness.specs.UndoingPass.{By-session, Setting, sound-sessions, sessions-need, undoing-is}
+use Rattle.soundness.specs.UndoingPass.{sound-sessions, sessions-secured}
 use Rattle.soundness.specs.Lowest.{lowest-walks}
 use Rattle.soundness.specs.SizesPass.{Sizes}
-use Rattle.soundness.specs.Tested.{toured, stood, tested, tests}
-use Rattle.soundness.specs.Reach.{tree-records, undo-records, member-records, met, reach-fresh, reach-many}
-use Rattle.soundness.specs.Walked.{unmet, group-undos, Walked, walked, walks-tested}
-use Rattle.soundness.specs.TreeRecords.{leaf-in, latched-many}
-use Rattle.soundness.specs.Sounds.{Table, known, rising, tells, walked-sound}
-use Rattle.sound.specs.Sound.{isSound, lowestOk}
+use Rattle.soundness.specs.Tested.{toured}
+use Rattle.soundness.specs.Reach.{tree-records, undo-records, member-records, met, reach-apart}
+use Rattle.soundness.specs.Parts.{Table, Distinct, ZeroFirst, TreeInOrder, UndosInOrder, GroupsInOrder, Part, Parts, parts-each}
+use Rattle.soundness.specs.Walked.{known, rising, leaf-inside}
+use Rattle.soundness.specs.Named.{none-broken, fault-broken}
+use Rattle.soundness.specs.Sounds.{parts-sound}
 
 abbrev σ : List ℕ → List Session → State
 σ s t = meaning s t
@@ -63,78 +56,39 @@ module _ (s : List ℕ) (t : List Session) (T : Table t) (D : S.Sound s t) where
       let z = D .state .sizes in
       record { header = D .header; entries = (omega (arith, n, z .0), omega (arith, n, z .1)); records = (z .2, z .3); sized = D .sized }
 
-  few : r ≤ 4096
-  few = sizes .records .1
+  all-met : Distinct s (met s t)
+  all-met = let a = reach-apart s t (T .seats) (D .once) (D .no-other) in record { inside = a .0; once = a .1 }
 
-  seats : length t ≤ suc width
-  seats = omega (arith, T .seats)
+  first-of : (a b : List ℕ) → Distinct s (a ++ b) → Distinct s a
+  first-of a b h = record { inside = all-left (Among r) a b (h .inside); once = once-left a b (h .once) }
 
-  once : Fresh unmet r (met s t)
-  once = reach-fresh s t (T .seats) few (D .once) (D .no-other)
-
-  many : length (met s t) ≡ r
-  many = reach-many s t (T .seats) (D .once) (D .no-other)
-
-  root : RootInOrder s m r unmet
-  unfolding meaning tree-of
-  root = record {
+  tree : TreeInOrder s
+  unfolding meaning
+  tree = record {
     rooted = D .rooted;
-    fresh = fresh-left unmet r (tree-records s t) (undo-records s t ++ (member-records s t ++ free-chain s)) once;
+    reached = first-of (tree-records s t) (undo-records s t ++ (member-records s t ++ free-chain s)) all-met;
     shaped = D .state .shaped;
     top-free = D .state .top-free;
     few = D .few;
     chained = D .chained;
   }
 
-  K : TreeKnown s (toured s .seen)
-  K = known s t sizes root
-
   rises : Rises 0 4294967296 (lvs (σ s t))
-  unfolding tree-of
-  rises = rising s t (root .shaped)
-
-  leaf-among : All (Among r) (stored-records s)
-  leaf-among = all-from (stored-records s) (λ j i. all-in (Among r) (tree-records s t) (fresh-left unmet r (tree-records s t) _ once .inside) j (leaf-in (suc (height-of s)) (tree-of s) j i))
-
-  some-leaves : All (λ d. ¬ (d ≡ 0)) (stored-records s)
-  some-leaves = all-as (λ d b z. omega (arith, z, b .0)) (stored-records s) leaf-among
+  rises = rising s t sizes T tree
 
   entries : EntriesHeld (σ s t)
   entries = record { only-begun = D .state .only-begun L.entry; agrees = D .state .agree L.entry }
 
-  members : All (MembersCome s (sizes .entries .1)) (stored-records s)
-  members = sound-come s (sizes .entries .1) t some-leaves (record { listed = D .state .listed; members = D .members })
-
-  lowest : lowestOk s m r ≡ true
-  lowest =
-      lowest-walks s m r (leaves-of s) 4294967296 (leaves-read s) (D .chained)
-      (all-map (λ d. d ≤ r) (λ (l : Leaf). l .num) (leaves-of s) .0 (all-as (λ d (b : Among r d). b .1) (stored-records s) leaf-among))
+  zero-first : ZeroFirst s
+  zero-first =
+      lowest-walks s (leaves-of s) 4294967296 (leaves-read s) (D .chained)
+      (all-map (λ d. d ≤ r) (λ (l : Leaf). l .num) (leaves-of s) .0 (all-as (λ d (b : Among r d). b .1) (stored-records s) (leaf-inside s t sizes T tree)))
       (subst (Rises 0 4294967296) (leaves-meant s t) rises)
       (all-as (λ (l : Leaf) (c : Members s (l .num)). c .ends) (leaves-of s) (D .members))
       (sym (ap (stored-in 0) (leaves-meant s t)) ∙ D .state .zero-stored)
       (sym (ap (group-in 0) (leaves-meant s t)) ∙ D .state .zero-empty)
 
-  requests : Requests s t
-  requests = requests-of s t (D .state) (D .hands)
-
-  passes : (stood s t .ok ≡ true) × (standingAtNodes t ≡ latched-many (suc (height-of s)) (erase (suc (height-of s)) (tree-of s)))
-  passes = parties-walk s (toured s .seen) t K (T .seats) (T .words) few requests
-
-  tallied : Tallied s t (stood s t .held)
-  tallied = parties-tallied s (toured s .seen) t K (T .seats) (T .words) few (passes .0)
-
   -- ---- holders
-
-  pins-counted : PinsCounted s t (stood s t .held)
-  pins-counted = all-map _ (λ (l : Leaf). l .num) (leaves-of s) .1 (go (leaves-of s) (leaves-read s) tallied)
-    where
-      go : (ls : List Leaf) → All (λ l. l .desc ≡ desc-at s m r (l .num)) ls
-          → All (λ l. getD (stood s t .held) (l .num) 0 ≡ M.total (M.pins-by (l .desc .key)) (σ s t .table)) ls
-          → All (λ (l : Leaf). M.pins-in (wordOf s m (l .num) 1) (lvs (σ s t)) ≡ getD (stood s t .held) (l .num) 0) ls
-      go [] a b = tt
-      go (l ∷ ls) a b =
-          let e : wordOf s m (l .num) 1 ≡ l .desc .key = sym (ap (λ (d : Desc). d .key) (a .0)) in
-          (D .state .pins-match (wordOf s m (l .num) 1) ∙ ap (λ (k : ℕ). M.total (M.pins-by k) (σ s t .table)) e ∙ sym (b .0), go ls (a .1) (b .1))
 
   locate : (p : ℕ) → Taking t p → LocateHeld s t p
   locate p G =
@@ -162,41 +116,67 @@ module _ (s : List ℕ) (t : List Session) (T : Table t) (D : S.Sound s t) where
 
   -- ---- undo records
 
-  by-session : By-session s t
-  by-session = sound-sessions s t (D .undo-words) (D .state .undoable)
+  undos : UndosInOrder s t
+  undos = record {
+    ends = D .undos-end;
+    secured = sessions-secured s t 0 4294967296 rises (sound-sessions s t (D .undo-words) (D .state .undoable));
+    reached = first-of (tree-records s t ++ undo-records s t) (member-records s t ++ free-chain s)
+        (subst (Distinct s) (sym (append-assoc (tree-records s t) (undo-records s t) (member-records s t ++ free-chain s))) all-met);
+  }
 
-  each : Each-session s m r t (toured s .seen) 1 width
-  each = sessions-need s t (toured s .seen) (tells s t K) 0 4294967296 rises (D .undos-end) by-session
+  groups : GroupsInOrder s t
+  groups = record {
+    listed = D .state .listed;
+    members = D .members;
+    reached = first-of (tree-records s t ++ (undo-records s t ++ member-records s t)) (free-chain s) (subst (Distinct s) regroup all-met);
+    held = held;
+    pins-match = D .state .pins-match;
+    undo-words = D .undo-words;
+    undoable = D .state .undoable;
+  }
+    where
+      regroup : met s t ≡ (tree-records s t ++ (undo-records s t ++ member-records s t)) ++ free-chain s
+      regroup =
+          ap (λ (l : List ℕ). tree-records s t ++ l) (sym (append-assoc (undo-records s t) (member-records s t) (free-chain s)))
+          ∙ sym (append-assoc (tree-records s t) (undo-records s t ++ member-records s t) (free-chain s))
 
-  setting : Setting s t (toured s .seen)
-  setting = record { rises = rises; tells = tells s t K; held = entries; members = D .members }
-
-  undoes : All (GroupUndoes s (sizes .entries .1) (group-undos s t)) (stored-records s)
-  undoes = undoing-is s t (toured s .seen) setting each (sizes .entries .1) .1 by-session
-
-  pub sound-walked : Walked s t
-  unfolding tree-of
-  sound-walked = record {
+  -- Every part holds of a sound store.
+  sound-all : Parts s t
+  sound-all = record {
     sizes = sizes;
-    entries = entries-is s t seats .1 entries;
-    lowest = lowest;
-    tree = root;
-    requests = passes .0;
-    latches = passes .1;
-    undos = each;
-    groups = parts-groups s (sizes .entries .1) (group-undos s t) (stood s t .held) (begunMask t) t (stored-records s)
-        (record { held = sound-groups s t seats rises (stood s t .held) held pins-counted; come = members; undoes = undoes });
-    free = D .free-ends;
-    once = once;
-    many = many;
+    entries = entries;
+    zero-first = zero-first;
+    tree = tree;
+    requests = requests-parties s (toured s .seen) t (known s t sizes T tree) (T .seats) (T .words) (requests-of s t (D .state) (D .hands));
+    latches = D .state .latches-match;
+    undos = undos;
+    groups = groups;
+    free = record { ends = D .free-ends; reached = all-met };
+    all-reached = λ i a b. omega (arith, D .once i a b);
+    seats = T .seats;
   }
 
 -- ---- both
 
+module _ (s : List ℕ) (t : List Session) (T : Table t) where
+  -- A sound store breaks no part: so a part that is broken is a cause to refuse.
+  pub sound-parts : S.Sound s t → (n : ℕ) → Part n s t
+  sound-parts D = parts-each s t (sound-all s t T D)
+
+  -- The test answers 0 exactly if Sound.
+  pub fault-none : (firstFault s t .fault ≡ 0) ↔ S.Sound s t
+  fault-none = (λ e. parts-sound s t T (none-broken s t T e), λ D. go D (ℕ-discrete (firstFault s t .fault) 0))
+    where
+      go : S.Sound s t → Dec (firstFault s t .fault ≡ 0) → firstFault s t .fault ≡ 0
+      go D (yes e) = e
+      go D (no n) = absurd (fault-broken s t T n (sound-parts D (firstFault s t .fault)))
+
 -- What passes the test is sound,
 pub test-sound : (s : List ℕ) (t : List Session) → Table t → isSound s t ≡ true → S.Sound s t
-test-sound s t T o = walked-sound s t T (walked s t (tested s t o))
+unfolding isSound
+test-sound s t T o = fault-none s t T .0 (eqb-true (firstFault s t .fault) 0 o)
 
 -- and what is sound passes it.
 pub sound-test : (s : List ℕ) (t : List Session) → Table t → S.Sound s t → isSound s t ≡ true
-sound-test s t T D = tests s t (walks-tested s t (sound-walked s t T D))
+unfolding isSound
+sound-test s t T D = eq-eqb (firstFault s t .fault) 0 (fault-none s t T .1 D)

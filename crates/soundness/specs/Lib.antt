@@ -38,8 +38,10 @@ pub mod PartyPins
 pub mod Counts
 pub mod Reach
 pub mod Counted
+pub mod Parts
 pub mod Lowest
 pub mod Tested
 pub mod Walked
+pub mod Named
 pub mod Sounds
 pub mod Exactly

@@ -2,12 +2,13 @@
 use mathlib.Core.Path.{_≡_, refl, sym, ap, subst, _∙_}
 use mathlib.Core.Bool.{Bool, true, false, cond, not, _&&_}
 use mathlib.Core.List.{List, [], _∷_, map}
+use mathlib.Core.Logic.{_↔_}
 use Prim.Native.Nat.{ℕ, zero, suc, _≤_}
 use native.Mathlib.Decide.{ℕ-discrete}
 use native.Mathlib.Omega.{arith}
 use lib.Dec.{eqb, ltb, leb}
 use lib.ListN.{length}
-use borrow.Author.Tests.{eq-eqb, ne-eqb, eqb-true, eqb-false, le-leb, not-true}
+use borrow.Author.Tests.{eq-eqb, ne-eqb, eqb-true, eqb-false, le-leb, leb-true, not-true}
 use Rattle.words.specs.Store.{wordOf}
 use Rattle.words.specs.Header.{headerWord, firstPlace}
 use Rattle.groups.specs.Descriptor.{descriptorAt, decodeDescriptor}
@@ -17,10 +18,17 @@ use Rattle.machine.specs.State.{Desc, with-member}
 use Rattle.machine.specs.Sound.{stored-in}
 use Rattle.machine.specs.View.{group-in}
 use Rattle.machine.specs.Groups.{Rises}
-use Rattle.meaning.specs.Reading.{chain, Chained, gather, member-chain, member-entries, desc-at, Leaf}
+use Rattle.meaning.specs.Reading.{chain, Chained, gather, member-chain, member-entries, desc-at, Leaf, M-of, R-of}
 use Rattle.meaning.specs.Sound.{All}
+use Rattle.soundness.specs.Parts.{ZeroFirst}
 
-module _ (s : List ℕ) (m r : ℕ) where
+module _ (s : List ℕ) where
+  abbrev m : ℕ
+  m = M-of s
+
+  abbrev r : ℕ
+  r = R-of s
+
   abbrev first : ℕ
   first = headerWord s firstPlace
 
@@ -46,14 +54,26 @@ module _ (s : List ℕ) (m r : ℕ) where
   unfolding group-in
   group-first d ds e = ap (λ (b : Bool). cond b (d .members) (group-in 0 ds)) (eq-eqb (d .key) 0 e)
 
-  pub lowest-found : (ls : List Leaf) → Reads ls → Chained s m first (map (λ l. l .num) ls) → lowestOk s m r ≡ true
-      → (stored-in 0 (descs ls) ≡ true) × (group-in 0 (descs ls) ≡ [])
+  -- The test of the first descriptor.
+  pub zero-pass : (lowestOk s (M-of s) (R-of s) ≡ true) ↔ ZeroFirst s
   unfolding lowestOk decodeDescriptor
-  lowest-found ls a c o =
-      let p = both (not (eqb first 0) && leb first r && eqb (descriptorAt s m first .key) 0) (eqb (descriptorAt s m first .first) 0) o in
-      let q = both (not (eqb first 0) && leb first r) (eqb (descriptorAt s m first .key) 0) (p .0) in
-      let u = both (not (eqb first 0)) (leb first r) (q .0) in
-      go ls a c (eqb-false first 0 (not-true _ (u .0))) (eqb-true (wordOf s m first 1) 0 (q .1)) (eqb-true (wordOf s m first 6) 0 (p .1))
+  zero-pass = (
+    λ o.
+        let p = both (not (eqb first 0) && leb first r && eqb (descriptorAt s m first .key) 0) (eqb (descriptorAt s m first .first) 0) o in
+        let q = both (not (eqb first 0) && leb first r) (eqb (descriptorAt s m first .key) 0) (p .0) in
+        let u = both (not (eqb first 0)) (leb first r) (q .0) in
+        record {
+          some = eqb-false first 0 (not-true _ (u .0));
+          inside = leb-true first r (u .1);
+          key = eqb-true (wordOf s m first 1) 0 (q .1);
+          empty = eqb-true (wordOf s m first 6) 0 (p .1);
+        },
+    λ z. simp (ne-eqb first 0 (z .some), le-leb first r (z .inside), eq-eqb (wordOf s m first 1) 0 (z .key), eq-eqb (wordOf s m first 6) 0 (z .empty)),
+  )
+
+  pub lowest-found : (ls : List Leaf) → Reads ls → Chained s m first (map (λ l. l .num) ls) → ZeroFirst s
+      → (stored-in 0 (descs ls) ≡ true) × (group-in 0 (descs ls) ≡ [])
+  lowest-found ls a c o = go ls a c (o .some) (o .key) (o .empty)
     where
       go : (ls : List Leaf) → Reads ls → Chained s m first (map (λ l. l .num) ls) → (first ≡ 0 → ⊥) → wordOf s m first 1 ≡ 0 → wordOf s m first 6 ≡ 0
           → (stored-in 0 (descs ls) ≡ true) × (group-in 0 (descs ls) ≡ [])
@@ -92,8 +112,8 @@ module _ (s : List ℕ) (m r : ℕ) where
 
   pub lowest-walks : (ls : List Leaf) (e : ℕ) → Reads ls → Chained s m first (map (λ l. l .num) ls) → All (λ l. l .num ≤ r) ls → Rises 0 e (descs ls)
       → All (λ l. Chained s m (wordOf s m (l .num) 6) (member-chain s m r (l .num))) ls
-      → stored-in 0 (descs ls) ≡ true → group-in 0 (descs ls) ≡ [] → lowestOk s m r ≡ true
-  unfolding lowestOk decodeDescriptor stored-in
+      → stored-in 0 (descs ls) ≡ true → group-in 0 (descs ls) ≡ [] → ZeroFirst s
+  unfolding stored-in
   lowest-walks [] e a c b g h o n = never o
   lowest-walks (l ∷ ls) e a c b g h o n =
       let z : first ≡ 0 → ⊥ = c .1 in
@@ -103,7 +123,7 @@ module _ (s : List ℕ) (m r : ℕ) where
       let none : member-chain s m r first ≡ [] = mapped-none _ (gathered-none _ (sym (group-first (l .desc) (descs ls) q ∙ ap (λ (d : Desc). d .members) w) ∙ n)) in
       let ends : Chained s m (wordOf s m first 6) (member-chain s m r first) = subst (λ (i : ℕ). Chained s m (wordOf s m i 6) (member-chain s m r i)) (sym (c .0)) (h .0) in
       let f : wordOf s m first 6 ≡ 0 = subst (Chained s m (wordOf s m first 6)) none ends in
-      simp (ne-eqb first 0 z, le-leb first r (subst (λ (i : ℕ). i ≤ r) (sym (c .0)) (b .0)), eq-eqb (wordOf s m first 1) 0 k, eq-eqb (wordOf s m first 6) 0 f)
+      record { some = z; inside = subst (λ (i : ℕ). i ≤ r) (sym (c .0)) (b .0); key = k; empty = f }
     where
       key : Dec (l .desc .key ≡ 0) → l .desc .key ≡ 0
       key (yes e) = e

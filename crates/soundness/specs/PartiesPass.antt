@@ -3,7 +3,7 @@
 use mathlib.Core.Path.{_≡_, refl, sym, ap, subst, _∙_}
 use mathlib.Core.Bool.{Bool, true, false, cond, not}
 use mathlib.Core.List.{List}
-use mathlib.Core.Logic.{_⊎_, inl, inr}
+use mathlib.Core.Logic.{_⊎_, inl, inr, _↔_}
 use mathlib.Core.Option.{Option, none, some}
 use Prim.Native.Nat.{ℕ, zero, suc, _+_, _≤_, _<_}
 use native.Mathlib.Decide.{ℕ-discrete, decLe}
@@ -39,10 +39,15 @@ use Rattle.soundness.specs.PartyTally.{pins-from, all-pins, pins-whole, 
 
 -- ---- the machine's clauses for requests in hand
 
+-- One latch for each request that stands at a node, and no other.
+abbrev pub Latches-match : List ℕ → List Session → Type 0
+Latches-match s t =
+    (p : ℕ) → latch-count (latch-word p) (suc (meaning s t .root .height)) (meaning s t .root .node) ≡ of-hand 0 (λ r. stands (r .stage)) (sessionOf p (meaning s t) .hand)
+
 -- What Sound says of the requests in hand, their descents, latches and pinned keys.
 pub record Requests (s : List ℕ) (t : List Session) : Type 0 where
   pub unbegun-hand : (p : ℕ) → sessionOf (suc p) (meaning s t) .begun ≡ false → sessionOf (suc p) (meaning s t) .hand ≡ none
-  pub latches-match : (p : ℕ) → latch-count (latch-word p) (suc (meaning s t .root .height)) (meaning s t .root .node) ≡ of-hand 0 (λ r. stands (r .stage)) (sessionOf p (meaning s t) .hand)
+  pub latches-match : Latches-match s t
   pub placed : (p : ℕ) (r : Request) (x : ℕ) → sessionOf p (meaning s t) .hand ≡ some r → r .stage ≡ at x
       → Latched (latch-word p) x (Room (meaning s t) p) (suc (meaning s t .root .height)) (meaning s t .root .node)
   pub checked : (p : ℕ) (r : Request) → sessionOf p (meaning s t) .hand ≡ some r → Passes (request-checks p (r .code) (r .entry) (r .first) (r .second) (meaning s t))
@@ -299,6 +304,10 @@ module _ (s seen : List ℕ) (t : List Session) (K : TreeKnown s seen) (seats : 
   all-stored : Parties s t → All Stored (all-pins t)
   all-stored f = subst (All Stored) pins-all (pins-each Stored t parties 0 (λ q l h. f q (omega (arith, h)) .stored))
 
+  -- What is pinned is stored.
+  pub parties-pinned : Parties s t → (k : ℕ) → 1 ≤ total (pins-by k) (S .table) → stored-in k (lvs S) ≡ true
+  parties-pinned f k h = all-in Stored (all-pins t) (all-stored f) k (in-times k (all-pins t) (omega (arith, h, meaning-pins s t k)))
+
   found-unbegun : Parties s t → (p : ℕ) → sessionOf (suc p) S .begun ≡ false → sessionOf (suc p) S .hand ≡ none
   found-unbegun f p e = go (decLe (suc p) width) (ℕ-discrete (session-at t (suc p) .stage) 0)
     where
@@ -343,15 +352,15 @@ module _ (s seen : List ℕ) (t : List Session) (K : TreeKnown s seen) (seats : 
       checked = λ p q e. let k = in-table p q e in subst (λ (o : Request). Passes (request-checks p (o .code) (o .entry) (o .first) (o .second) S)) (k .2) (f p (k .0) .checked (k .1));
       standing = λ p q e. let k = in-table p q e in subst (λ (o : Request). Stands-but p S o (o .stage)) (k .2) (f p (k .0) .standing (k .1));
       hands = λ p h. f p h .hand;
-      pins-stored = λ k h. all-in Stored (all-pins t) (all-stored f) k (in-times k (all-pins t) (omega (arith, h, meaning-pins s t k)));
+      pins-stored = parties-pinned f;
     }
 
   -- ---- and back
 
-  module _ (Q : Requests s t) where
+  module _ (L : Latches-match s t) where
     kept-count : (p : ℕ) → count p ≡ stand t p
     unfolding meaning
-    kept-count p = Q .latches-match p ∙ ap (of-hand 0 (λ (q : Request). stands (q .stage))) (meaning-hand s t p) ∙ hand-stands (session-at t p)
+    kept-count p = L p ∙ ap (of-hand 0 (λ (q : Request). stands (q .stage))) (meaning-hand s t p) ∙ hand-stands (session-at t p)
 
     standing-from : standingAtNodes t ≡ latched-many (levels s) (shape s)
     standing-from =
@@ -359,6 +368,7 @@ module _ (s seen : List ℕ) (t : List Session) (K : TreeKnown s seen) (seats : 
         let b = latches-many parties (levels s) (shape s) (λ p h. kept-count p ∙ stand-no t p (λ q. let z = beyond t seats p h in omega (arith, z, q))) in
         omega (arith, a, b, standing-is t, sums-same count (stand t) parties (λ p h. kept-count p))
 
+  module _ (Q : Requests s t) where
     kept-begun : (p : ℕ) → ¬ (p ≡ 0) → ¬ (session-at t p .stage ≡ 0) → ¬ (session-at t p .begun ≡ 0)
     kept-begun zero n k z = n refl
     kept-begun (suc p) n k z =
@@ -389,7 +399,7 @@ module _ (s seen : List ℕ) (t : List Session) (K : TreeKnown s seen) (seats : 
           node = number-at (x .level) (x .target) (levels s) (tree-of s)
 
           one : latch-count (latch-word p) (levels s) (shape s) ≤ 1
-          one = omega (arith, kept-count p, stand-yes t p e)
+          one = omega (arith, kept-count (Q .latches-match) p, stand-yes t p e)
 
           reads : Node-at (x .level) (x .target) (Reads s m r node) (levels s) (shape s)
           reads = level-node s seen K (x .target) (x .level) (words p h .target) (A .lowest) (omega (arith, A .highest, K .rooted))
@@ -439,15 +449,22 @@ module _ (s seen : List ℕ) (t : List Session) (K : TreeKnown s seen) (seats : 
     fresh-tally : (i : ℕ) → i < 4097 → _≡_ {A = ℕ} (getD (replicate 4097 0) i 0) 0
     fresh-tally i h = getD-replicate 4097 i 0 0 h
 
-    pub parties-tallied : passed s seen t .ok ≡ true → Tallied s t (passed s seen t .held)
-    parties-tallied o =
-        let d = does-parties (replicate 4097 0) .found o in
-        subst (Tallied s t) (sym (d .1)) (tallied few (d .0) (replicate 4097 0) (length-replicate {A = ℕ} 4097 0) fresh-tally)
+    pub parties-tallied : Parties s t → Tallied s t (passed s seen t .held)
+    parties-tallied f =
+        subst (Tallied s t) (sym (ap (λ (v : Turn (List ℕ)). v .held) (does-parties (replicate 4097 0) .walks f)))
+        (tallied few f (replicate 4097 0) (length-replicate {A = ℕ} 4097 0) fresh-tally)
 
-    -- True, with as many latched nodes as parties at a node: what Sound says of the requests in hand.
-    pub parties-found : passed s seen t .ok ≡ true → standingAtNodes t ≡ latched-many (levels s) (shape s) → Requests s t
-    parties-found o many = requests-from (does-parties (replicate 4097 0) .found o .0) many
+  -- The pass is true exactly if every party is as it should be,
+  pub parties-pass : (passed s seen t .ok ≡ true) ↔ Parties s t
+  parties-pass = (λ o. does-parties (replicate 4097 0) .found o .0, λ f. ap (λ (v : Turn (List ℕ)). v .ok) (does-parties (replicate 4097 0) .walks f))
 
-    -- And back.
-    pub parties-walk : Requests s t → (passed s seen t .ok ≡ true) × (standingAtNodes t ≡ latched-many (levels s) (shape s))
-    parties-walk Q = (ap (λ (v : Turn (List ℕ)). v .ok) (does-parties (replicate 4097 0) .walks (party-from Q)), standing-from Q)
+  -- and then there are as many latched nodes as parties at a node exactly if the latches match.
+  pub latches-pass : Parties s t → (standingAtNodes t ≡ latched-many (levels s) (shape s)) ↔ Latches-match s t
+  latches-pass f = (found-latches f, standing-from)
+
+  -- Both together are what Sound says of the requests in hand.
+  pub parties-requests : Parties s t → Latches-match s t → Requests s t
+  parties-requests f L = requests-from f (standing-from L)
+
+  pub requests-parties : Requests s t → Parties s t
+  requests-parties = party-from

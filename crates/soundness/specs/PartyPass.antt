@@ -164,11 +164,17 @@ module _ (x : Session) (in-hand : ¬ (x .stage ≡ 0)) where
 
 -- Party p's request is as Sound says, but for what a locate holds of the keys that it has passed.
 pub record Party (s : List ℕ) (t : List Session) (p : ℕ) (x : Session) : Type 0 where
+  -- The words of its record name the records that they stand for.
   pub hand : Hand s p x
+  -- A session that has a request is begun.
   pub begun : ¬ (p ≡ 0) → ¬ (x .stage ≡ 0) → ¬ (x .begun ≡ 0)
+  -- The request passes the checks that put makes on code and arguments,
   pub checked : ¬ (x .stage ≡ 0) → Checked p x (meaning s t)
+  -- and stands where its own steps can bring it.
   pub standing : ¬ (x .stage ≡ 0) → Stands-but p (meaning s t) (request-of x) (stage-of x)
+  -- The node at which it stands, on the path to its key, has its latch and room for it.
   pub room : x .stage ≡ 3 → Room-at s p x
+  -- What it pins is stored.
   pub stored : All (λ k. stored-in k (lvs (meaning s t)) ≡ true) (pins-of x)
 
 -- Its keys are words.

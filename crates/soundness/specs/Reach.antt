@@ -1,16 +1,17 @@
 -- "Every record is reached exactly once": the owners of Sound, and the order in which the test meets the records.
 use mathlib.Core.Path.{_≡_, refl, sym, ap, _∙_}
 use mathlib.Core.List.{List, [], _∷_, _++_, map}
+use mathlib.Core.Logic.{_↔_}
 use Prim.Native.Nat.{ℕ, suc, _+_, _≤_, _<_}
 use native.Mathlib.Omega.{arith}
-use lib.ListN.{length, getD, replicate, getD-replicate}
+use lib.ListN.{length}
 use Rattle.sessions.specs.declared.Session.{Session}
 use Rattle.sessions.specs.Sessions.{session-at, parties}
 use Rattle.machine.specs.Holders.{width}
 use Rattle.machine.specs.Sound.{times}
 use Rattle.meaning.specs.Reading.{chain, member-chain, Leaf, numbers, M-of, R-of, height-of, tree-of, free-chain}
-use Rattle.meaning.specs.Sound.{All, leaves-of, joined, undo-chains, owners}
-use Rattle.soundness.specs.Marking.{Fresh, Among, all-in, all-from, in-times, times-in, times-append, once-each, each-many, each-once}
+use Rattle.meaning.specs.Sound.{All, Once, leaves-of, joined, undo-chains, owners}
+use Rattle.soundness.specs.Marking.{Among, all-in, all-from, in-times, times-in, times-append, once-times, once-each, each-many, each-once}
 use Rattle.soundness.specs.UndosPass.{chains-from}
 use Rattle.soundness.specs.GroupsPass.{members-of}
 
@@ -92,23 +93,23 @@ module _ (s : List ℕ) (t : List Session) (table : length t ≡ parties) where
   in-across : (a b : List ℕ) → ((k : ℕ) → times k a ≡ times k b) → (P : ℕ → Type 0) → All P a → All P b
   in-across a b e P h = all-from b (λ j i. all-in P a h j (in-times j a (omega (arith, e j, times-in j b i))))
 
-  unmarked : (l : List ℕ) → R-of s ≤ 4096 → All (Among (R-of s)) l → All (λ i. _≡_ {A = ℕ} (getD (replicate 4097 0) i 0) 0) l
-  unmarked l h a = all-from l (λ j i. getD-replicate 4097 j 0 0 (omega (arith, h, all-in (Among (R-of s)) l a j i .1)))
-
   -- From Sound to the test.
-  pub reach-fresh : R-of s ≤ 4096 → ((i : ℕ) → 1 ≤ i → i ≤ R-of s → times i owned ≡ 1) → All (Among (R-of s)) owned → Fresh (replicate 4097 0) (R-of s) (met s t)
-  reach-fresh h o a =
+  pub reach-apart : ((i : ℕ) → 1 ≤ i → i ≤ R-of s → times i owned ≡ 1) → All (Among (R-of s)) owned → All (Among (R-of s)) (met s t) × Once (met s t)
+  reach-apart o a =
       let b = in-across owned (met s t) same-times (Among (R-of s)) a in
-      record { inside = b; unmarked = unmarked (met s t) h b; once = each-once (R-of s) (met s t) b (λ k x y. sym (same-times k) ∙ o k x y) }
-
-  pub reach-many : ((i : ℕ) → 1 ≤ i → i ≤ R-of s → times i owned ≡ 1) → All (Among (R-of s)) owned → length (met s t) ≡ R-of s
-  reach-many o a =
-      let b = in-across owned (met s t) same-times (Among (R-of s)) a in
-      each-many (R-of s) (met s t) b (λ k x y. sym (same-times k) ∙ o k x y)
+      (b, each-once (R-of s) (met s t) b (λ k x y. sym (same-times k) ∙ o k x y))
 
   -- From the test to Sound.
-  pub reach-once : Fresh (replicate 4097 0) (R-of s) (met s t) → length (met s t) ≡ R-of s → (i : ℕ) → 1 ≤ i → i ≤ R-of s → times i (joined (owners s t)) ≡ 1
-  reach-once f e i a b = same-times i ∙ once-each (R-of s) (met s t) (f .inside) (f .once) e i a b
+  module _ (inside : All (Among (R-of s)) (met s t)) (once : Once (met s t)) where
+    pub reach-inside : All (Among (R-of s)) (joined (owners s t))
+    reach-inside = in-across (met s t) (joined (owners s t)) (λ k. sym (same-times k)) (Among (R-of s)) inside
 
-  pub reach-inside : Fresh (replicate 4097 0) (R-of s) (met s t) → All (Among (R-of s)) (joined (owners s t))
-  reach-inside f = in-across (met s t) (joined (owners s t)) (λ k. sym (same-times k)) (Among (R-of s)) (f .inside)
+    pub reach-once : ((i : ℕ) → 1 ≤ i → i ≤ R-of s → 1 ≤ times i (joined (owners s t))) → (i : ℕ) → 1 ≤ i → i ≤ R-of s → times i (joined (owners s t)) ≡ 1
+    reach-once f i a b = omega (arith, f i a b, same-times i, once-times (met s t) once i)
+
+    -- No record is met twice: so every record is met exactly if they are R.
+    pub reach-many : (length (met s t) ≡ R-of s) ↔ ((i : ℕ) → 1 ≤ i → i ≤ R-of s → 1 ≤ times i (joined (owners s t)))
+    reach-many = (
+      λ e i a b. omega (arith, same-times i, once-each (R-of s) (met s t) inside once e i a b),
+      λ f. each-many (R-of s) (met s t) inside (λ k a b. sym (same-times k) ∙ reach-once f k a b),
+    )

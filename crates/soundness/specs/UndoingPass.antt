@@ -18,9 +18,9 @@ use Rattle.machine.specs.View.{holders}
 use Rattle.machine.specs.Groups.{Rises}
 use Rattle.machine.specs.Housekeeping.{lvs}
 use Rattle.machine.specs.Steps.{rule}
-use Rattle.machine.specs.Sound.{Cells, cells, Undoable}
+use Rattle.machine.specs.Sound.{cells, Undoable}
 use Rattle.meaning.specs.Reading.{Leaf, chain, Chained, undo-at, sessions-of, M-of, R-of, meaning}
-use Rattle.meaning.specs.Sound.{All, leaves-of, Members, Lists, lists, Undo-words}
+use Rattle.meaning.specs.Sound.{All, leaves-of, Members, lists, Undo-words}
 use Rattle.marks.specs.Marks.{descriptor-mark}
 use Rattle.marks.specs.Steps.{met-in}
 use Rattle.soundness.specs.Marking.{all-append, all-as, all-in, all-from}
@@ -131,21 +131,27 @@ module _ (s : List ℕ) (t : List Session) where
   pub each-is : (marks : List ℕ) → Each-session s m r t marks 1 width ↔ ((p : ℕ) → 1 ≤ p → p ≤ width → Session-needs marks p)
   each-is marks = (λ x p a b. each-at marks width 1 x p a (omega arith), λ f. each-from marks width 1 (λ p a b. f p a (omega arith)))
 
-  -- A session's chain that can be undone has what the test asks of its records.
-  pub needed-of : (marks : List ℕ) → Tells s marks → (lo hi : ℕ) → Rises lo hi (lvs σ) → (p : ℕ) → 1 ≤ p → (g : Lists) (c : Cells)
-      → Undo-words s (us p) g → Undoable p σ (sessionOf p σ .undos) c → All (Needed s m r p marks) (us p)
-  needed-of marks tells lo hi rises zero a g c w u = absurd (omega arith)
-  needed-of marks tells lo hi rises (suc k) a g c w u =
-      all-as (secured-needed s marks tells (suc k)) (us (suc k)) (words-secured s t lo hi rises (suc k) (us (suc k)) g c w (subst (λ x. Undoable (suc k) σ x c) (undos-meant k) u))
-
-  -- So does every session's, if the chains end.
-  pub sessions-need : (marks : List ℕ) → Tells s marks → (lo hi : ℕ) → Rises lo hi (lvs σ) → ((p : ℕ) → suc p ≤ width → Chained s m (session-at t (suc p) .undo) (us (suc p)))
-      → By-session → Each-session s m r t marks 1 width
-  sessions-need marks tells lo hi rises ends f = each-is marks .1 (λ p a b. (end p a b, needed-of marks tells lo hi rises p a (lists s) (cells σ) (f p a b .0) (f p a b .1)))
+  -- Each chain ends, and each of its records has what it needs.
+  pub each-secured : (marks : List ℕ) → Tells s marks → Each-session s m r t marks 1 width
+      ↔ (((p : ℕ) → suc p ≤ width → Chained s m (session-at t (suc p) .undo) (us (suc p))) × ((p : ℕ) → suc p ≤ width → All (Secured s (suc p)) (us (suc p))))
+  each-secured marks tells = (
+    λ e. (
+      λ p h. each-is marks .0 e (suc p) (omega arith) h .0,
+      λ p h. all-as (needed-secured s marks tells (suc p)) (us (suc p)) (each-is marks .0 e (suc p) (omega arith) h .1),
+    ),
+    λ f. each-is marks .1 (needs f),
+  )
     where
-      end : (p : ℕ) → 1 ≤ p → p ≤ width → Chained s m (session-at t p .undo) (us p)
-      end zero a b = absurd (omega arith)
-      end (suc p) a b = ends p b
+      needs : ((p : ℕ) → suc p ≤ width → Chained s m (session-at t (suc p) .undo) (us (suc p))) × ((p : ℕ) → suc p ≤ width → All (Secured s (suc p)) (us (suc p)))
+          → (p : ℕ) → 1 ≤ p → p ≤ width → Session-needs marks p
+      needs f zero a b = absurd (omega arith)
+      needs f (suc p) a b = (f .0 p b, all-as (secured-needed s marks tells (suc p)) (us (suc p)) (f .1 p b))
+
+  -- Chains that can be undone have what their records need.
+  pub sessions-secured : (lo hi : ℕ) → Rises lo hi (lvs σ) → By-session → (p : ℕ) → suc p ≤ width → All (Secured s (suc p)) (us (suc p))
+  sessions-secured lo hi rises f p h =
+      let x = f (suc p) (omega arith) h in
+      words-secured s t lo hi rises (suc p) (us (suc p)) (lists s) (cells σ) (x .0) (subst (λ y. Undoable (suc p) σ y (cells σ)) (undos-meant p) (x .1))
 
   -- What the other passes tell: keys rise, the marks tell the descriptors, no two sessions exclude one entry, and the chains of members end.
   pub record Setting (marks : List ℕ) : Type 0 where

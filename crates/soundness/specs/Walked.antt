@@ -1,43 +1,64 @@
--- The walks of the test, taken together: they go well exactly if the parts of the store that they walk are in order, and all records are met once.
+-- The passes of the test one by one: each goes well exactly if its part is in order, in a store whose earlier parts are.
 use mathlib.Core.Path.{_≡_, refl, sym, ap, subst, _∙_}
 use mathlib.Core.Bool.{Bool, true, false, cond, not, _&&_, _||_}
 use mathlib.Core.List.{List, [], _∷_, _++_, map, map-append}
-use mathlib.Core.Logic.{inl, inr}
+use mathlib.Core.Logic.{_⊎_, inl, inr, _↔_}
 use Prim.Native.Nat.{ℕ, zero, suc, _+_, _-_, _≤_, _<_}
+use native.Mathlib.Decide.{decLe}
 use native.Mathlib.Omega.{arith}
 use lib.Dec.{eqb}
-use lib.ListN.{length, length-append, getD, replicate, length-replicate, getD-replicate}
-use borrow.Author.Tests.{eq-eqb, ne-eqb}
+use lib.ListN.{length, length-append, getD, replicate, length-replicate, getD-replicate, List·getD-eq-default}
+use borrow.Author.Tests.{ne-eqb}
+use Rattle.words.specs.Store.{wordOf}
 use Rattle.words.specs.Header.{headerWord, freePlace}
 use Rattle.words.specs.Entries.{entryWord}
 use Rattle.groups.specs.Descriptor.{descriptorAt}
 use Rattle.undos.specs.Undo.{undoAt}
 use Rattle.locks.specs.Holders.{width, holds}
 use Rattle.sessions.specs.declared.Session.{Session}
+use Rattle.sessions.specs.Sessions.{session-at}
 use Rattle.marks.specs.Marks.{entryOk, isMet, descriptor-mark, undo-mark, membership-mark, free-mark}
 use Rattle.marks.specs.Steps.{both, met-in}
 use Rattle.marks.specs.Trail.{Trail, ends}
 use Rattle.undo_chains.specs.UndoChains.{undoOk, kindOk, groupHeld}
 use Rattle.parties.specs.Parties.{standingAtNodes, allUndos}
 use Rattle.tree_walk.specs.TreeWalk.{Tour}
-use Rattle.holders.specs.Holders.{begunMask, entriesFrom}
+use Rattle.holders.specs.Holders.{begunMask}
 use Rattle.holdings.specs.Holdings.{allGroups}
-use Rattle.sound.specs.Sound.{lowestOk, freeFrom, freeTurn}
+use Rattle.sound.specs.Sound.{freeFrom, freeTurn}
 use Rattle.machine.specs.Tree.{flat, leaves}
-use Rattle.machine.specs.Sound.{times}
-use Rattle.meaning.specs.Reading.{Chained, Leaf, Mark, Numbered, numbers, erase, M-of, R-of, height-of, tree-of, free-chain}
-use Rattle.meaning.specs.Sound.{All, Once}
-use Rattle.soundness.specs.Marking.{once-most, all-as, times-append, times-once, once-times, mark-all, Fresh, Among, Marked, marked-all, mark-length, fresh-left, fresh-rest, fresh-then, all-in, all-from, In}
-use Rattle.soundness.specs.Free.{Rest, Idle, spent, rest-found, rest-walks}
+use Rattle.machine.specs.State.{Desc, take, State, top}
+use Rattle.machine.specs.Steps.{pinned}
+use Rattle.machine.specs.Groups.{Rises}
+use Rattle.machine.specs.Housekeeping.{lvs, Ordered}
+use Rattle.machine.specs.Looks.{shaped-ordered, ordered-rises}
+use Rattle.machine.specs.Sound.{times, stored-in, pins-in, total, pins-by, of-hand}
+use Rattle.meaning.specs.Reading.{Leaf, Mark, Numbered, numbers, erase, desc-at, M-of, R-of, height-of, tree-of, free-chain, meaning}
+use Rattle.meaning.specs.Sound.{All, Once, leaves-of, Members}
+use Rattle.soundness.specs.Marking.{once-most, all-as, times-append, times-once, once-times, mark-all, Fresh, Among, Marked, marked-all, mark-length, fresh-rest, fresh-then, all-in, all-from, In}
+use Rattle.soundness.specs.Chains.{chained-found, chained-walks}
+use Rattle.soundness.specs.Free.{Idle, idle-turns}
 use Rattle.soundness.specs.Filing.{Files}
 use Rattle.soundness.specs.UndosPass.{file-all, concerns, of-group, Names, files-all, Needed, chain-of, chains-from, Each-session, undos-found, undos-walks}
-use Rattle.soundness.specs.HeldTests.{begun-less}
+use Rattle.soundness.specs.HeldTests.{EntriesHeld, begun-less}
 use Rattle.soundness.specs.TreeRecords.{leaf-numbers, leaf-in, latched-many, TreeMarks, tree-marked}
 use Rattle.soundness.specs.RootPass.{RootInOrder, root-toured, root-found, root-walks, root-ok, root-marks, root-order}
+use Rattle.soundness.specs.TreeKnown.{TreeKnown, tree-known}
+use Rattle.soundness.specs.UndoLeaves.{leaves-read}
+use Rattle.soundness.specs.Leaves.{stored-records}
+use Rattle.soundness.specs.PartyMeaning.{request-of, next-of, hand-some, stage-5}
+use Rattle.soundness.specs.PartyPass.{pins-of}
+use Rattle.soundness.specs.PartiesPass.{Parties, Latches-match, Tallied, parties-pinned, parties-tallied, parties-pass, latches-pass}
+use Rattle.soundness.specs.PartyPins.{Leaf-pins, leaves-match}
+use Rattle.soundness.specs.UndoNeeds.{Tells}
+use Rattle.soundness.specs.UndoingPass.{Setting, each-secured, sound-sessions, sessions-sound, undoing-is}
 use Rattle.soundness.specs.GroupsPass.{Groups, GroupsFound, GroupsWalked, groups-found, groups-walks}
-use Rattle.soundness.specs.SizesPass.{Sizes, sizes-found, sizes-pass}
-use Rattle.soundness.specs.Tested.{toured, stood, filed, grouped, freed, Tested}
-use Rattle.soundness.specs.Reach.{tree-records, leaf-records, undo-records, member-records, met}
+use Rattle.soundness.specs.MembersHeld.{all-map, come-sound, sound-come}
+use Rattle.soundness.specs.GroupsHeld.{Taking, GroupsSound, PinsCounted, GroupParts, groups-parts, parts-groups, groups-sound, sound-groups, leaf-pins}
+use Rattle.soundness.specs.SizesPass.{Sizes}
+use Rattle.soundness.specs.Tested.{toured, stood, filed, grouped, freed}
+use Rattle.soundness.specs.Reach.{tree-records, leaf-records, undo-records, member-records, met, reach-many}
+use Rattle.soundness.specs.Parts.{Table, Distinct, TreeInOrder, UndosInOrder, GroupsInOrder, FreeInOrder, AllReached}
 
 abbrev pub unmet : List ℕ
 unmet = replicate 4097 0
@@ -46,18 +67,19 @@ unmet = replicate 4097 0
 abbrev pub group-undos : List ℕ → List Session → ℕ → List ℕ
 group-undos s t d = of-group s (M-of s) d (undo-records s t)
 
-pub record Walked (s : List ℕ) (t : List Session) : Type 0 where
-  pub sizes : Sizes s
-  pub entries : entriesFrom s (begunMask t) 1 (M-of s) ≡ true
-  pub lowest : lowestOk s (M-of s) (R-of s) ≡ true
-  pub tree : RootInOrder s (M-of s) (R-of s) unmet
-  pub requests : stood s t .ok ≡ true
-  pub latches : standingAtNodes t ≡ latched-many (suc (height-of s)) (erase (suc (height-of s)) (tree-of s))
-  pub undos : Each-session s (M-of s) (R-of s) t (toured s .seen) 1 width
-  pub groups : Groups s (M-of s) (R-of s) (sizes .entries .1) (group-undos s t) (stood s t .held) (begunMask t) t (leaf-records s t)
-  pub free : Chained s (M-of s) (headerWord s freePlace) (free-chain s)
-  pub once : Fresh unmet (R-of s) (met s t)
-  pub many : length (met s t) ≡ R-of s
+-- No record is marked at first.
+zeros : (j : ℕ) → _≡_ {A = ℕ} (getD unmet j 0) 0
+zeros j = go (decLe 4097 j)
+  where
+    go : Dec (4097 ≤ j) → _≡_ {A = ℕ} (getD unmet j 0) 0
+    go (yes h) = let l : length unmet ≤ j = omega (arith, h, length-replicate {A = ℕ} 4097 0) in List·getD-eq-default unmet 0 l
+    go (no n) = getD-replicate 4097 j 0 0 (omega (arith, n))
+
+distinct-fresh : (s l : List ℕ) → Distinct s l → Fresh unmet (R-of s) l
+distinct-fresh s l a = record { inside = a .inside; unmarked = all-from l (λ j i. zeros j); once = a .once }
+
+fresh-distinct : (s l : List ℕ) → Fresh unmet (R-of s) l → Distinct s l
+fresh-distinct s l f = record { inside = f .inside; once = f .once }
 
 -- ---- lists
 
@@ -122,9 +144,9 @@ module _ (s : List ℕ) (t : List Session) (Z : Sizes s) where
   long : r < length unmet
   long = omega (arith, few, length-replicate {A = ℕ} 4097 0)
 
-  idle-turns : Idle ℕ freeTurn
+  idle : Idle ℕ freeTurn
   unfolding freeTurn
-  idle-turns = record { is = λ seen a i. refl }
+  idle = record { is = λ seen a i. refl }
 
   module _ (K : RootInOrder s m r unmet) where
     pub tour-is : toured s ≡ root-toured s m r unmet unmet
@@ -232,89 +254,276 @@ module _ (s : List ℕ) (t : List Session) (Z : Sizes s) where
           (toured s .order) (toured s .walk .count) (leaf-records s t) (sym tour-count) tour-order leaf-among leaf-once before undos-long left g f n
           (all-from (leaf-records s t) (λ d i. all-from (group-undos s t d) (λ j w. all-in (Among r) (undo-records s t) a j (grouped-in s m j d (undo-records s t) w) .1)))
 
--- ---- both directions
+  -- ---- the passes
 
-module _ (s : List ℕ) (t : List Session) where
-  pub walked : Tested s t → Walked s t
-  unfolding allUndos freeFrom tree-of
-  walked T =
-      let Z = sizes-found s (T .sizes) in
-      let m = M-of s in
-      let r = R-of s in
-      let K = root-found s m r unmet unmet (Z .records .1) (long s t Z) (T .tree) in
-      let U = undos-found s m r t width 1 (toured s .walk .left) (toured s .seen) no-files (tour-long s t Z K) (T .undos) in
-      let g : grouped s t ≡ groups-walk s t Z K (stood s t .held) (filed s t .left) =
-      ap (λ (f : List ℕ). allGroups s (toured s .order) (stood s t .held) f m r (begunMask t) t (toured s .walk .count) (filed s t .seen) (replicate 2050 0) (filed s t .left)) (U .filed-is)
-      ∙ ap (λ (x : List ℕ). allGroups s (toured s .order) (stood s t .held) (file-all s m no-files (undo-records s t)) m r (begunMask t) t (toured s .walk .count) x (replicate 2050 0) (filed s t .left)) (U .seen-is) in
-      let F = found-groups s t Z K (U .each) (U .fresh .inside) (U .fresh .once) (stood s t .held) (filed s t .left) (sym (ap (λ (v : Trail (List ℕ)). v .ok) g) ∙ T .groups) in
-      let q : grouped s t .seen ≡ behind s t Z K = ap (λ (v : Trail (List ℕ)). v .seen) g ∙ F .walked .seen-is in
-      let l : grouped s t .left + length (member-records s t) ≡ filed s t .left = ap (λ (v : Trail (List ℕ)). v .left + length (member-records s t)) g ∙ F .walked .left-is in
-      let e : spent (freed s t) ≡ true = simp (T .free, eq-eqb (freed s t .left) 0 (T .none-left)) in
-      let R = rest-found freeTurn (idle-turns s t Z) s m r free-mark (grouped s t .seen) 0 (headerWord s freePlace) (grouped s t .left) (λ z. omega (arith, z))
-      (subst (λ (x : List ℕ). r < length x) (sym q) (behind-long s t Z K)) e in
-      let f = subst (λ (x : List ℕ). Fresh x r (free-chain s)) q (R .fresh) in
-      record {
-        sizes = Z;
-        entries = T .entries;
-        lowest = T .lowest;
-        tree = K;
-        requests = T .requests;
-        latches = T .latches ∙ tour-latches s t Z K;
-        undos = U .each;
-        groups = F .groups;
-        free = R .chained;
-        once =
-            fresh-then unmet r (tree-records s t) (undo-records s t ++ (member-records s t ++ free-chain s)) (long s t Z) (tour-marked s t Z K) (tree-fresh s t Z K)
-            (fresh-then (toured s .seen) r (undo-records s t) (member-records s t ++ free-chain s) (tour-long s t Z K) (before-marked s t Z K) (U .fresh)
-            (fresh-then (before s t Z K) r (member-records s t) (free-chain s) (undos-long s t Z K) (behind-marked s t Z K) (F .fresh) f));
-        many =
-            let a = length-append (tree-records s t) (undo-records s t ++ (member-records s t ++ free-chain s)) in
-            let b = length-append (undo-records s t) (member-records s t ++ free-chain s) in
-            let c = length-append (member-records s t) (free-chain s) in
-            let d = once-most r (tree-records s t) (tree-fresh s t Z K .inside) (tree-fresh s t Z K .once) in
-            omega (arith, a, b, c, d, tour-left s t Z K, U .left-is, l, R .many);
-      }
+  module _ (T : Table t) where
+    abbrev σ : State
+    σ = meaning s t
 
-  pub walks-tested : Walked s t → Tested s t
-  unfolding allUndos freeFrom tree-of
-  walks-tested W =
-      let Z = W .sizes in
-      let m = M-of s in
-      let r = R-of s in
-      let K = W .tree in
-      let rest = member-records s t ++ free-chain s in
-      let a = length-append (tree-records s t) (undo-records s t ++ rest) in
-      let b = length-append (undo-records s t) rest in
-      let c = length-append (member-records s t) (free-chain s) in
-      let f1 = fresh-rest unmet r (tree-records s t) (undo-records s t ++ rest) (tour-marked s t Z K) (W .once) in
-      let f2 = fresh-rest (toured s .seen) r (undo-records s t) rest (before-marked s t Z K) f1 in
-      let f3 = fresh-rest (before s t Z K) r (member-records s t) (free-chain s) (behind-marked s t Z K) f2 in
-      let u0 = fresh-left (toured s .seen) r (undo-records s t) rest f1 in
-      let U : filed s t ≡ ends true (toured s .walk .left - length (undo-records s t)) (before s t Z K) (file-all s m no-files (undo-records s t)) =
-      undos-walks s m r t width 1 (toured s .walk .left) (toured s .seen) no-files (tour-long s t Z K) (W .undos) u0 (omega (arith, W .many, a, b, tour-left s t Z K)) in
-      let left : ℕ = toured s .walk .left - length (undo-records s t) in
-      let g : grouped s t ≡ groups-walk s t Z K (stood s t .held) left =
-      ap (λ (v : Trail (List ℕ)). allGroups s (toured s .order) (stood s t .held) (v .held) m r (begunMask t) t (toured s .walk .count) (v .seen) (replicate 2050 0) (v .left)) U in
-      let G = walks-groups s t Z K (W .undos) (u0 .inside) (u0 .once) (stood s t .held) left (W .groups) (fresh-left (before s t Z K) r (member-records s t) (free-chain s) f2)
-      (omega (arith, W .many, a, b, c, tour-left s t Z K)) in
-      let q : grouped s t .seen ≡ behind s t Z K = ap (λ (v : Trail (List ℕ)). v .seen) g ∙ G .seen-is in
-      let l : grouped s t .left + length (member-records s t) ≡ left = ap (λ (v : Trail (List ℕ)). v .left + length (member-records s t)) g ∙ G .left-is in
-      let R : Rest s m r (grouped s t .seen) (headerWord s freePlace) (grouped s t .left) = record {
-        chained = W .free;
-        fresh = subst (λ (x : List ℕ). Fresh x r (free-chain s)) (sym q) f3;
-        many = omega (arith, W .many, a, b, c, tour-left s t Z K, l);
-      } in
-      let e = rest-walks freeTurn (idle-turns s t Z) s m r free-mark (grouped s t .seen) 0 (headerWord s freePlace) (grouped s t .left) R in
-      record {
-        sizes = sizes-pass s Z;
-        entries = W .entries;
-        lowest = W .lowest;
-        tree = root-ok s m r unmet unmet (Z .records .1) (long s t Z) K;
-        requests = W .requests;
-        latches = W .latches ∙ sym (tour-latches s t Z K);
-        undos = ap (λ (v : Trail (List ℕ)). v .ok) U;
-        few = omega (arith, tour-count s t Z K, Z .records .1, once-most r (leaf-records s t) (leaf-among s t Z K) (leaf-once s t Z K));
-        groups = ap (λ (v : Trail (List ℕ)). v .ok) g ∙ G .ok;
-        free = ap (λ (v : Trail ℕ). v .ok) e;
-        none-left = ap (λ (v : Trail ℕ). v .left) e;
-      }
+    seats : length t ≤ suc width
+    seats = omega (arith, T .seats)
+
+    -- ---- the tree
+
+    rooted : TreeInOrder s → RootInOrder s (M-of s) (R-of s) unmet
+    unfolding tree-of
+    rooted C = record { rooted = C .rooted; fresh = distinct-fresh s (tree-records s t) (C .reached); shaped = C .shaped; top-free = C .top-free; few = C .few; chained = C .chained }
+
+    pub tree-pass : (toured s .walk .ok ≡ true) ↔ TreeInOrder s
+    unfolding tree-of
+    tree-pass = (
+      λ o.
+          let K = root-found s m r unmet unmet few long o in
+          record { rooted = K .rooted; reached = fresh-distinct s (tree-records s t) (K .fresh); shaped = K .shaped; top-free = K .top-free; few = K .few; chained = K .chained },
+      λ C. root-ok s m r unmet unmet few long (rooted C),
+    )
+
+    module _ (C : TreeInOrder s) where
+      abbrev K : RootInOrder s (M-of s) (R-of s) unmet
+      K = rooted C
+
+      abbrev marks : List ℕ
+      marks = toured s .seen
+
+      pub known : TreeKnown s (toured s .seen)
+      unfolding tree-of
+      known = tree-known s unmet marks K (tour-marks K) zeros
+
+      pub rising : Rises 0 4294967296 (lvs (meaning s t))
+      unfolding meaning Ordered
+      rising = ordered-rises σ (shaped-ordered (suc (height-of s)) 1 0 top (erase (suc (height-of s)) (tree-of s)) (C .shaped))
+
+      tells : Tells s (toured s .seen)
+      tells = record { met = known .met; marked = known .marked }
+
+      pub leaf-inside : All (Among (R-of s)) (stored-records s)
+      leaf-inside = leaf-among K
+
+      some-leaves : All (λ d. ¬ (d ≡ 0)) (stored-records s)
+      some-leaves = all-as (λ d b z. omega (arith, z, b .0)) (stored-records s) leaf-inside
+
+      -- ---- the requests in hand, and the latches
+
+      pub requests-pass : (stood s t .ok ≡ true) ↔ Parties s t
+      requests-pass = parties-pass s marks t known (T .seats) (T .words)
+
+      pub latch-pass : Parties s t → (standingAtNodes t ≡ toured s .walk .latches) ↔ Latches-match s t
+      latch-pass Q =
+          let i = latches-pass s marks t known (T .seats) (T .words) Q in
+          (λ e. i .0 (e ∙ tour-latches K), λ L. i .1 L ∙ sym (tour-latches K))
+
+      -- ---- the chains of undo records
+
+      module _ (U : UndosInOrder s t) where
+        each : Each-session s m r t marks 1 width
+        each = each-secured s t marks tells .1 (U .ends, U .secured)
+
+        undos-fresh : Fresh marks r (undo-records s t)
+        undos-fresh = fresh-rest unmet r (tree-records s t) (undo-records s t) (tour-marked K) (distinct-fresh s (tree-records s t ++ undo-records s t) (U .reached))
+
+        abbrev left : ℕ
+        left = toured s .walk .left - length (undo-records s t)
+
+        filed-is : filed s t ≡ ends true (toured s .walk .left - length (undo-records s t)) (before K) (file-all s m no-files (undo-records s t))
+        unfolding allUndos
+        filed-is =
+            let a = length-append (tree-records s t) (undo-records s t) in
+            let b = once-most r (tree-records s t ++ undo-records s t) (U .reached .inside) (U .reached .once) in
+            undos-walks s m r t width 1 (toured s .walk .left) marks no-files (tour-long K) each undos-fresh (omega (arith, a, b, tour-left K))
+
+        grouped-is : grouped s t ≡ groups-walk K (stood s t .held) (toured s .walk .left - length (undo-records s t))
+        grouped-is =
+            ap (λ (v : Trail (List ℕ)). allGroups s (toured s .order) (stood s t .held) (v .held) m r (begunMask t) t (toured s .walk .count) (v .seen) (replicate 2050 0) (v .left)) filed-is
+
+      pub undos-pass : (filed s t .ok ≡ true) ↔ UndosInOrder s t
+      unfolding allUndos
+      undos-pass = (found, λ U. ap (λ (v : Trail (List ℕ)). v .ok) (filed-is U))
+        where
+          found : filed s t .ok ≡ true → UndosInOrder s t
+          found o =
+              let U = undos-found s m r t width 1 (toured s .walk .left) marks no-files (tour-long K) o in
+              let e = each-secured s t marks tells .0 (U .each) in
+              record {
+                ends = e .0;
+                secured = e .1;
+                reached = fresh-distinct s (tree-records s t ++ undo-records s t)
+                    (fresh-then unmet r (tree-records s t) (undo-records s t) long (tour-marked K) (tree-fresh K) (U .fresh));
+              }
+
+      -- ---- the groups
+
+      pub leaves-few : toured s .walk .count ≤ 4097
+      leaves-few = omega (arith, tour-count K, few, once-most r (leaf-records s t) leaf-inside (leaf-once K))
+
+      module _ (E : EntriesHeld (meaning s t)) (Q : Parties s t) (U : UndosInOrder s t) where
+        abbrev small : M-of s ≤ 1024
+        small = Z .entries .1
+
+        abbrev tally : List ℕ
+        tally = stood s t .held
+
+        tallied : Tallied s t (stood s t .held)
+        tallied = parties-tallied s marks t known (T .seats) (T .words) few Q
+
+        setting : All (λ l. Members s (l .num)) (leaves-of s) → Setting s t (toured s .seen)
+        setting A = record { rises = rising; tells = tells; held = E; members = A }
+
+        -- The groups' part says so of the descriptors, their members and their undo records,
+        parts-of : GroupsInOrder s t → GroupParts s (Z .entries .1) (group-undos s t) (stood s t .held) (begunMask t) t (stored-records s)
+        parts-of G = record {
+          held = sound-groups s t seats rising tally (G .held) counted;
+          come = sound-come s small t some-leaves (record { listed = G .listed; members = G .members });
+          undoes = undoing-is s t marks (setting (G .members)) (each U) small .1 (sound-sessions s t (G .undo-words) (G .undoable));
+        }
+          where
+            go : (ls : List Leaf) → All (λ l. l .desc ≡ desc-at s m r (l .num)) ls
+                → All (λ l. getD (stood s t .held) (l .num) 0 ≡ total (pins-by (l .desc .key)) (σ .table)) ls
+                → All (λ (l : Leaf). pins-in (wordOf s m (l .num) 1) (lvs σ) ≡ getD (stood s t .held) (l .num) 0) ls
+            go [] a b = tt
+            go (l ∷ ls) a b =
+                let e : wordOf s m (l .num) 1 ≡ l .desc .key = sym (ap (λ (d : Desc). d .key) (a .0)) in
+                (G .pins-match (wordOf s m (l .num) 1) ∙ ap (λ (k : ℕ). total (pins-by k) (σ .table)) e ∙ sym (b .0), go ls (a .1) (b .1))
+
+            counted : PinsCounted s t (stood s t .held)
+            counted = all-map _ (λ (l : Leaf). l .num) (leaves-of s) .1 (go (leaves-of s) (leaves-read s) tallied)
+
+        -- and their words then say it of the groups.
+        module _ (P : GroupParts s (Z .entries .1) (group-undos s t) (stood s t .held) (begunMask t) t (stored-records s)) where
+          -- A locate that takes has pinned first.
+          first-pinned : (x : Session) → x .stage ≡ 5 → All (λ k. stored-in k (lvs σ) ≡ true) (pins-of x) → stored-in (x .first) (lvs σ) ≡ true
+          unfolding pinned
+          first-pinned x e a = go (eqb (x .first) (x .second)) (subst (All (λ k. stored-in k (lvs σ) ≡ true)) pins a)
+            where
+              busy : ¬ (x .stage ≡ 0)
+              busy z = omega (arith, z, e)
+
+              pins : pins-of x ≡ pinned (request-of x) (take (next-of x))
+              pins = ap (of-hand [] (λ q. pinned q (q .stage))) (hand-some x busy) ∙ ap (pinned (request-of x)) (stage-5 x e)
+
+              go : (b : Bool) → All (λ k. stored-in k (lvs σ) ≡ true) (cond b (x .first ∷ []) (x .first ∷ x .second ∷ [])) → stored-in (x .first) (lvs σ) ≡ true
+              go true c = c .0
+              go false c = c .0
+
+          from-first : (p : ℕ) → Taking t p → (stored-in (session-at t p .first) (lvs σ) ≡ true) × (session-at t p .first ≤ session-at t p .last)
+          from-first p G = (first-pinned (session-at t p) (G .takes) (Q p (G .highest) .stored), go (Q p (G .highest) .hand .last (G .takes)))
+            where
+              go : (session-at t p .last ≡ 0) ⊎ (session-at t p .first ≤ session-at t p .last) → session-at t p .first ≤ session-at t p .last
+              go (inl z) = absurd (G .taken z)
+              go (inr h) = h
+
+          held : GroupsSound s t × PinsCounted s t (stood s t .held)
+          held = groups-sound s t seats rising tally from-first (P .held)
+
+          leaf-pinned : Leaf-pins s t
+          leaf-pinned =
+              go (leaves-of s) (leaves-read s) (all-map _ (λ (l : Leaf). l .num) (leaves-of s) .0 (leaf-pins s t rising)) (all-map _ (λ (l : Leaf). l .num) (leaves-of s) .0 (held .1)) tallied
+            where
+              go : (ls : List Leaf) → All (λ l. l .desc ≡ desc-at s m r (l .num)) ls
+                  → All (λ (l : Leaf). pins-in (wordOf s m (l .num) 1) (lvs σ) ≡ wordOf s m (l .num) 5) ls
+                  → All (λ (l : Leaf). pins-in (wordOf s m (l .num) 1) (lvs σ) ≡ getD (stood s t .held) (l .num) 0) ls
+                  → All (λ l. getD (stood s t .held) (l .num) 0 ≡ total (pins-by (l .desc .key)) (σ .table)) ls
+                  → All (λ l. l .desc .pins ≡ total (pins-by (l .desc .key)) (σ .table)) ls
+              go [] a b c d = tt
+              go (l ∷ ls) a b c d = (ap (λ (e : Desc). e .pins) (a .0) ∙ sym (b .0) ∙ c .0 ∙ d .0, go ls (a .1) (b .1) (c .1) (d .1))
+
+          of-parts : Distinct s (tree-records s t ++ (undo-records s t ++ member-records s t)) → GroupsInOrder s t
+          of-parts R =
+              let M = come-sound s small t (P .come) in
+              let u = sessions-sound s t seats (undoing-is s t marks (setting (M .members)) (each U) small .0 (P .undoes)) in
+              record {
+                listed = M .listed;
+                members = M .members;
+                reached = R;
+                held = held .0;
+                pins-match = leaves-match s marks t known leaf-pinned (parties-pinned s marks t known (T .seats) (T .words) Q);
+                undo-words = u .0;
+                undoable = u .1;
+              }
+
+        module _ (G : GroupsInOrder s t) where
+          members-fresh : Fresh (before K) r (member-records s t)
+          members-fresh =
+              fresh-rest marks r (undo-records s t) (member-records s t) (before-marked K)
+              (fresh-rest unmet r (tree-records s t) (undo-records s t ++ member-records s t) (tour-marked K) (distinct-fresh s (tree-records s t ++ (undo-records s t ++ member-records s t)) (G .reached)))
+
+          members-few : length (member-records s t) ≤ toured s .walk .left - length (undo-records s t)
+          members-few =
+              let a = length-append (tree-records s t) (undo-records s t ++ member-records s t) in
+              let b = length-append (undo-records s t) (member-records s t) in
+              let c = once-most r (tree-records s t ++ (undo-records s t ++ member-records s t)) (G .reached .inside) (G .reached .once) in
+              omega (arith, a, b, c, tour-left K)
+
+          walked : GroupsWalked s m r (Z .entries .1) (group-undos s t) (stood s t .held) (begunMask t) t (before K) (toured s .walk .left - length (undo-records s t)) (leaf-records s t)
+              (groups-walk K (stood s t .held) (toured s .walk .left - length (undo-records s t)))
+          walked =
+              walks-groups K (each U) (undos-fresh U .inside) (undos-fresh U .once) tally (left U)
+              (parts-groups s small (group-undos s t) tally (begunMask t) t (stored-records s) (parts-of G)) members-fresh members-few
+
+        pub groups-pass : (grouped s t .ok ≡ true) ↔ GroupsInOrder s t
+        groups-pass = (found, λ G. ap (λ (v : Trail (List ℕ)). v .ok) (grouped-is U) ∙ walked G .ok)
+          where
+            found : grouped s t .ok ≡ true → GroupsInOrder s t
+            found o =
+                let F = found-groups K (each U) (undos-fresh U .inside) (undos-fresh U .once) tally (left U) (sym (ap (λ (v : Trail (List ℕ)). v .ok) (grouped-is U)) ∙ o) in
+                of-parts (groups-parts s small (group-undos s t) tally (begunMask t) t (stored-records s) (F .groups))
+                (fresh-distinct s (tree-records s t ++ (undo-records s t ++ member-records s t))
+                (fresh-then unmet r (tree-records s t) (undo-records s t ++ member-records s t) long (tour-marked K) (tree-fresh K)
+                (fresh-then marks r (undo-records s t) (member-records s t) (tour-long K) (before-marked K) (undos-fresh U) (F .fresh))))
+
+        -- ---- the free chain
+
+        module _ (G : GroupsInOrder s t) where
+          behind-is : grouped s t .seen ≡ behind K
+          behind-is = ap (λ (v : Trail (List ℕ)). v .seen) (grouped-is U) ∙ walked G .seen-is
+
+          left-is : grouped s t .left + length (member-records s t) ≡ toured s .walk .left - length (undo-records s t)
+          left-is = ap (λ (v : Trail (List ℕ)). v .left + length (member-records s t)) (grouped-is U) ∙ walked G .left-is
+
+          -- How many records are met, and left.
+          all-many : length (met s t) + grouped s t .left ≡ r + length (free-chain s)
+          all-many =
+              let a = length-append (tree-records s t) (undo-records s t ++ (member-records s t ++ free-chain s)) in
+              let b = length-append (undo-records s t) (member-records s t ++ free-chain s) in
+              let c = length-append (member-records s t) (free-chain s) in
+              let d = length-append (tree-records s t) (undo-records s t ++ member-records s t) in
+              let e = length-append (undo-records s t) (member-records s t) in
+              let f = once-most r (tree-records s t ++ (undo-records s t ++ member-records s t)) (G .reached .inside) (G .reached .once) in
+              omega (arith, a, b, c, d, e, f, tour-left K, left-is)
+
+          freed-is : FreeInOrder s t → freed s t ≡ ends true (grouped s t .left - length (free-chain s)) (mark-all (grouped s t .seen) (free-chain s) free-mark) 0
+          unfolding freeFrom
+          freed-is F =
+              let rest = member-records s t ++ free-chain s in
+              let x = fresh-rest unmet r (tree-records s t) (undo-records s t ++ rest) (tour-marked K) (distinct-fresh s (met s t) (F .reached)) in
+              let y = fresh-rest marks r (undo-records s t) rest (before-marked K) x in
+              let z = fresh-rest (before K) r (member-records s t) (free-chain s) (behind-marked K) y in
+              chained-walks s m r free-mark freeTurn (grouped s t .seen) 0 (headerWord s freePlace) (grouped s t .left) (free-chain s) 0 (F .ends)
+              (subst (λ (v : List ℕ). Fresh v r (free-chain s)) (sym behind-is) z)
+              (omega (arith, all-many, once-most r (met s t) (F .reached .inside) (F .reached .once)))
+              (idle-turns freeTurn idle free-mark (grouped s t .seen) 0 (free-chain s))
+
+          pub free-pass : (freed s t .ok ≡ true) ↔ FreeInOrder s t
+          unfolding freeFrom
+          free-pass = (found, λ F. ap (λ (v : Trail ℕ). v .ok) (freed-is F))
+            where
+              found : freed s t .ok ≡ true → FreeInOrder s t
+              found o =
+                  let rest = member-records s t ++ free-chain s in
+                  let R = chained-found s m r free-mark freeTurn (grouped s t .seen) 0 (headerWord s freePlace) (grouped s t .left) (λ z. omega (arith, z))
+                  (subst (λ (v : List ℕ). r < length v) (sym behind-is) (behind-long K)) o in
+                  record {
+                    ends = R .chained;
+                    reached = fresh-distinct s (met s t)
+                        (fresh-then unmet r (tree-records s t) (undo-records s t ++ rest) long (tour-marked K) (tree-fresh K)
+                        (fresh-then marks r (undo-records s t) rest (tour-long K) (before-marked K) (undos-fresh U)
+                        (fresh-then (before K) r (member-records s t) (free-chain s) (undos-long K) (behind-marked K) (members-fresh G)
+                        (subst (λ (v : List ℕ). Fresh v r (free-chain s)) behind-is (R .fresh)))));
+                  }
+
+          -- Nothing is left exactly if every record is reached.
+          pub reached-pass : FreeInOrder s t → (freed s t .left ≡ 0) ↔ AllReached s t
+          reached-pass F =
+              let l : freed s t .left ≡ grouped s t .left - length (free-chain s) = ap (λ (v : Trail ℕ). v .left) (freed-is F) in
+              let n = once-most r (met s t) (F .reached .inside) (F .reached .once) in
+              let i = reach-many s t (T .seats) (F .reached .inside) (F .reached .once) in
+              (λ e. i .0 (omega (arith, e, l, n, all-many)), λ f. omega (arith, l, all-many, i .1 f))

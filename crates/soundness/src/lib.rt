@@ -1,13 +1,14 @@
 // Soundness: the test of a store and its session table is true exactly if they are sound as document 01 says.
 //
-// It promises: `is_sound` answers exactly whether `meaning.Sound` holds. specs/: Tested (the test is its passes), a file for each pass, Walked (all of them
-// together), Sounds and Exactly (the two directions, `test-sound` and `sound-test`). It rests on the crates of the test for its definition, on `meaning`
-// for what is sound.
+// It promises: `is_sound` answers exactly whether `meaning.Sound` holds. specs/: Parts (what each number of the test stands for), Tested (what each pass
+// leaves for the next), a file for each pass, Walked (each pass goes well exactly if its part holds), Named (the number that the test answers names the first
+// part that is broken), Sounds and Exactly (Sound is all parts; the two directions, `test-sound` and `sound-test`). It rests on the crates of the test for
+// its definition, on `meaning` for what is sound.
 ghost use mathlib.Core.Path.{_≡_};
 ghost use mathlib.Core.Bool.{true};
 ghost use mathlib.Core.Logic.{_↔_};
 ghost use Rattle.meaning.specs.Sound.{Sound};
-ghost use Rattle.soundness.specs.Sounds.{Table};
+ghost use Rattle.soundness.specs.Parts.{Table};
 use sessions::PARTIES;
 use sessions::Session;
 

@@ -15,7 +15,7 @@ use Rattle.outcomes.specs.Said.{said}
 use Rattle.meaning.specs.Sound.{Sound}
 use Rattle.meaning.specs.Table.{table-many}
 use Rattle.sound.specs.Sound.{isSound}
-use Rattle.soundness.specs.Sounds.{Table}
+use Rattle.soundness.specs.Parts.{Table}
 use Rattle.soundness.specs.Exactly.{test-sound, sound-test}
 use Rattle.promises.specs.Relations.{Others, Calls}
 use Rattle.seats.specs.declared.Seat.{Seat}
