@@ -1,16 +1,11 @@
 -- A lock granted when nobody is in the way keeps the holders in agreement.
 use mathlib.Core.Path.{_≡_, refl, sym, _∙_, subst, ap}
-use mathlib.Core.Bool.{Bool, true, false, not, _&&_, _||_}
-use mathlib.Core.List.{[], cons≢nil}
+use mathlib.Core.Bool.{true}
 use mathlib.Core.Logic.{_⊎_, inl, inr}
-use Prim.Native.Nat.{zero, suc, _+_, _≤_, _<_, ℕ}
+use Prim.Native.Nat.{ℕ}
 use native.Mathlib.Decide.{ℕ-discrete}
-use native.Mathlib.Omega.{arith}
-use lib.Dec.{eqb}
 use Rattle.serial.specs.Locks.{Kind, Mode, weak, strong, Holds, Agree}
 use Rattle.serial.specs.Locks as L
-use Rattle.machine.specs.Logic.{neither, not-both, not-false, eqb-no}
-use Rattle.machine.specs.Holders.{width, holds, count-from, filter, in-the-way, blockers}
 use Rattle.machine.specs.Steps.{rule}
 
 pub rule-symmetric : (k : Kind) (m n : Mode) → rule k m n ≡ rule k n m
@@ -48,27 +43,3 @@ grown-agree H G p k m Z g a l n o s t x hs ht = go (g .new l n s x hs) (g .new l
     go (inl h) (inr w) = left (λ e. sym e ∙ w .0) (λ e. e) (apart l o (w .1) (w .2) n s h (w .3) (ℕ-discrete p s))
     go (inr w) (inl i) = left (λ e. sym (w .0) ∙ e) (λ e. rule-symmetric l n o ∙ e) (apart l n (w .1) (w .2) o t i (w .3) (ℕ-discrete p t))
     go (inr w) (inr v) = inl (sym (w .0) ∙ v .0)
-
--- ---- nobody in the way
-
-filter-none : (f : ℕ → Bool) (k n : ℕ) → filter f (count-from k n) ≡ [] → (t : ℕ) → k ≤ t → t < k + n → f t ≡ false
-filter-none f k zero e t a b = absurd (omega (arith, a, b))
-filter-none f k (suc n) e t a b = go (f k) refl (ℕ-discrete k t) (λ q c. filter-none f (suc k) n q t c (omega (arith, b)))
-  where
-    go : (c : Bool) → f k ≡ c → Dec (k ≡ t) → (filter f (count-from (suc k) n) ≡ [] → suc k ≤ t → f t ≡ false) → f t ≡ false
-    go true q d ih = absurd (cons≢nil (rw q at e))
-    go false q (yes d) ih = ap f (sym d) ∙ q
-    go false q (no d) ih = ih (rw q at e) (omega (arith, a, d))
-
--- No blockers: whoever else holds, agrees.
-pub unblocked : (k : Kind) (m : Mode) (p hw hs : ℕ) → blockers rule k m p hw hs ≡ [] → (q : ℕ) → 1 ≤ q → q ≤ width → ¬ (p ≡ q)
-    → (holds hw q ≡ true → rule k weak m ≡ true) × (holds hs q ≡ true → rule k strong m ≡ true)
-unfolding blockers
-unblocked k m p hw hs e q a b ne =
-    let c : Bool = holds hw q && not (rule k weak m) in
-    let d : Bool = holds hs q && not (rule k strong m) in
-    let i : not (eqb q p) ≡ true = ap not (eqb-no q p (λ z. ne (sym z))) in
-    let n = neither c d (not-both (not (eqb q p)) (c || d) i (filter-none (in-the-way rule k m p hw hs) 1 width e q a (omega (arith, b)))) in (
-      (λ h. not-false (rule k weak m) (not-both (holds hw q) (not (rule k weak m)) h (n .0))),
-      (λ h. not-false (rule k strong m) (not-both (holds hs q) (not (rule k strong m)) h (n .1))),
-    )

@@ -105,13 +105,21 @@ unfolding group-blockers
 group-blocks m p d q = blocks L.group m p (d .locate) (d .update) q
 
 -- Nobody in the way: whoever else holds, agrees.
-pub group-free : (m : Mode) (p : ℕ) (d : Desc) → group-blockers m p d ≡ [] → (q : ℕ) → 1 ≤ q → q ≤ width → ¬ (p ≡ q)
-    → (holds (d .locate) q ≡ true → lock-rule L.group weak m ≡ true) × (holds (d .update) q ≡ true → lock-rule L.group strong m ≡ true)
-group-free m p d e q a b n = ((λ h. agrees (lock-rule L.group weak m) (λ c. inl (h, c))), λ h. agrees (lock-rule L.group strong m) (λ c. inr (h, c)))
+abbrev Agrees : Kind → Mode → ℕ → ℕ → ℕ → ℕ → Type 0
+Agrees k m p hw hs q = 1 ≤ q → q ≤ width → ¬ (p ≡ q) → (holds hw q ≡ true → lock-rule k weak m ≡ true) × (holds hs q ≡ true → lock-rule k strong m ≡ true)
+
+none-agree : (k : Kind) (m : Mode) (p hw hs q : ℕ) → ¬ Blocks k m p hw hs q → Agrees k m p hw hs q
+none-agree k m p hw hs q e a b n = ((λ h. agrees (lock-rule k weak m) (λ c. inl (h, c))), λ h. agrees (lock-rule k strong m) (λ c. inr (h, c)))
   where
-    agrees : (c : Bool) → (c ≡ false → Clash L.group m (d .locate) (d .update) q) → c ≡ true
+    agrees : (c : Bool) → (c ≡ false → Clash k m hw hs q) → c ≡ true
     agrees true f = refl
-    agrees false f = absurd (true≢false (sym (ap (elem q) e) ∙ group-blocks m p d q .1 (a, b, (λ i. n (sym i)), f refl)) refl)
+    agrees false f = absurd (e (a, b, (λ i. n (sym i)), f refl))
+
+pub unblocked : (k : Kind) (m : Mode) (p hw hs : ℕ) → blockers lock-rule k m p hw hs ≡ [] → (q : ℕ) → Agrees k m p hw hs q
+unblocked k m p hw hs e q = none-agree k m p hw hs q (λ h. true≢false (sym (ap (elem q) e) ∙ blocks k m p hw hs q .1 h) refl)
+
+pub group-free : (m : Mode) (p : ℕ) (d : Desc) → group-blockers m p d ≡ [] → (q : ℕ) → Agrees L.group m p (d .locate) (d .update) q
+group-free m p d e q = none-agree L.group m p (d .locate) (d .update) q (λ h. true≢false (sym (ap (elem q) e) ∙ group-blocks m p d q .1 h) refl)
 
 -- ---- latches
 

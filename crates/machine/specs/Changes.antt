@@ -19,7 +19,8 @@ use Rattle.machine.specs.Bits.{held-other, held-more}
 use Rattle.machine.specs.Groups.{Rises}
 use Rattle.machine.specs.Housekeeping.{lvs}
 use Rattle.machine.specs.Keys.{Kept, put-locate, put-update, was-update, was-locate, put-update-other, put-group-kept, put-rises, put-listed-kept}
-use Rattle.machine.specs.Agreement.{grown-agree, unblocked}
+use Rattle.machine.specs.Blocking.{unblocked}
+use Rattle.machine.specs.Agreement.{grown-agree}
 use Rattle.machine.specs.Entries.{Fit}
 
 -- ---- the update lock of key k for session p

@@ -20,7 +20,8 @@ use Rattle.machine.specs.Model.{Listed}
 use Rattle.machine.specs.Bits.{held-same, held-other, held-more}
 use Rattle.machine.specs.Groups.{Rises}
 use Rattle.machine.specs.Housekeeping.{Ordered, lvs}
-use Rattle.machine.specs.Agreement.{grown-agree, unblocked}
+use Rattle.machine.specs.Blocking.{unblocked}
+use Rattle.machine.specs.Agreement.{grown-agree}
 
 -- What the events ask of a state.
 pub record Fit (s : State) : Type 0 where

@@ -20,13 +20,13 @@ use Rattle.machine.specs.Table.{hand-seat}
 use Rattle.machine.specs.Housekeeping.{lvs, seen-group}
 use Rattle.machine.specs.Keys.{elem-without-other, elem-without-same, Kept, put-update, put-group-other, was-group, put-group-kept, elem-with-same, elem-with-other}
 use Rattle.machine.specs.Checks.{checked-entry, checked-first}
-use Rattle.machine.specs.Looks.{hand-begun, fit-of, kept-of, kept-stored, kept-listed, put-gap, change-stored, with-many, without-many, with-upto, without-upto, upto-up, put-cells, set-entry, set-back, excludes-alone, set-here}
+use Rattle.machine.specs.Looks.{hand-begun, fit-of, kept-of, kept-stored, kept-listed, change-stored, with-many, without-many, with-upto, without-upto, upto-up, put-cells, set-entry, set-back, excludes-alone, set-here}
 use Rattle.machine.specs.Nearest.{Takes, takes-of}
 use Rattle.machine.specs.Alike.{on-desc-formed, on-desc-shaped, on-desc-used}
 use Rattle.machine.specs.Locking.{Grants, locked-grants, grants-like, Locks, undoable-more, only-keyed, undo-locks, undo-keyed, undo-formed, desc-locks}
 use Rattle.machine.specs.Changes.{hold-update, held-state, up-group, update-locked}
 use Rattle.machine.specs.Insert.{changed-holders}
-use Rattle.machine.specs.Locate.{Adds, adds-held, adds-same, here-word, loc-old, locate-locked}
+use Rattle.machine.specs.Locate.{Adds, adds-held, adds-same, here-word, loc-old, locate-locked, gap-taken}
 
 -- ---- the change step
 
@@ -208,7 +208,7 @@ module _ (m : ℕ) (r : Request) (s : State) (S : Sound s) (hand : sessionOf (su
     from-first = (let a = T .passing .from-first in let b = T .next .from in omega arith);
     to-second = lt;
     held = λ z a b. held z a b (ℕ-discrete (d .key) z);
-    ahead = λ h. subst (λ j. holds (gap-word j (seen (passed-state w d s))) w ≡ true) back (ap (λ v. holds v w) (put-gap (d .key) s N (hold-desc (held-by w) same (held-by w)) refl) ∙ held-same m (N .d .gap));
+    ahead = λ h. subst (λ j. holds (gap-word j (seen (passed-state w d s))) w ≡ true) back (gap-taken m s d N);
   }
     where
       back : d .key ≡ suc (d .key) - 1

@@ -18,9 +18,10 @@ use Rattle.serial.specs.LockMachine.{Locked}
 use Rattle.machine.specs.Logic.{leb-not}
 use Rattle.machine.specs.Holders.{width, holds, held-by, elem}
 use Rattle.machine.specs.State.{Desc, Stage, take, Request, State, done, refused, Outcome, sessionOf, stored, on-tree, on-desc, hold-desc, same}
-use Rattle.machine.specs.Steps.{rule, group-blockers, ended, goes-on, memberships, last-take, take-desc, pairs-of, answer}
+use Rattle.machine.specs.Steps.{rule, group-blockers, ended, goes-on, memberships, last-take, take-desc, passed-state, pairs-of, answer}
 use Rattle.machine.specs.Gaps.{by-tri, locators, updaters}
 use Rattle.machine.specs.View.{seen, locate-word, update-word, items, holders, view, same-refl, same-unseen, ended-same, entry-same, entry-holders}
+use Rattle.machine.specs.Sound.{gap-word}
 use Rattle.machine.specs.Model.{Listed, pairs, model, memberships-are}
 use Rattle.machine.specs.Bits.{held-same, held-other, held-more, holds-none}
 use Rattle.machine.specs.Descents.{goes-same}
@@ -28,6 +29,7 @@ use Rattle.machine.specs.Groups.{words, Rises}
 use Rattle.machine.specs.Housekeeping.{lvs}
 use Rattle.machine.specs.Blocking.{group-free}
 use Rattle.machine.specs.Keys.{Kept, was-shown, was-locate, was-update, put-shown, put-locate-here, put-locate-below, put-update-kept, put-group-kept, put-rises, put-listed-kept, above-locate, above-update}
+use Rattle.machine.specs.Looks.{put-gap}
 use Rattle.machine.specs.Agreement.{grown-agree}
 use Rattle.machine.specs.Entries.{Fit}
 use Rattle.machine.specs.Events.{Does, unseen, locks, finishes, guard-does, asked, locked-then, finished-quiet}
@@ -165,6 +167,10 @@ pub pairs-kept : (d c : Desc) → c .key ≡ d .key → c .members ≡ d .member
 unfolding pairs
 pairs-kept d c e m [] B = ap₂ (λ k l. pairs-of k l (pairs B)) e m
 pairs-kept d c e m (a ∷ A) B = ap (pairs-of (a .key) (a .members)) (pairs-kept d c e m A B)
+
+-- Below second the gap behind the descriptor is taken.
+pub gap-taken : (m : ℕ) (s : State) (d : Desc) → Kept (d .key) s → holds (gap-word (d .key) (seen (passed-state (suc m) d s))) (suc m) ≡ true
+gap-taken m s d K = ap (λ w. holds w (suc m)) (put-gap (d .key) s K (hold-desc (held-by (suc m)) same (held-by (suc m))) refl) ∙ held-same m (K .d .gap)
 
 module _ (m : ℕ) (s : State) (F : Fit s) (b : sessionOf (suc m) s .begun ≡ true) (le : suc m ≤ width) (d : Desc) (K : Kept (d .key) s) (q : K .d ≡ d) where
   abbrev p : ℕ

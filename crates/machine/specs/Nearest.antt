@@ -26,6 +26,15 @@ use Rattle.machine.specs.Looks.{stored-range, stored-behind, stored-here
 
 -- ---- lists
 
+-- It is the head, or behind it.
+lowest-head : (x : ℕ) (a : Desc) (l : List Desc) → x ≤ a .key → lowest-from x (a ∷ l) ≡ some a
+unfolding lowest-from
+lowest-head x a l h = ap (λ o. cond o (some a) (lowest-from x l)) (leb-yes x (a .key) h)
+
+lowest-past : (x : ℕ) (a : Desc) (l : List Desc) → a .key < x → lowest-from x (a ∷ l) ≡ lowest-from x l
+unfolding lowest-from
+lowest-past x a l h = ap (λ o. cond o (some a) (lowest-from x l)) (leb-no x (a .key) h)
+
 -- The lowest stored descriptor from a key on is stored.
 pub lowest-stored : (k : ℕ) (l : List Desc) (d : Desc) → lowest-from k l ≡ some d → (k ≤ d .key) × (stored-in (d .key) l ≡ true)
 unfolding lowest-from stored-in
@@ -67,14 +76,6 @@ head-least y lo e a l r i = at (eqb (a .key) y) refl i
     at : (o : Bool) → eqb (a .key) y ≡ o → cond o true (stored-in y l) ≡ true → a .key ≤ y
     at true z w = omega (arith, eqb-is (a .key) y z)
     at false z w = omega (arith, stored-range y (suc (a .key)) e l (rises-in (suc (a .key)) e l (r .1)) w .0)
-
-lowest-head : (x : ℕ) (a : Desc) (l : List Desc) → x ≤ a .key → lowest-from x (a ∷ l) ≡ some a
-unfolding lowest-from
-lowest-head x a l h = ap (λ o. cond o (some a) (lowest-from x l)) (leb-yes x (a .key) h)
-
-lowest-past : (x : ℕ) (a : Desc) (l : List Desc) → a .key < x → lowest-from x (a ∷ l) ≡ lowest-from x l
-unfolding lowest-from
-lowest-past x a l h = ap (λ o. cond o (some a) (lowest-from x l)) (leb-no x (a .key) h)
 
 pub nearest : (x lo e : ℕ) (l : List Desc) → Rises lo e l → (k : ℕ) → stored-in k l ≡ true → x ≤ k → Nearest x l
 unfolding stored-in

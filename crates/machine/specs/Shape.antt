@@ -157,11 +157,11 @@ halved-formed p x s F full enough =
 
 pub enter-formed : (p : ℕ) (r : Request) (x : ℕ) (s : State) → Sound s → root-need p s ≤ s .free → x ≤ top
     → Formed (goes-on p r (at x) (cond (root-splits p s) (halved-root p x s) (whole-root p s)) .next)
-enter-formed p r x s S need le = go (root-splits p s) refl need
+enter-formed p r x s S need le = go (root-splits p s) refl
   where
-    go : (c : Bool) → root-splits p s ≡ c → cond c (2 - root-gain s) 0 ≤ s .free → Formed (goes-on p r (at x) (cond c (halved-root p x s) (whole-root p s)) .next)
-    go true e n = goes-formed p r (at x) (halved-root p x s) (halved-formed p x s (formed-of S) e (omega (arith, n)))
-    go false e n = goes-formed p r (at x) (whole-root p s) (whole-formed p s (formed-of S))
+    go : (c : Bool) → root-splits p s ≡ c → Formed (goes-on p r (at x) (cond c (halved-root p x s) (whole-root p s)) .next)
+    go true e = goes-formed p r (at x) (halved-root p x s) (halved-formed p x s (formed-of S) e (omega (arith, rw e at need)))
+    go false e = goes-formed p r (at x) (whole-root p s) (whole-formed p s (formed-of S))
 
 -- ---- one level down
 

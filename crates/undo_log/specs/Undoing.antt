@@ -111,7 +111,7 @@ undone-stop {whole} {s} {m} {n} {i} u e = go n (u .is)
   where
     go : (n : ℕ) → undoAll s m n i ≡ whole → s ≡ whole
     go zero q = q
-    go (suc n) q = sym (ap (λ (b : Bool). cond b s (undoAll (undoOne s m i) m n (wordOf s m i 0))) (eq-eqb i 0 e)) ∙ q
+    go (suc n) q = rw (eq-eqb i 0 e) at q
 
 pub undone-end : {whole s : List ℕ} {m n i : ℕ} → UndoneTo whole s m n i → n ≡ 0 → s ≡ whole
 unfolding undoAll
