@@ -1,3 +1,4 @@
 pub mod Brief
 pub mod Exported
 pub mod Turns
+pub mod Worded

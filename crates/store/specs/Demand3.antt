@@ -48,7 +48,8 @@ moved : (t u : Told) (x y : Lending) → Moves words lock-rule t u x y ⊎ Anew 
 moved t u x y (inl m) = inl (record { events = m .events; moved = m .moved; as-told = m .as-told })
 moved t u x y (inr a) = inr (record { nothing-told = a .nothing-told; as-new = a .as-new })
 
-functions-laws : Laws functions lock-rule
+-- The six functions meet the laws that a store owes for demand 3.
+pub functions-laws : Laws functions lock-rule
 functions-laws = record {
   returns = λ c x S. let o = functions-return c x S in (said (o .0), o .1, o .2, o .3);
   knows = λ k x y t d w. known-back (tell k t) y (words-meet .knows k x y t (lends-return (sound-long x (w .sound)) d) (known t x w));
@@ -59,7 +60,7 @@ functions-laws = record {
 -- ---- after a format that was accepted
 
 module _ (m : ℕ) (a : Answer) (x x′ : Lending) (h : OnTable Formatted (x .store) (x .table) m a (x′ .store) (x′ .table)) (e : said a ≡ C.ok) where
-  start-known : Knows functions nothing x′
+  pub start-known : Knows functions nothing x′
   start-known = known-back nothing x′ (formatted-known m (x .store) (x′ .store) (x .table) (x′ .table) (accepted-format m a x x′ h e))
 
   -- Any list of calls keeps demand 3.
