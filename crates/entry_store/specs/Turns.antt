@@ -136,12 +136,12 @@ module _ (x y : Lending) (r : ℕ) where
   lends (C.commit p) l h = let a = h .answer in read-off (C.commit p) a [] (h .packs) (fits-call (C.commit p) a [] (h .does .0) (λ z. h .does .1 z .0)) (commits {a = a} (h .does))
   lends (C.abort p) l h = let a = h .answer in read-off (C.abort p) a [] (h .packs) (fits-call (C.abort p) a [] (h .does .0) (λ z. h .does .1 z .0)) (aborts {a = a} (h .does))
 
-lendings : {x y : Lending} {ks : List Exchange} → Exchanges x ks y → Lendings x (map turn-of ks) y
+pub lendings : {x y : Lending} {ks : List Exchange} → Exchanges x ks y → Lendings x (map turn-of ks) y
 lendings over = L.over
 lendings (then {x} {y} {z} {k} {ks} d r) = L.then (lends x y (k .number) (k .call) (k .list) d) (lendings r)
 lendings (wrong {x} {y} {z} {u} {u′} {k} {ks} v d a b r) = L.wrong v (lends u u′ (k .number) (k .call) (k .list) d) a b (lendings r)
 
-own-told : {x y : Lending} {ks : List Exchange} (r : Exchanges x ks y) → L.own (lendings r) ≡ map turn-of (own r)
+pub own-told : {x y : Lending} {ks : List Exchange} (r : Exchanges x ks y) → L.own (lendings r) ≡ map turn-of (own r)
 unfolding lendings
 own-told over = refl
 own-told (then {k = k} d r) = ap (λ l. turn-of k ∷ l) (own-told r)
@@ -154,7 +154,7 @@ told-append (k ∷ ks) js = ap (λ l. turn-of k ∷ l) (told-append ks js)
 -- ---- after a format that returned 0, ok
 
 module _ (m : ℕ) (x x′ : Lending) (h : Told Formatted (x .store) (x .table) m 0 (x′ .store) (x′ .table)) where
-  format-ok : said (h .answer) ≡ C.ok
+  pub format-ok : said (h .answer) ≡ C.ok
   unfolding unpacked
   format-ok =
       let a = h .answer in
