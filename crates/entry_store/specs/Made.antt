@@ -1,6 +1,5 @@
 -- Every list of calls from C has a run: there are numbers that the exported functions return, with the answers read off them. C's arguments are words.
 use mathlib.Core.Path.{_≡_, refl, sym, ap, subst, _∙_}
-use mathlib.Core.Bool.{true}
 use mathlib.Core.List.{List, [], _∷_, _++_, map}
 use mathlib.Core.Logic.{_⊎_, inl, inr}
 use mathlib.Core.Option.{Option, none, some}
@@ -14,12 +13,10 @@ use Rattle.serial.specs.Model.{Db, Req, Ans, read, write, insert, remove, locat
 use Rattle.serial.specs.Footprints.{store}
 use Rattle.serial.specs.Locks.{lock-rule, lock-rule-strict}
 use Rattle.serial.specs.LockMachine.{view, acts-run, formatted-fresh}
-use Rattle.serial.specs.Calls.{Turn, Asked, nothing, tell, tell-ok, tell-answer, told, session-event, take-in-hand, fed, finished, answer-of, Run, stop, next, Unfinished, unfinished-told, calls-of, Knows, Moves, Anew}
+use Rattle.serial.specs.Calls.{Turn, Asked, nothing, tell, tell-ok, tell-answer, told, take-in-hand, fed, finished, answer-of, Run, stop, next, Unfinished, unfinished-told, calls-of, Knows, Moves, Anew}
 use Rattle.serial.specs.Calls as C
 use Rattle.machine.specs.Logic.{either}
 use Rattle.machine.specs.Demand.{call-of}
-use Rattle.outcomes.specs.declared.Answer.{Answer}
-use Rattle.outcomes.specs.Said.{said}
 use Rattle.meaning.specs.Reading.{meaning}
 use Rattle.promises.specs.Demands.{Lending, Returns, words}
 use Rattle.promises.specs.Words.{formatted-new}
@@ -28,7 +25,7 @@ use Rattle.store.specs.Turns.{turn, Lends, formats, begins, puts, steps, commit
 use Rattle.store.specs.Turns as L
 use Rattle.store.specs.Demand3.{functions-return, functions-laws, start-known}
 use Rattle.packing.specs.Packed.{packed, Worded}
-use Rattle.entry_store.specs.Exported.{Told, Stepped}
+use Rattle.entry_store.specs.Exported.{Told}
 use Rattle.entry_store.specs.Worded.{Word, call-worded}
 use Rattle.entry_store.specs.Turns.{Exchange, turn-of, Exported, Exchanges, over, then, wrong, own, own-told, lendings, format-ok}
 

@@ -9,13 +9,12 @@ use native.Mathlib.Omega.{arith}
 use lib.Dec.{eqb, leb, ltb, lit<}
 use lib.ListN.{length}
 use Rattle.serial.specs.Calls as C
-use Rattle.serial.specs.Serial.{true≢false}
 use Rattle.serial.specs.Locks.{weak, strong}
 use Rattle.machine.specs.Logic.{either, eqb-yes, eqb-is}
 use Rattle.machine.specs.Holders.{width, elem, latch-word}
 use Rattle.machine.specs.Tree.{pick, sumE, sumE-append}
 use Rattle.machine.specs.Descent.{Sons}
-use Rattle.machine.specs.State.{Answer, ok, more, wait, done, refused, Outcome, Request, Stage, start, enter, at, change, take, State, Desc, Tree, entryOf, descOf, stored, lowest-from, gap-below, or-none, no-desc, same, sessionOf, fresh, top}
+use Rattle.machine.specs.State.{Answer, ok, more, wait, done, refused, Outcome, Request, Stage, start, enter, at, change, take, State, Desc, Tree, entryOf, descOf, stored, lowest-from, gap-below, or-none, no-desc, same, sessionOf, fresh}
 use Rattle.machine.specs.Steps.{answer, ended, goes-on, finished, guarded, entry-blockers, group-blockers, shared-state, read-step, written, write-step, excluded-state, entry-step, updating-state, inserted-state, removed-state, insert-step, remove-step, change-step, pairs-of, memberships, passed-state, located-state, last-take, take-desc, take-step, arrived, root-blockers, root-need, root-splits, halved-root, whole-root, enter-step, son-at, level-blockers, level-need, level-state, level-step, pin-step, made-state, make-step, removable, tidied-state, tidy-step, lowest-step, stand-step, at-step, first-step, next-step}
 use Rattle.machine.specs.Calls.{Call, format, begin, put, step, commit, abort, call, steps, records-for, format-checks, begin-checks, put-checks, step-checks, commit-checks, abort-checks, accepted, begins, commits, aborts}
 use Rattle.machine.specs.Sound.{Sound, Stands, Descends, to-change, to-first, to-second, to-choice, members-many, latch-count, of-hand, stands}
