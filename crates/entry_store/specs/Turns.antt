@@ -1,8 +1,9 @@
--- Demand 3 as a C program sees it: of its calls, of the numbers that they returned and of its lists, with the answers read off the numbers (`unpacked`).
+-- Lists of calls as a C program sees them: its calls, the numbers that they returned and its lists, with the answers read off the numbers (`unpacked`). Demand 3
+-- of them, and demand 2's holders over them.
 use mathlib.Core.Path.{_≡_, refl, sym, ap, subst, _∙_}
 use mathlib.Core.Bool.{true}
-use mathlib.Core.List.{List, [], _∷_, map}
-use Prim.Native.Nat.{ℕ, _<_}
+use mathlib.Core.List.{List, [], _∷_, _++_, map}
+use Prim.Native.Nat.{ℕ, _≤_, _<_}
 use native.Mathlib.Decide.{ℕ-discrete}
 use lib.Dec.{T, ltb, ltb→lt}
 use lib.ListN.{length}
@@ -11,15 +12,23 @@ use Rattle.sessions.specs.Sessions.{parties}
 use Rattle.serial.specs.Calls.{Turn, nothing, told, Demand-3}
 use Rattle.serial.specs.Calls as C
 use Rattle.serial.specs.Serial.{true≢false}
+use Rattle.serial.specs.Locks.{Kind, Mode, weak}
+use Rattle.serial.specs.Locks as Locks
+use Rattle.machine.specs.State.{fresh}
+use Rattle.machine.specs.Calls.{records-for}
+use Rattle.machine.specs.Ledger.{no-locks, ledger-after}
+use Rattle.machine.specs.Held.{calls-on, Lasts, LocateDone}
 use Rattle.outcomes.specs.declared.Answer.{Answer}
 use Rattle.outcomes.specs.declared.Answer.the-variants.{Refused}
 use Rattle.outcomes.specs.Said.{said}
 use Rattle.promises.specs.Relations.{Calls}
 use Rattle.promises.specs.Demands.{Lending, words}
+use Rattle.promises.specs.Holding.{holders-in}
 use Rattle.store.specs.declared.Ask.{Ask}
 use Rattle.store.specs.Lent.{Formatted, Begun, Put, Committed, Aborted}
-use Rattle.store.specs.Turns.{lending, turn, Lends, formats, begins, puts, steps, commits, aborts, TurnedAway, Lendings, lent-demand-3}
+use Rattle.store.specs.Turns.{turn, Lends, formats, begins, puts, steps, commits, aborts, Loan, TurnedAway, Lendings, lent-demand-3}
 use Rattle.store.specs.Turns as L
+use Rattle.store.specs.Holding.{lent-holders-run, lent-located-run}
 use Rattle.packing.specs.Packed.{unpacked, unpacked-packed, Small, Worded, Packs}
 use Rattle.entry_store.specs.Brief.{brief, calls-brief, formats-brief}
 use Rattle.entry_store.specs.Exported.{Told, Stepped}
@@ -72,12 +81,19 @@ Exported x (C.step p w) r l y = Stepped (x .store) (x .table) w p r (y .store) (
 Exported x (C.commit p) r l y = Told Committed (x .store) (x .table) p r (y .store) (y .table)
 Exported x (C.abort p) r l y = Told Aborted (x .store) (x .table) p r (y .store) (y .table)
 
--- A list of calls: the host lends its store and its table as the call before left them; or its store with another table u, is turned away, and keeps its own.
+-- A list of calls: the host lends its store and its table as the call before left them; or something else for one of them or for both, parts of its own among
+-- them, is turned away, and goes on with what the call left it (store, specs/Turns).
 pub data Exchanges : Lending → List Exchange → Lending → Type 0 where
   over : {x : Lending} → Exchanges x [] x
   then : {x y z : Lending} {k : Exchange} {ks : List Exchange} → Exported x (k .call) (k .number) (k .list) y → Exchanges y ks z → Exchanges x (k ∷ ks) z
-  wrong : {x z : Lending} {k : Exchange} {ks : List Exchange} (y : Lending) (u : List Session) → TurnedAway (unpacked (k .number))
-      → Exported (lending (x .store) u) (k .call) (k .number) (k .list) y → Exchanges (lending (y .store) (x .table)) ks z → Exchanges x (k ∷ ks) z
+  wrong : {x y z u u′ : Lending} {k : Exchange} {ks : List Exchange} → TurnedAway (unpacked (k .number)) → Exported u (k .call) (k .number) (k .list) u′
+      → Loan (x .store) (u .store) (u′ .store) (y .store) → Loan (x .table) (u .table) (u′ .table) (y .table) → Exchanges y ks z → Exchanges x (k ∷ ks) z
+
+-- The host's own calls: all but those that were lent something else.
+abbrev pub own : {x z : Lending} {ks : List Exchange} → Exchanges x ks z → List Exchange
+own over = []
+own (then {k = k} d r) = k ∷ own r
+own (wrong v d a b r) = own r
 
 -- It is a return of the store's function (store, specs/Turns), with the answer read off the number.
 module _ (x y : Lending) (r : ℕ) where
@@ -120,17 +136,44 @@ module _ (x y : Lending) (r : ℕ) where
   lends (C.commit p) l h = let a = h .answer in read-off (C.commit p) a [] (h .packs) (fits-call (C.commit p) a [] (h .does .0) (λ z. h .does .1 z .0)) (commits {a = a} (h .does))
   lends (C.abort p) l h = let a = h .answer in read-off (C.abort p) a [] (h .packs) (fits-call (C.abort p) a [] (h .does .0) (λ z. h .does .1 z .0)) (aborts {a = a} (h .does))
 
-lendings : {x y : Lending} {ks : List Exchange} → Exchanges x ks y → Lendings x (map turn-of ks) y
+pub lendings : {x y : Lending} {ks : List Exchange} → Exchanges x ks y → Lendings x (map turn-of ks) y
 lendings over = L.over
 lendings (then {x} {y} {z} {k} {ks} d r) = L.then (lends x y (k .number) (k .call) (k .list) d) (lendings r)
-lendings (wrong {x} {z} {k} {ks} y u v d r) = L.wrong v (lends (lending (x .store) u) y (k .number) (k .call) (k .list) d) (lendings r)
+lendings (wrong {x} {y} {z} {u} {u′} {k} {ks} v d a b r) = L.wrong v (lends u u′ (k .number) (k .call) (k .list) d) a b (lendings r)
 
--- A format that returned 0, ok, on a table of 17 records; then any list of calls, by any parties: it keeps demand 3.
-pub exported-demand-3 : (m : ℕ) (x x′ : Lending) → length (x .table) ≡ parties → Told Formatted (x .store) (x .table) m 0 (x′ .store) (x′ .table)
-    → (ks : List Exchange) (y : Lending) → Exchanges x′ ks y → Demand-3 words (told nothing (map turn-of ks)) y
-unfolding unpacked
-exported-demand-3 m x x′ n h ks y r =
-    let a = h .answer in
-    let e = reads (said a) 0 (h .packs) (formats-brief m (x .store) (x .table) (said a) (x′ .store) (x′ .table) (h .does .0 n)) in
-    let ok = sym e in
-    lent-demand-3 m a x x′ (h .does) ok (map turn-of ks) y (lendings r)
+pub own-told : {x y : Lending} {ks : List Exchange} (r : Exchanges x ks y) → L.own (lendings r) ≡ map turn-of (own r)
+unfolding lendings
+own-told over = refl
+own-told (then {k = k} d r) = ap (λ l. turn-of k ∷ l) (own-told r)
+own-told (wrong v d a b r) = own-told r
+
+told-append : (ks js : List Exchange) → map turn-of (ks ++ js) ≡ map turn-of ks ++ map turn-of js
+told-append [] js = refl
+told-append (k ∷ ks) js = ap (λ l. turn-of k ∷ l) (told-append ks js)
+
+-- ---- after a format that returned 0, ok
+
+module _ (m : ℕ) (x x′ : Lending) (h : Told Formatted (x .store) (x .table) m 0 (x′ .store) (x′ .table)) where
+  pub format-ok : said (h .answer) ≡ C.ok
+  unfolding unpacked
+  format-ok =
+      let a = h .answer in
+      sym (reads (said a) 0 (h .packs) (fits x x′ 0 a (λ n. formats-brief m (x .store) (x .table) (said a) (x′ .store) (x′ .table) (h .does .0 n)) (λ z. h .does .1 z .0)))
+
+  -- Any list of calls, by any parties, keeps demand 3.
+  pub exported-demand-3 : (ks : List Exchange) (y : Lending) → Exchanges x′ ks y → Demand-3 words (told nothing (map turn-of ks)) y
+  exported-demand-3 ks y r = lent-demand-3 m (h .answer) x x′ (h .does) format-ok (map turn-of ks) y (lendings r)
+
+  -- The holders are the ledger's of the host's own calls.
+  pub exported-holders-run : (ks : List Exchange) (y : Lending) (r : Exchanges x′ ks y) (k : Kind) (i : Mode) (q z : ℕ)
+      → holders-in y k i q z ≡ ledger-after no-locks (calls-on (length (x .store)) (map turn-of (own r))) (fresh m (records-for m (length (x .store)))) k i q z
+  exported-holders-run ks y r k i q z =
+      lent-holders-run m (h .answer) x x′ (h .does) format-ok (map turn-of ks) y (lendings r) k i q z
+      ∙ ap (λ l. ledger-after no-locks (calls-on (length (x .store)) l) (fresh m (records-for m (length (x .store)))) k i q z) (own-told r)
+
+  -- By all calls and numbers alone: once a locate of session p is done, it holds every key of its range, stored or not, until its end.
+  pub exported-located-run : (before : List Exchange) (k : Exchange) (after : List Exchange) (y : Lending) → Exchanges x′ (before ++ k ∷ after) y
+      → (p lo hi : ℕ) → LocateDone (map turn-of before) (turn-of k) p lo hi → Lasts p (map turn-of after) → (z : ℕ) → lo ≤ z → z ≤ hi → holders-in y Locks.group weak p z ≡ true
+  exported-located-run before k after y r =
+      lent-located-run m (h .answer) x x′ (h .does) format-ok (map turn-of before) (turn-of k) (map turn-of after) y
+      (subst (λ l. Lendings x′ l y) (told-append before (k ∷ after)) (lendings r))

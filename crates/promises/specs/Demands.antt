@@ -53,7 +53,7 @@ known : (t : Told) (x : Lending) → Knows words t x → Knows machine t (lent x
 known t x w = record { sound = w .sound .state; hand-told = w .hand-told; begun-told = w .begun-told }
 
 module _ (returns : (c : C.Call) (x : Lending) → Sound (x .store) (x .table) → (a : C.Answer) × (l : List ℕ) × (y : Lending) × Returns x (record { call = c; answer = a; list = l }) y) where
-  words-laws : Laws words lock-rule
+  pub words-laws : Laws words lock-rule
   unfolding Returns
   words-laws = record {
     returns = returns;
@@ -68,12 +68,15 @@ module _ (returns : (c : C.Call) (x : Lending) → Sound (x .store) (x .table) �
       go k x y t (inl m) = inl (record { events = m .events; moved = m .moved; as-told = m .as-told })
       go k x y t (inr a) = inr (record { nothing-told = a .nothing-told; as-new = a .as-new })
 
-  fresh-known : (m r : ℕ) (x : Lending) → Sound (x .store) (x .table) → meaning (x .store) (x .table) ≡ fresh m r → Knows words nothing x
+  pub fresh-known : (m r : ℕ) (x : Lending) → Sound (x .store) (x .table) → meaning (x .store) (x .table) ≡ fresh m r → Knows words nothing x
   fresh-known m r x S e = record {
     sound = S;
     hand-told = λ p. ap (λ z. hand-put (sessionOf p z .hand)) e ∙ ap (λ z. hand-put (z .hand)) (fresh-session m r p);
     begun-told = λ p. ap (λ z. sessionOf p z .begun) e ∙ ap (λ z. z .begun) (fresh-session m r p);
   }
+
+  pub fresh-new : (m r : ℕ) (x : Lending) → meaning (x .store) (x .table) ≡ fresh m r → Formatted (words .meaning x)
+  fresh-new m r x e = subst (λ z. Formatted (view z)) (sym e) (fresh-formatted m r)
 
   -- Every list of calls has a run from there.
   pub words-made : (m r : ℕ) (x : Lending) → Sound (x .store) (x .table) → meaning (x .store) (x .table) ≡ fresh m r → (cs : List C.Call) → Made words x cs
@@ -81,4 +84,4 @@ module _ (returns : (c : C.Call) (x : Lending) → Sound (x .store) (x .table) �
 
   -- Any list of calls, whoever's turn each is, from a store as an accepted format leaves it.
   pub words-demand-3 : (m r : ℕ) (x : Lending) → Sound (x .store) (x .table) → meaning (x .store) (x .table) ≡ fresh m r → (ks : List Turn) (y : Lending) → Run words x ks y → Demand-3 words (told nothing ks) y
-  words-demand-3 m r x S e ks y run = demand-3 words lock-rule lock-rule-strict words-laws x y ks (fresh-known m r x S e) (subst (λ z. Formatted (view z)) (sym e) (fresh-formatted m r)) run
+  words-demand-3 m r x S e ks y run = demand-3 words lock-rule lock-rule-strict words-laws x y ks (fresh-known m r x S e) (fresh-new m r x e) run

@@ -299,34 +299,3 @@ pub format-run : (s : List ℕ) (t : List Session) (m : ℕ) {r : ℕ} {s′ : L
     → r ≡ records-for m (length s) → s′ ≡ freshStore s m r → u ≡ fresh-table → Formats m s t C.ok s′ u
 format-run s t m {r} {s′} {u} z e w c =
     subst (λ v. Formats m s t C.ok s′ v) (sym c) (subst (λ v. Formats m s t C.ok v fresh-table) (sym (w ∙ ap (freshStore s m) e)) (format-done s t m z))
-
--- Format on sound words, as the other calls.
-pub format-answers : (s : List ℕ) (t : List Session) (m : ℕ) → first-of (format-checks m (length s)) ≡ 0
-    → Answered (C.format m) s t C.ok [] (freshStore s m (records-for m (length s))) fresh-table
-unfolding call
-format-answers s t m z =
-    let σ = meaning s t in
-    let f = first-of (format-checks m (length s)) in
-    let o = answer ok (fresh m (records-for m (length s))) in
-    let F = format-done s t m z in
-    let a = F .accepts refl in
-    let e = format-refused m (length s) σ o ∙ accept f o (answer (refused f 0) σ) z in
-    record {
-      tells = F .tells;
-      list-is = refl;
-      sound = a .0;
-      means = a .1 ∙ sym (ap (λ w. w .next) e);
-      long = F .long;
-      still = λ k. absurd (true≢false {b = false} k refl);
-      ended = no-refusal C.ok refl;
-      others = tt;
-      kept = tt;
-    }
-
-pub format-refused-answers : (s : List ℕ) (t : List Session) (m : ℕ) → Sound s t → ¬ (first-of (format-checks m (length s)) ≡ 0)
-    → Answered (C.format m) s t (C.refused (first-of (format-checks m (length s))) 0) [] s t
-unfolding call
-format-refused-answers s t m A n =
-    let o = answer ok (fresh m (records-for m (length s))) in
-    serve-refused (C.format m) s t (first-of (format-checks m (length s))) (first-of (format-checks m (length s))) o A refl n
-    (first-not-ending (format-checks m (length s)) (refl, tt)) (format-refused m (length s) (meaning s t) o) .0

@@ -1,66 +1,83 @@
--- Demand 3 of the six functions of this crate as a machine of their own: the aborts that it speaks of are calls of `abort` too.
-use mathlib.Core.Path.{_≡_, refl, ap}
-use mathlib.Core.List.{List, [], _∷_, map}
+-- Demand 3 of the six functions of this crate as a machine of their own: the aborts that it speaks of are calls of `abort` too. Every list of calls has a run.
+use mathlib.Core.Path.{_≡_, subst}
+use mathlib.Core.List.{List, [], map}
+use mathlib.Core.Logic.{_⊎_, inl, inr}
 use Prim.Native.Nat.{ℕ}
-use native.Mathlib.Decide.{ℕ-discrete}
-use Rattle.sessions.specs.declared.Session.{Session}
-use Rattle.serial.specs.Calls.{Turn, Told, nothing, told, Machine, Run, stop, next, Unfinished, Accepted, Made, Demand-3}
+use lib.ListN.{length}
+use Rattle.sessions.specs.Sessions.{parties}
+use Rattle.serial.specs.Locks.{lock-rule, lock-rule-strict}
+use Rattle.serial.specs.Calls.{Turn, Told, nothing, tell, told, Unfinished, Made, Knows, Moves, Anew, Laws, Demand-3, demand-3, calls-made}
+use Rattle.serial.specs.Unfinished.{aborts-made}
 use Rattle.serial.specs.Calls as C
 use Rattle.outcomes.specs.declared.Answer.{Answer}
-use Rattle.outcomes.specs.declared.Answer.the-variants.{Ok, Refused}
 use Rattle.outcomes.specs.Said.{said}
-use Rattle.refusals.specs.Refusing.{first-of, abort-list}
 use Rattle.promises.specs.Demands.{Lending, words}
-use Rattle.promises.specs.Ways.{Serves, abort-done, abort-refuses}
-use Rattle.store.specs.Lent.{Formatted, Aborted, OnTable}
-use Rattle.store.specs.Turns.{turn, Lends, aborts, Lendings, Sound-lent, sound-long, lends-return, lends-sound, lendings-sound, format-sound, lent-demand-3}
+use Rattle.promises.specs.Words.{Can, can, words-meet, formatted-known, formatted-new}
+use Rattle.store.specs.Lent.{Formatted, OnTable}
+use Rattle.store.specs.Turns.{lending, turn, Lends, formats, begins, puts, steps, commits, aborts, Sound-lent, sound-long, lends-return, functions, Lendings, own, own-run, own-told, accepted-format}
 
--- The machine of words whose calls are the six functions, each as its contract says.
-abbrev pub functions : Machine
-functions = record { X = Lending; Sound = Sound-lent; meaning = words .meaning; hand = words .hand; Does = Lends }
+-- ---- the laws
 
-unfinished-same : (t : Told) (ss : List ℕ) → Unfinished functions t ss → Unfinished words t ss
-unfinished-same t ss u = record { once = u .once; each = u .each; all = u .all }
+-- Some return of the function of a call.
+abbrev pub Returned : C.Call → Lending → Type 0
+Returned c x = (a : Answer) × (l : List ℕ) × (y : Lending) × Lends x (turn c a l) y
 
-accepted-same : (ks : List Turn) → Accepted words ks → Accepted functions ks
-accepted-same [] a = tt
-accepted-same (k ∷ ks) a = (a .0, accepted-same ks (a .1))
+-- A sound store has a table of 17 records.
+no-other : {P : Type 0} (x : Lending) → Sound-lent x → ¬ (length (x .table) ≡ parties) → P
+no-other x S z = absurd (z (sound-long x S))
 
-runs-same : {x z : Lending} {ks : List Turn} → Sound-lent x → Run functions x ks z → Run words x ks z
-runs-same S stop = stop
-runs-same S (next {x} {y} {z} {k} {ks} d r) = next (lends-return (sound-long x S) d) (runs-same (lends-sound S d) r)
+can-return : (c : C.Call) (x : Lending) → Sound-lent x → Can c (x .store) (x .table) → Returned c x
+can-return (C.format m) x S k = (k .0, [], lending (k .1) (k .2), formats {a = k .0} (λ n. k .3, no-other x S))
+can-return (C.begin p) x S k = (k .0, [], lending (k .1) (k .2), begins {a = k .0} (λ n. k .3, no-other x S))
+can-return (C.put p c e f g) x S k =
+    (k .0, [], lending (k .1) (k .2), puts {k = record { party = p; code = c; entry = e; first = f; second = g }} {a = k .0} (λ n. k .3, no-other x S))
+can-return (C.step p l) x S k = (k .0, k .3, lending (k .1) (k .2), steps {a = k .0} (λ n. k .4, no-other x S))
+can-return (C.commit p) x S k = (k .0, [], lending (k .1) (k .2), commits {a = k .0} (λ n. k .3, no-other x S))
+can-return (C.abort p) x S k = (k .0, [], lending (k .1) (k .2), aborts {a = k .0} (λ n. k .3, no-other x S))
 
--- An abort returns, on every sound store.
-abort-returns : (p : ℕ) (x : Lending) → Sound-lent x → (a : Answer) × (y : Lending) × Lends x (turn (C.abort p) a []) y
-abort-returns p x S = go (ℕ-discrete (first-of (abort-list (x .table) p)) 0)
-  where
-    does : (a : Answer) (s′ : List ℕ) (t′ : List Session) → Serves (C.abort p) (x .store) (x .table) (said a) [] s′ t′ → OnTable Aborted (x .store) (x .table) p a s′ t′
-    does a s′ t′ h = (λ n. record { answers = λ A. h; refuses = λ z. absurd (z S) }, λ z. absurd (z (sound-long x S)))
+-- Every call returns, on every sound store.
+pub functions-return : (c : C.Call) (x : Lending) → Sound-lent x → Returned c x
+functions-return c x S = can-return c x S (can c (x .store) (x .table) S)
 
-    go : Dec (first-of (abort-list (x .table) p) ≡ 0) → (a : Answer) × (y : Lending) × Lends x (turn (C.abort p) a []) y
-    go (yes z) = (Ok, record { store = _; table = _ }, aborts {a = Ok} (does Ok _ _ (abort-done (x .store) (x .table) p z S)))
-    go (no z) =
-        let n = first-of (abort-list (x .table) p) in
-        (Refused n 0, x, aborts {a = Refused n 0} (does (Refused n 0) (x .store) (x .table) (abort-refuses (x .store) (x .table) p n S refl z)))
+known : (t : Told) (x : Lending) → Knows functions t x → Knows words t x
+known t x w = record { sound = w .sound; hand-told = w .hand-told; begun-told = w .begun-told }
 
-aborts-return : (ss : List ℕ) (x : Lending) → Sound-lent x → Made functions x (map C.abort ss)
-aborts-return [] x S = record { turns = []; last = x; run = stop; as-called = refl }
-aborts-return (s ∷ ss) x S =
-    let o = abort-returns s x S in
-    let m = aborts-return ss (o .1) (lends-sound S (o .2)) in
-    record { turns = turn (C.abort s) (o .0) [] ∷ m .turns; last = m .last; run = next (o .2) (m .run); as-called = ap (λ z. C.abort s ∷ z) (m .as-called) }
+known-back : (t : Told) (x : Lending) → Knows words t x → Knows functions t x
+known-back t x w = record { sound = w .sound; hand-told = w .hand-told; begun-told = w .begun-told }
 
--- A format that was accepted; then any list of calls: it keeps demand 3.
-pub functions-demand-3 : (m : ℕ) (a : Answer) (x x′ : Lending) → OnTable Formatted (x .store) (x .table) m a (x′ .store) (x′ .table) → said a ≡ C.ok
-    → (ks : List Turn) (y : Lending) → Lendings x′ ks y → Demand-3 functions (told nothing ks) y
-functions-demand-3 m a x x′ h e ks y r =
-    let D = lent-demand-3 m a x x′ h e ks y r in
-    let S = lendings-sound (format-sound m a x x′ h e) r in
-    record {
-      committed = D .committed;
-      unfinished = D .unfinished;
-      can-abort = λ ss u. aborts-return ss y S;
-      aborted = λ ss u js z c run.
-          let q = D .aborted ss (unfinished-same (told nothing ks) ss u) js z c (runs-same S run) in
-          (accepted-same js (q .0), q .1);
-    }
+moved : (t u : Told) (x y : Lending) → Moves words lock-rule t u x y ⊎ Anew words u y → Moves functions lock-rule t u x y ⊎ Anew functions u y
+moved t u x y (inl m) = inl (record { events = m .events; moved = m .moved; as-told = m .as-told })
+moved t u x y (inr a) = inr (record { nothing-told = a .nothing-told; as-new = a .as-new })
+
+-- The six functions meet the laws that a store owes for demand 3.
+pub functions-laws : Laws functions lock-rule
+functions-laws = record {
+  returns = λ c x S. let o = functions-return c x S in (said (o .0), o .1, o .2, o .3);
+  knows = λ k x y t d w. known-back (tell k t) y (words-meet .knows k x y t (lends-return (sound-long x (w .sound)) d) (known t x w));
+  moves = λ k x y t d w. moved t (tell k t) x y (words-meet .moves k x y t (lends-return (sound-long x (w .sound)) d) (known t x w));
+  abort-ok = λ s k x y e d S b. words-meet .abort-ok s k x y e (lends-return (sound-long x S) d) S b;
+}
+
+-- ---- after a format that was accepted
+
+module _ (m : ℕ) (a : Answer) (x x′ : Lending) (h : OnTable Formatted (x .store) (x .table) m a (x′ .store) (x′ .table)) (e : said a ≡ C.ok) where
+  pub start-known : Knows functions nothing x′
+  start-known = known-back nothing x′ (formatted-known m (x .store) (x′ .store) (x .table) (x′ .table) (accepted-format m a x x′ h e))
+
+  -- Any list of calls keeps demand 3.
+  pub functions-demand-3 : (ks : List Turn) (y : Lending) → Lendings x′ ks y → Demand-3 functions (told nothing ks) y
+  functions-demand-3 ks y r =
+      subst (λ t. Demand-3 functions t y) (own-told r nothing)
+      (demand-3 functions lock-rule lock-rule-strict functions-laws x′ y (own r) start-known
+      (formatted-new m (x .store) (x′ .store) (x .table) (x′ .table) (accepted-format m a x x′ h e)) (own-run r))
+
+  -- Every list of calls has a run, whatever numbers their arguments are.
+  pub functions-made : (cs : List C.Call) → Made functions x′ cs
+  functions-made cs = calls-made functions lock-rule lock-rule-strict functions-laws cs nothing x′ start-known
+
+  -- After any list of calls the unfinished sessions can be listed, and aborted in that sequence.
+  pub functions-aborts : (ks : List Turn) (y : Lending) → Lendings x′ ks y → (ss : List ℕ) × Unfinished (told nothing ks) ss × Made functions y (map C.abort ss)
+  functions-aborts ks y r =
+      subst (λ t. (ss : List ℕ) × Unfinished t ss × Made functions y (map C.abort ss)) (own-told r nothing)
+      (aborts-made functions lock-rule lock-rule-strict functions-laws x′ y (own r) start-known
+      (formatted-new m (x .store) (x′ .store) (x .table) (x′ .table) (accepted-format m a x x′ h e)) (own-run r))

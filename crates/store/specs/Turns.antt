@@ -1,15 +1,16 @@
 -- Demand 3 over the six functions of this crate: any list of their returns, each as its contract says, after a format that was accepted.
 use mathlib.Core.Path.{_≡_, refl, sym, ap, subst, _∙_}
-use mathlib.Core.Bool.{true, false, cond}
-use mathlib.Core.List.{List, [], _∷_, List-discrete}
-use mathlib.Core.Logic.{_⊎_, inl, inr, _↔_}
+use mathlib.Core.Bool.{true, false, cond, not}
+use mathlib.Core.List.{List, [], _∷_, _++_, List-discrete}
+use mathlib.Core.Logic.{_↔_}
 use mathlib.Core.Option.{none}
-use Prim.Native.Nat.{ℕ}
+use Prim.Native.Nat.{ℕ, _+_}
 use native.Mathlib.Decide.{ℕ-discrete}
-use lib.ListN.{length}
+use lib.ListN.{length, length-append, getD, take, drop}
 use Rattle.sessions.specs.declared.Session.{Session}
 use Rattle.sessions.specs.Sessions.{parties}
-use Rattle.serial.specs.Calls.{Turn, Told, nothing, tell, told, Run, stop, next, Demand-3}
+use Rattle.serial.specs.Model.{both}
+use Rattle.serial.specs.Calls.{Turn, Told, nothing, tell, told, Machine, Run, stop, next, Demand-3}
 use Rattle.serial.specs.Calls as C
 use Rattle.outcomes.specs.declared.Answer.{Answer}
 use Rattle.outcomes.specs.Said.{said}
@@ -40,18 +41,6 @@ pub data Lends : Lending → Turn → Lending → Type 0 where
   commits : {x y : Lending} {p : ℕ} {a : Answer} → OnTable Committed (x .store) (x .table) p a (y .store) (y .table) → Lends x (turn (C.commit p) a []) y
   aborts : {x y : Lending} {p : ℕ} {a : Answer} → OnTable Aborted (x .store) (x .table) p a (y .store) (y .table) → Lends x (turn (C.abort p) a []) y
 
--- Refused for the store and table that were lent, whatever the call.
-abbrev pub TurnedAway : C.Answer → Type 0
-TurnedAway a = (a ≡ C.refused 1 0) ⊎ (a ≡ C.refused 2 0)
-
--- A list of calls, whoever's turn each is. The host lends its store and its table as the call before left them; or its store with another table u, is
--- turned away, and keeps its own.
-pub data Lendings : Lending → List Turn → Lending → Type 0 where
-  over : {x : Lending} → Lendings x [] x
-  then : {x y z : Lending} {k : Turn} {ks : List Turn} → Lends x k y → Lendings y ks z → Lendings x (k ∷ ks) z
-  wrong : {x y z : Lending} {u : List Session} {k : Turn} {ks : List Turn} → TurnedAway (k .answer) → Lends (lending (x .store) u) k y
-      → Lendings (lending (y .store) (x .table)) ks z → Lendings x (k ∷ ks) z
-
 -- On a table of 17 records it is a turn of the machine of words (promises, specs/Demands).
 pub lends-return : {x y : Lending} {k : Turn} → length (x .table) ≡ parties → Lends x k y → Returns x k y
 lends-return n (formats {x} {y} {m} {a} h) = formats-return m (x .store) (x .table) (said a) (y .store) (y .table) (h .0 n)
@@ -72,49 +61,6 @@ pub lends-sound : {x y : Lending} {k : Turn} → Sound-lent x → Lends x k y �
 unfolding Returns
 lends-sound {x} S d = lends-return (sound-long x S) d S .sound
 
--- Refusals 1 and 2 tell nothing,
-quiet : (c : C.Call) (n : ℕ) → C.ends-request n ≡ false → (t : Told) → C.tell-refused c n t ≡ t
-quiet (C.format m) n e t = refl
-quiet (C.begin p) n e t = refl
-quiet (C.put p c i f g) n e t = refl
-quiet (C.step p l) n e t = ap (λ b. cond b (C.take-in-hand p none t) t) e
-quiet (C.commit p) n e t = refl
-quiet (C.abort p) n e t = refl
-
-tells-nothing : (k : Turn) → TurnedAway (k .answer) → (t : Told) → tell k t ≡ t
-tells-nothing k (inl e) t = ap (λ a. C.tell-answer (k .call) a (k .list) t) e ∙ quiet (k .call) 1 refl t
-tells-nothing k (inr e) t = ap (λ a. C.tell-answer (k .call) a (k .list) t) e ∙ quiet (k .call) 2 refl t
-
--- and leave the store as it was, whatever table was lent.
-away-stays : (a : C.Answer) → TurnedAway a → stays a ≡ true
-away-stays a (inl e) = ap stays e
-away-stays a (inr e) = ap stays e
-
--- Words that are the same whether a fact holds or not.
-same-either : {s s′ : List ℕ} {D : Type 0} → (D → s′ ≡ s) → (¬ D → s′ ≡ s) → s′ ≡ s
-same-either {s} {s′} {D} f g = go (List-discrete ℕ-discrete s′ s)
-  where
-    go : Dec (s′ ≡ s) → s′ ≡ s
-    go (yes e) = e
-    go (no n) = g (λ d. n (f d))
-
-calls-stay : (c : C.Call) (s : List ℕ) (t : List Session) (a : C.Answer) (l′ s′ : List ℕ) (t′ : List Session) → TurnedAway a → Calls c s t a l′ s′ t′ → s′ ≡ s
-calls-stay c s t a l′ s′ t′ v P = same-either {D = Sound s t} (λ S. P .answers S .0 .still (away-stays a v) .0) (λ n. P .refuses n .store-same)
-
-away-same : {x y : Lending} {k : Turn} → TurnedAway (k .answer) → Lends x k y → y .store ≡ x .store
-away-same v (formats {x} {y} {m} {a} h) = same-either {D = length (x .table) ≡ parties} (λ n. h .0 n .refuses (away-stays (said a) v) .0) (λ z. h .1 z .1)
-away-same v (begins {x} {y} {p} {a} h) =
-    same-either {D = length (x .table) ≡ parties} (λ n. calls-stay (C.begin p) (x .store) (x .table) (said a) [] (y .store) (y .table) v (h .0 n)) (λ z. h .1 z .1)
-away-same v (puts {x} {y} {k} {a} h) =
-    same-either {D = length (x .table) ≡ parties}
-    (λ n. calls-stay (C.put (k .party) (k .code) (k .entry) (k .first) (k .second)) (x .store) (x .table) (said a) [] (y .store) (y .table) v (h .0 n)) (λ z. h .1 z .1)
-away-same v (steps {x} {y} {p} {l} {l′} {a} h) =
-    same-either {D = length (x .table) ≡ parties} (λ n. calls-stay (C.step p l) (x .store) (x .table) (said a) l′ (y .store) (y .table) v (h .0 n)) (λ z. h .1 z .1)
-away-same v (commits {x} {y} {p} {a} h) =
-    same-either {D = length (x .table) ≡ parties} (λ n. calls-stay (C.commit p) (x .store) (x .table) (said a) [] (y .store) (y .table) v (h .0 n)) (λ z. h .1 z .1)
-away-same v (aborts {x} {y} {p} {a} h) =
-    same-either {D = length (x .table) ≡ parties} (λ n. calls-stay (C.abort p) (x .store) (x .table) (said a) [] (y .store) (y .table) v (h .0 n)) (λ z. h .1 z .1)
-
 -- Refusal 1 exactly: of a table that is not of 17 records.
 pub refused-1 : {x y : Lending} {k : Turn} → Lends x k y → (k .answer ≡ C.refused 1 0) ↔ ¬ (length (x .table) ≡ parties)
 refused-1 (formats {x} {y} {m} {a} h) = ((λ e n. format-not-1 m (x .store) (x .table) (said a) (y .store) (y .table) (h .0 n) 0 e), λ z. ap said (h .1 z .0))
@@ -125,24 +71,200 @@ refused-1 (steps {x} {y} {p} {l} {l′} {a} h) = ((λ e n. calls-not-1 (C.step p
 refused-1 (commits {x} {y} {p} {a} h) = ((λ e n. calls-not-1 (C.commit p) (x .store) (x .table) (said a) [] (y .store) (y .table) (h .0 n) 0 e), λ z. ap said (h .1 z .0))
 refused-1 (aborts {x} {y} {p} {a} h) = ((λ e n. calls-not-1 (C.abort p) (x .store) (x .table) (said a) [] (y .store) (y .table) (h .0 n) 0 e), λ z. ap said (h .1 z .0))
 
--- The calls with the host's own table are turns of the machine of words, and tell what all the calls tell.
-runs : {x z : Lending} {ks : List Turn} → Sound-lent x → Lendings x ks z → (js : List Turn) × Run words x js z × ((t : Told) → told t js ≡ told t ks)
-runs S over = ([], stop, λ t. refl)
-runs S (then {x} {y} {z} {k} {ks} d r) =
-    let q = runs (lends-sound S d) r in
-    (k ∷ q .0, next (lends-return (sound-long x S) d) (q .1), λ t. q .2 (tell k t))
-runs S (wrong {x} {y} {z} {u} {k} {ks} v d r) =
+-- The six functions as a machine, each as its contract says.
+abbrev pub functions : Machine
+functions = record { X = Lending; Sound = Sound-lent; meaning = words .meaning; hand = words .hand; Does = Lends }
+
+pub functions-sound : {x z : Lending} {ks : List Turn} → Sound-lent x → Run functions x ks z → Sound-lent z
+functions-sound S stop = S
+functions-sound S (next d r) = functions-sound (lends-sound S d) r
+
+-- Their turns are turns of the machine of words.
+pub functions-words : {x z : Lending} {ks : List Turn} → Sound-lent x → Run functions x ks z → Run words x ks z
+functions-words S stop = stop
+functions-words S (next {x} d r) = next (lends-return (sound-long x S) d) (functions-words (lends-sound S d) r)
+
+-- ---- a call that was lent something else
+
+-- What the host has lies in memory, from place `from` on. A call is lent a part of that memory, wherever it lies: elsewhere, inside, around it or across an
+-- end; and leaves part′ in its place. own and own′ are what the host has before and after.
+pub record Loan {A : Type 0} (own part part′ own′ : List A) : Type 0 where
+  pub before : List A
+  pub behind : List A
+  pub from : ℕ
+  pub lies : own ≡ take (length own) (drop from (before ++ part ++ behind))
+  pub left : own′ ≡ take (length own) (drop from (before ++ part′ ++ behind))
+
+module _ {A : Type 0} where
+  take-all : (l : List A) → take (length l) l ≡ l
+  take-all [] = refl
+  take-all (x ∷ l) = ap (λ z. x ∷ z) (take-all l)
+
+  drop-all : (l m : List A) → drop (length l) (l ++ m) ≡ m
+  drop-all [] m = refl
+  drop-all (x ∷ l) m = drop-all l m
+
+  -- A part elsewhere, and a slice of what the host has, are two cases.
+  pub elsewhere : (own part part′ : List A) → length part′ ≡ length part → Loan own part part′ own
+  elsewhere own part part′ e = record {
+    before = [];
+    behind = own;
+    from = length part;
+    lies = sym (ap (take (length own)) (drop-all part own) ∙ take-all own);
+    left = sym (ap (λ n. take (length own) (drop n (part′ ++ own))) (sym e) ∙ ap (take (length own)) (drop-all part′ own) ∙ take-all own);
+  }
+
+  pub slice : (before part part′ behind : List A) → length part′ ≡ length part → Loan (before ++ part ++ behind) part part′ (before ++ part′ ++ behind)
+  slice before part part′ behind e = record {
+    before = before;
+    behind = behind;
+    from = 0;
+    lies = sym (take-all (before ++ part ++ behind));
+    left = sym (ap (λ n. take n (before ++ part′ ++ behind)) (sym long) ∙ take-all (before ++ part′ ++ behind));
+  }
+    where
+      long : length (before ++ part′ ++ behind) ≡ length (before ++ part ++ behind)
+      long =
+          length-append (before ++ part′) behind ∙ ap (λ n. n + length behind) (length-append before part′ ∙ ap (λ n. length before + n) e ∙ sym (length-append before part))
+          ∙ sym (length-append (before ++ part) behind)
+
+  -- A part left as it was leaves what the host has.
+  loan-same : {own part part′ own′ : List A} → part′ ≡ part → Loan own part part′ own′ → own′ ≡ own
+  loan-same {own} e L = L .left ∙ ap (λ z. take (length own) (drop (L .from) (L .before ++ z ++ L .behind))) e ∙ sym (L .lies)
+
+-- Refused by a number that ends no request: any but 11 and 12. For what was lent: 1 and 2, and 3 of a format.
+abbrev pub TurnedAway : C.Answer → Type 0
+TurnedAway C.ok = ⊥
+TurnedAway C.more = ⊥
+TurnedAway (C.wait p) = ⊥
+TurnedAway (C.done ns) = ⊥
+TurnedAway (C.refused n k) = C.ends-request n ≡ false
+
+-- Such a call tells nothing,
+quiet : (c : C.Call) (n : ℕ) → C.ends-request n ≡ false → (t : Told) → C.tell-refused c n t ≡ t
+quiet (C.format m) n e t = refl
+quiet (C.begin p) n e t = refl
+quiet (C.put p c i f g) n e t = refl
+quiet (C.step p l) n e t = ap (λ b. cond b (C.take-in-hand p none t) t) e
+quiet (C.commit p) n e t = refl
+quiet (C.abort p) n e t = refl
+
+away-quiet : (c : C.Call) (a : C.Answer) (l : List ℕ) → TurnedAway a → (t : Told) → C.tell-answer c a l t ≡ t
+away-quiet c C.ok l v t = absurd v
+away-quiet c C.more l v t = absurd v
+away-quiet c (C.wait p) l v t = absurd v
+away-quiet c (C.done ns) l v t = absurd v
+away-quiet c (C.refused n k) l v t = quiet c n v t
+
+-- and leaves store and table as they were lent, whatever they are.
+away-stays : (a : C.Answer) → TurnedAway a → stays a ≡ true
+away-stays C.ok v = absurd v
+away-stays C.more v = absurd v
+away-stays (C.wait p) v = absurd v
+away-stays (C.done ns) v = absurd v
+away-stays (C.refused n k) v = ap not v
+
+abbrev Same : Lending → Lending → Type 0
+Same x y = (y .store ≡ x .store) × (y .table ≡ x .table)
+
+numbers-of : Session → List ℕ
+numbers-of s = s .begun ∷ s .code ∷ s .entry ∷ s .first ∷ s .second ∷ s .stage ∷ s .target ∷ s .at ∷ s .level ∷ s .low ∷ s .high ∷ s .last ∷ s .undo ∷ []
+
+same-session : (s u : Session) → Dec (s ≡ u)
+unfolding numbers-of
+same-session s u = go (List-discrete ℕ-discrete (numbers-of s) (numbers-of u))
+  where
+    back : List ℕ → Session
+    back l =
+        record {
+          begun = getD l 0 0;
+          code = getD l 1 0;
+          entry = getD l 2 0;
+          first = getD l 3 0;
+          second = getD l 4 0;
+          stage = getD l 5 0;
+          target = getD l 6 0;
+          at = getD l 7 0;
+          level = getD l 8 0;
+          low = getD l 9 0;
+          high = getD l 10 0;
+          last = getD l 11 0;
+          undo = getD l 12 0;
+        }
+
+    go : Dec (numbers-of s ≡ numbers-of u) → Dec (s ≡ u)
+    go (yes e) = yes (ap back e)
+    go (no n) = no (λ e. n (ap numbers-of e))
+
+same-lent : (x y : Lending) → Dec (Same x y)
+same-lent x y = both (List-discrete ℕ-discrete (y .store) (x .store)) (List-discrete same-session (y .table) (x .table))
+
+-- The same whether a fact holds or not.
+same-either : {x y : Lending} {D : Type 0} → (D → Same x y) → (¬ D → Same x y) → Same x y
+same-either {x} {y} {D} f g = go (same-lent x y)
+  where
+    go : Dec (Same x y) → Same x y
+    go (yes e) = e
+    go (no n) = g (λ d. n (f d))
+
+calls-stay : (c : C.Call) (x : Lending) (a : C.Answer) (l′ : List ℕ) (y : Lending) → TurnedAway a → Calls c (x .store) (x .table) a l′ (y .store) (y .table) → Same x y
+calls-stay c x a l′ y v P = same-either {D = Sound-lent x} (λ S. P .answers S .0 .still (away-stays a v)) (λ n. (P .refuses n .store-same, P .refuses n .table-same))
+
+away-same : {x y : Lending} {k : Turn} → TurnedAway (k .answer) → Lends x k y → Same x y
+away-same v (formats {x} {y} {m} {a} h) = same-either {D = length (x .table) ≡ parties} (λ n. h .0 n .refuses (away-stays (said a) v)) (λ z. (h .1 z .1, h .1 z .2))
+away-same v (begins {x} {y} {p} {a} h) = same-either {D = length (x .table) ≡ parties} (λ n. calls-stay (C.begin p) x (said a) [] y v (h .0 n)) (λ z. (h .1 z .1, h .1 z .2))
+away-same v (puts {x} {y} {k} {a} h) =
+    same-either {D = length (x .table) ≡ parties} (λ n. calls-stay (C.put (k .party) (k .code) (k .entry) (k .first) (k .second)) x (said a) [] y v (h .0 n)) (λ z. (h .1 z .1, h .1 z .2))
+away-same v (steps {x} {y} {p} {l} {l′} {a} h) = same-either {D = length (x .table) ≡ parties} (λ n. calls-stay (C.step p l) x (said a) l′ y v (h .0 n)) (λ z. (h .1 z .1, h .1 z .2))
+away-same v (commits {x} {y} {p} {a} h) = same-either {D = length (x .table) ≡ parties} (λ n. calls-stay (C.commit p) x (said a) [] y v (h .0 n)) (λ z. (h .1 z .1, h .1 z .2))
+away-same v (aborts {x} {y} {p} {a} h) = same-either {D = length (x .table) ≡ parties} (λ n. calls-stay (C.abort p) x (said a) [] y v (h .0 n)) (λ z. (h .1 z .1, h .1 z .2))
+
+-- ---- lists of calls
+
+-- A list of calls, whoever's turn each is. The host lends its store and its table as the call before left them; or something else for one of them or for
+-- both, other words u .store or other records u .table, parts of its own among them, is turned away, and goes on with what the call left it.
+pub data Lendings : Lending → List Turn → Lending → Type 0 where
+  over : {x : Lending} → Lendings x [] x
+  then : {x y z : Lending} {k : Turn} {ks : List Turn} → Lends x k y → Lendings y ks z → Lendings x (k ∷ ks) z
+  wrong : {x y z u u′ : Lending} {k : Turn} {ks : List Turn} → TurnedAway (k .answer) → Lends u k u′
+      → Loan (x .store) (u .store) (u′ .store) (y .store) → Loan (x .table) (u .table) (u′ .table) (y .table) → Lendings y ks z → Lendings x (k ∷ ks) z
+
+-- What the host has is then as it was.
+pub wrong-keeps : {x y u u′ : Lending} {k : Turn} → TurnedAway (k .answer) → Lends u k u′
+    → Loan (x .store) (u .store) (u′ .store) (y .store) → Loan (x .table) (u .table) (u′ .table) (y .table) → y ≡ x
+wrong-keeps {x} {y} v d a b =
     let e = away-same v d in
-    let q = runs (subst (λ s. Sound s (x .table)) (sym e) S) r in
-    (q .0, subst (λ s. Run words (lending s (x .table)) (q .0) z) e (q .1), λ t. q .2 t ∙ sym (ap (λ w. told w ks) (tells-nothing k v t)))
+    let s = loan-same (e .0) a in
+    let t = loan-same (e .1) b in
+    λ i. record { store = s i; table = t i }
+
+-- The host's own calls: all but those that were lent something else.
+abbrev pub own : {x z : Lending} {ks : List Turn} → Lendings x ks z → List Turn
+own over = []
+own (then {k = k} d r) = k ∷ own r
+own (wrong v d a b r) = own r
+
+-- They are a run of the six functions, and tell what all the calls tell.
+pub own-run : {x z : Lending} {ks : List Turn} (r : Lendings x ks z) → Run functions x (own r) z
+own-run over = stop
+own-run (then d r) = next d (own-run r)
+own-run {x} {z} (wrong v d a b r) = subst (λ y. Run functions y (own r) z) (wrong-keeps v d a b) (own-run r)
+
+pub own-told : {x z : Lending} {ks : List Turn} (r : Lendings x ks z) (t : Told) → told t (own r) ≡ told t ks
+own-told over t = refl
+own-told (then {k = k} d r) t = own-told r (tell k t)
+own-told (wrong {k = k} {ks = ks} v d a b r) t = own-told r t ∙ sym (ap (λ w. told w ks) (away-quiet (k .call) (k .answer) (k .list) v t))
 
 pub lendings-sound : {x z : Lending} {ks : List Turn} → Sound-lent x → Lendings x ks z → Sound-lent z
-lendings-sound S over = S
-lendings-sound S (then d r) = lendings-sound (lends-sound S d) r
-lendings-sound S (wrong {x} v d r) = lendings-sound (subst (λ s. Sound s (x .table)) (sym (away-same v d)) S) r
+lendings-sound S r = functions-sound S (own-run r)
+
+-- A run of the six functions is such a list.
+pub run-lendings : {x z : Lending} {ks : List Turn} → Run functions x ks z → Lendings x ks z
+run-lendings stop = over
+run-lendings (next d r) = then d (run-lendings r)
 
 -- A format that was accepted has a table of 17 records.
-accepted-format : (m : ℕ) (a : Answer) (x x′ : Lending) → OnTable Formatted (x .store) (x .table) m a (x′ .store) (x′ .table) → said a ≡ C.ok
+pub accepted-format : (m : ℕ) (a : Answer) (x x′ : Lending) → OnTable Formatted (x .store) (x .table) m a (x′ .store) (x′ .table) → said a ≡ C.ok
     → Formats m (x .store) (x .table) C.ok (x′ .store) (x′ .table)
 accepted-format m a x x′ h e = go (ℕ-discrete (length (x .table)) parties)
   where
@@ -167,5 +289,6 @@ format-sound m a x x′ h e = accepted-format m a x x′ h e .accepts refl .0
 pub lent-demand-3 : (m : ℕ) (a : Answer) (x x′ : Lending) → OnTable Formatted (x .store) (x .table) m a (x′ .store) (x′ .table) → said a ≡ C.ok
     → (ks : List Turn) (y : Lending) → Lendings x′ ks y → Demand-3 words (told nothing ks) y
 lent-demand-3 m a x x′ h e ks y r =
-    let q = runs (format-sound m a x x′ h e) r in
-    subst (λ t. Demand-3 words t y) (q .2 nothing) (formatted-calls m (x .store) (x′ .store) (x .table) (x′ .table) (accepted-format m a x x′ h e) (q .0) y (q .1))
+    let F = accepted-format m a x x′ h e in
+    subst (λ t. Demand-3 words t y) (own-told r nothing)
+    (formatted-calls m (x .store) (x′ .store) (x .table) (x′ .table) F (own r) y (functions-words (F .accepts refl .0) (own-run r)))

@@ -3,8 +3,9 @@
 // Each refuses a table that is not of 17 records (refusal 1), and then changes nothing. Else it loads the records, as the test of soundness reads them all,
 // and makes the call on them by value. Of the table that the call gives back begin, put, step, commit and abort store ONE record, their party's: the call
 // leaves the others as they were (specs/OneRecord). Format clears the table and stores all 17. Each promises what the call by value promises, over words,
-// table and list at entry and at exit (specs/Lent); so any list of calls after an accepted format keeps demand 3 (specs/Turns, specs/Demand3). Nothing is
-// asked of the caller. It rests on tables for the lent table, on calls for the calls by value, on seats for what is kept of them.
+// table and list at entry and at exit (specs/Lent); so any list of calls after an accepted format keeps demand 3 (specs/Turns, specs/Demand3), has the holders
+// that its calls were granted (specs/Holding), and every list of calls has a run. Nothing is asked of the caller. It rests on tables for the lent table, on
+// calls for the calls by value, on seats for what is kept of them.
 ghost use mathlib.Core.Path.{_≡_};
 ghost use Rattle.store.specs.Lent.{Formatted, Begun, Put, Stepped, Committed, Aborted, OnTable, SteppedOnTable};
 ghost use Rattle.store.specs.OneRecord.{seated};
