@@ -3,8 +3,8 @@
 // A store and a list cross as a pointer and how many words, a session table as a pointer and how many records, each of 13 words in the order of the
 // fields. An answer crosses in one number, which loses nothing (crate packing). Each call promises what the store's call of its name promises, of the answer
 // whose packing it returns (specs/Exported); so any list of calls from C, with the answers read off the numbers, keeps demand 3 (specs/Turns), and every list
-// of calls has such numbers (specs/Made). Nothing is asked of the caller but what C's types leave to it. It rests on store for the calls, on packing for the answers, on locks for the count, on tables and sound for
-// the test.
+// of calls has such numbers (specs/Made). Nothing is asked of the caller but what C's types leave to it. It rests on store for the calls, on packing for the
+// answers, on locks for the count, on tables and sound for the test.
 ghost use mathlib.Core.Path.{_≡_};
 ghost use lib.ListN.{length};
 ghost use Rattle.locks.specs.Holders.{holders, word-bits};

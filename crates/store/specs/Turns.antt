@@ -4,19 +4,22 @@ use mathlib.Core.Bool.{true, false, cond, not}
 use mathlib.Core.List.{List, [], _∷_, _++_, List-discrete}
 use mathlib.Core.Logic.{_↔_}
 use mathlib.Core.Option.{none}
-use Prim.Native.Nat.{ℕ, _+_}
+use Prim.Native.Nat.{ℕ}
 use native.Mathlib.Decide.{ℕ-discrete}
+use native.Mathlib.Omega.{arith}
 use lib.ListN.{length, length-append, getD, take, drop}
+use lib.Seq.{take-length, take-all, take-append-seam, drop-append-seam, take-at, drop-at}
 use Rattle.sessions.specs.declared.Session.{Session}
 use Rattle.sessions.specs.Sessions.{parties}
 use Rattle.serial.specs.Model.{both}
 use Rattle.serial.specs.Calls.{Turn, Told, nothing, tell, told, Machine, Run, stop, next, Demand-3}
 use Rattle.serial.specs.Calls as C
 use Rattle.outcomes.specs.declared.Answer.{Answer}
+use Rattle.outcomes.specs.declared.Answer.the-variants.{Refused}
 use Rattle.outcomes.specs.Said.{said}
 use Rattle.meaning.specs.Sound.{Sound}
 use Rattle.meaning.specs.Table.{table-many}
-use Rattle.promises.specs.Relations.{stays, Calls, Formats}
+use Rattle.promises.specs.Relations.{stays, Calls, Formats, list-of}
 use Rattle.promises.specs.Demand1.{calls-not-1, format-not-1}
 use Rattle.promises.specs.Demands.{Lending, Returns, words}
 use Rattle.promises.specs.Promised.{calls-return, formats-return}
@@ -96,37 +99,28 @@ pub record Loan {A : Type 0} (own part part′ own′ : List A) : Type 0 where
   pub left : own′ ≡ take (length own) (drop from (before ++ part′ ++ behind))
 
 module _ {A : Type 0} where
-  take-all : (l : List A) → take (length l) l ≡ l
-  take-all [] = refl
-  take-all (x ∷ l) = ap (λ z. x ∷ z) (take-all l)
-
-  drop-all : (l m : List A) → drop (length l) (l ++ m) ≡ m
-  drop-all [] m = refl
-  drop-all (x ∷ l) m = drop-all l m
-
-  -- A part elsewhere, and a slice of what the host has, are two cases.
+  -- A part elsewhere, the whole, and a slice of what the host has are cases.
   pub elsewhere : (own part part′ : List A) → length part′ ≡ length part → Loan own part part′ own
   elsewhere own part part′ e = record {
     before = [];
     behind = own;
     from = length part;
-    lies = sym (ap (take (length own)) (drop-all part own) ∙ take-all own);
-    left = sym (ap (λ n. take (length own) (drop n (part′ ++ own))) (sym e) ∙ ap (take (length own)) (drop-all part′ own) ∙ take-all own);
+    lies = sym (ap (take (length own)) (drop-append-seam part own) ∙ take-length own);
+    left = sym (ap (take (length own)) (drop-at part′ own (length part) e) ∙ take-length own);
   }
+
+  pub whole : (own own′ : List A) → length own′ ≡ length own → Loan own own own′ own′
+  whole own own′ e = record { before = []; behind = []; from = 0; lies = sym (take-append-seam own []); left = sym (take-at own′ [] (length own) e) }
 
   pub slice : (before part part′ behind : List A) → length part′ ≡ length part → Loan (before ++ part ++ behind) part part′ (before ++ part′ ++ behind)
   slice before part part′ behind e = record {
     before = before;
     behind = behind;
     from = 0;
-    lies = sym (take-all (before ++ part ++ behind));
-    left = sym (ap (λ n. take n (before ++ part′ ++ behind)) (sym long) ∙ take-all (before ++ part′ ++ behind));
+    lies = sym (take-length (before ++ part ++ behind));
+    left = sym (take-all (length (before ++ part ++ behind)) (before ++ part′ ++ behind)
+        (omega (arith, e, length-append (before ++ part) behind, length-append before part, length-append (before ++ part′) behind, length-append before part′)));
   }
-    where
-      long : length (before ++ part′ ++ behind) ≡ length (before ++ part ++ behind)
-      long =
-          length-append (before ++ part′) behind ∙ ap (λ n. n + length behind) (length-append before part′ ∙ ap (λ n. length before + n) e ∙ sym (length-append before part))
-          ∙ sym (length-append (before ++ part) behind)
 
   -- A part left as it was leaves what the host has.
   loan-same : {own part part′ own′ : List A} → part′ ≡ part → Loan own part part′ own′ → own′ ≡ own
@@ -262,6 +256,39 @@ lendings-sound S r = functions-sound S (own-run r)
 pub run-lendings : {x z : Lending} {ks : List Turn} → Run functions x ks z → Lendings x ks z
 run-lendings stop = over
 run-lendings (next d r) = then d (run-lendings r)
+
+-- ---- such calls there are
+
+-- Every call but format looks whether what it was lent is sound.
+abbrev pub Looks : C.Call → Type 0
+Looks (C.format m) = ⊥
+Looks (C.begin p) = Unit {0}
+Looks (C.put p c e f g) = Unit {0}
+Looks (C.step p l) = Unit {0}
+Looks (C.commit p) = Unit {0}
+Looks (C.abort p) = Unit {0}
+
+module _ (u : Lending) (n : ¬ Sound-lent u) where
+  unsound-call : (c : C.Call) → Calls c (u .store) (u .table) (C.refused 2 0) (list-of c) (u .store) (u .table)
+  unsound-call c = record { answers = λ S. absurd (n S); refuses = λ _. record { answer = refl; list-same = refl; store-same = refl; table-same = refl } }
+
+  unsound-lends : (c : C.Call) → Looks c → length (u .table) ≡ parties → Lends u (turn c (Refused 2 0) (list-of c)) u
+  unsound-lends (C.format m) w e = absurd w
+  unsound-lends (C.begin p) w e = begins {a = Refused 2 0} (λ _. unsound-call (C.begin p), λ z. absurd (z e))
+  unsound-lends (C.put p c i f g) w e =
+      puts {k = record { party = p; code = c; entry = i; first = f; second = g }} {a = Refused 2 0} (λ _. unsound-call (C.put p c i f g), λ z. absurd (z e))
+  unsound-lends (C.step p l) w e = steps {a = Refused 2 0} (λ _. unsound-call (C.step p l), λ z. absurd (z e))
+  unsound-lends (C.commit p) w e = commits {a = Refused 2 0} (λ _. unsound-call (C.commit p), λ z. absurd (z e))
+  unsound-lends (C.abort p) w e = aborts {a = Refused 2 0} (λ _. unsound-call (C.abort p), λ z. absurd (z e))
+
+-- Between any two calls a slice of the store, not sound by itself, can be lent with the table: it is refused 2, and the list goes on.
+pub slice-refused : (c : C.Call) → Looks c → {x z : Lending} {ks : List Turn} (before part behind : List ℕ) → x .store ≡ before ++ part ++ behind → ¬ Sound part (x .table)
+    → Sound-lent x → Lendings x ks z → Lendings x (turn c (Refused 2 0) (list-of c) ∷ ks) z
+slice-refused c w {x} before part behind e n S r =
+    wrong {u = lending part (x .table)} {u′ = lending part (x .table)} refl (unsound-lends (lending part (x .table)) n c w (sound-long x S))
+    (subst (λ s. Loan s part part s) (sym e) (slice before part part behind refl)) (whole (x .table) (x .table) refl) r
+
+-- ---- demand 3
 
 -- A format that was accepted has a table of 17 records.
 pub accepted-format : (m : ℕ) (a : Answer) (x x′ : Lending) → OnTable Formatted (x .store) (x .table) m a (x′ .store) (x′ .table) → said a ≡ C.ok
