@@ -5,6 +5,7 @@ use schedules::book::Book;
 use schedules::book::get;
 use schedules::random::below;
 use schedules::random::random;
+use schedules::side::TABLE;
 use schedules::words::bit;
 use schedules::words::wide;
 use std::num::wrapping_add_u32;
@@ -12,7 +13,7 @@ use std::num::wrapping_sub_u32;
 
 // A place in the table or in the store.
 pub fn place(b: &mut Book) -> usize {
-    let end = wrapping_add_u32(get(b, WORDS), 221);
+    let end = wrapping_add_u32(get(b, WORDS), TABLE as u32);
     wide(below(b, end))
 }
 
