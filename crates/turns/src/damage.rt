@@ -5,6 +5,7 @@ use schedules::book::Book;
 use schedules::book::get;
 use schedules::random::below;
 use schedules::random::random;
+use schedules::side::PARTIES;
 use schedules::side::TABLE;
 use schedules::words::bit;
 use schedules::words::wide;
@@ -29,7 +30,7 @@ pub fn other(b: &mut Book, x: u32) -> u32 {
         0 => wrapping_add_u32(x, 1),
         1 => wrapping_sub_u32(x, 1),
         2 => record(b),
-        3 => x ^ bit(below(b, 17)),
+        3 => x ^ bit(below(b, PARTIES)),
         _ => random(b),
     }
 }
