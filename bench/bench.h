@@ -28,7 +28,7 @@ uint32_t scalar_pass(const uint32_t *words, size_t len);
 
 // ---- the store, lent by a host that has one desk: host.c
 
-enum { MAX_RECORDS = ENTRY_STORE_MAX_RECORDS, MAX_WORDS = 16 + 3 * (MAX_RECORDS / 4) + 20 * MAX_RECORDS, MAX_PAIRS = MAX_RECORDS };
+enum { MAX_RECORDS = ENTRY_STORE_MAX_RECORDS, MAX_WORDS = ENTRY_STORE_MAX_WORDS, MAX_PAIRS = MAX_RECORDS };
 
 struct host {
     uint32_t entries;

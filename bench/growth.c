@@ -1,6 +1,6 @@
 // Calls on full stores of four sizes, and on stores of one size filled in different ways, beside one pass over the same words.
 //
-// On each store 16 sessions take turns: each begins, puts a read of an entry, makes its one step, and commits. The pass and the test of
+// On each store all sessions take turns: each begins, puts a read of an entry, makes its one step, and commits. The pass and the test of
 // soundness are run as often. Times are nanoseconds a call, the median of many rounds; a round goes over all stores of a table, so that
 // all meet the same machine. The words are in the caches when they are timed.
 #include <stdio.h>

@@ -27,16 +27,26 @@ extern "C" {
 
 /* ---- sizes */
 
-/* Records of a session table: the housekeeper's, and one for each of the sessions 1 to 16. */
+/* Records of a session table: the housekeeper's, and one for each of the sessions from 1 on. */
 #define ENTRY_STORE_PARTIES 17
-#define ENTRY_STORE_SESSIONS 16
+#define ENTRY_STORE_SESSIONS (ENTRY_STORE_PARTIES - 1)
 #define ENTRY_STORE_HOUSEKEEPER 0
+
+/* Words of a store's header, of an entry, of a record, and of a record of the session table. */
+#define ENTRY_STORE_HEADER_WORDS 16
+#define ENTRY_STORE_ENTRY_WORDS 3
+#define ENTRY_STORE_RECORD_WORDS 20
+#define ENTRY_STORE_SESSION_WORDS (sizeof(struct entry_store_session) / sizeof(uint32_t))
 
 /* What format accepts: M entries and at least so many records. Above 4,096 records the words beyond are never touched. */
 #define ENTRY_STORE_MIN_ENTRIES 1
 #define ENTRY_STORE_MAX_ENTRIES 1024
 #define ENTRY_STORE_MIN_RECORDS 8
 #define ENTRY_STORE_MAX_RECORDS 4096
+
+/* The words of the largest store. */
+#define ENTRY_STORE_MAX_WORDS                                                                                                                          \
+    (ENTRY_STORE_HEADER_WORDS + ENTRY_STORE_ENTRY_WORDS * ENTRY_STORE_MAX_ENTRIES + ENTRY_STORE_RECORD_WORDS * ENTRY_STORE_MAX_RECORDS)
 
 /* Keys that name a group. 0 and 4,294,967,295 are the two infinities. */
 #define ENTRY_STORE_MIN_KEY UINT32_C(1)
@@ -45,7 +55,7 @@ extern "C" {
 /* The words of a store of m entries and r records. */
 static inline size_t entry_store_words(uint32_t m, uint32_t r)
 {
-    return (size_t)16 + (size_t)3 * m + (size_t)20 * r;
+    return ENTRY_STORE_HEADER_WORDS + (size_t)ENTRY_STORE_ENTRY_WORDS * m + (size_t)ENTRY_STORE_RECORD_WORDS * r;
 }
 
 /* ---- the session table */
@@ -138,13 +148,13 @@ static inline struct entry_store_answer entry_store_unpack(uint64_t answer)
  */
 enum entry_store_refusal {
     /* The host program causes these: a fault of the caller's code or of its memory. */
-    ENTRY_STORE_TABLE = 1,   /* the table is not of 17 records: pass 17 */
+    ENTRY_STORE_TABLE = 1,   /* the table is not of ENTRY_STORE_PARTIES records: pass so many */
     ENTRY_STORE_UNSOUND = 2, /* all calls but format: store and table are not as format and the calls leave them, or belong to different stores;
                                 entry_store_fault says which part; put back a kept copy of both, or format anew */
     ENTRY_STORE_SIZES = 3,   /* format: M outside 1 to 1,024, or room for fewer than 8 records; lend entry_store_words(m, r) words, r at least 8 */
 
     /* The session's user causes these: answer them to that user. */
-    ENTRY_STORE_PARTY = 4,   /* party above 16; or 0 in begin, commit or abort */
+    ENTRY_STORE_PARTY = 4,   /* party above ENTRY_STORE_SESSIONS; or 0 in begin, commit or abort */
     ENTRY_STORE_BEGUN = 5,   /* begin of a begun session: commit or abort it first; put, step, commit or abort of one not begun: begin it first */
     ENTRY_STORE_CODE = 6,    /* put: code outside 1 to 6, 6 from a session, or 1 to 5 from party 0 */
     ENTRY_STORE_HAND = 7,    /* put or commit with a request in hand: make its steps, or abort; step with none in hand: put first */
@@ -176,7 +186,7 @@ enum entry_store_code {
 /* An empty store of so many entries, and a table with no session begun. All that was there before is lost. Answers ok; refuses 1 or 3. */
 uint64_t entry_store_format(uint32_t *store, size_t store_words, struct entry_store_session *table, size_t table_records, uint32_t entries);
 
-/* A session, 1 to 16, begins. Answers ok; refuses 1, 2, 4 or 5. The store is not changed. */
+/* A session, 1 to ENTRY_STORE_SESSIONS, begins. Answers ok; refuses 1, 2, 4 or 5. The store is not changed. */
 uint64_t entry_store_begin(uint32_t *store, size_t store_words, struct entry_store_session *table, size_t table_records, uint32_t party);
 
 /* A party's request: it is in hand until a step answers done, 11 or 12, or until an abort. Arguments that the code does not use are ignored. Answers ok;
@@ -197,8 +207,8 @@ uint64_t entry_store_abort(uint32_t *store, size_t store_words, struct entry_sto
 
 /* ---- reading */
 
-/* How many sessions a holders word has: the number of its ones; session s is bit s - 1. Entry e's three words stand from store[16 + 3 * (e - 1)] on:
- * its value, its share holders, its exclusive holders. */
+/* How many sessions a holders word has: the number of its ones; session s is bit s - 1. Entry e's words stand from store[entry_store_words(e - 1, 0)]
+ * on: its value, its share holders, its exclusive holders. */
 uint32_t entry_store_lock_count(uint32_t holders);
 
 /* The first part of soundness that store and table break (enum entry_store_part), 0 for none: the test that every call but format makes. It changes
@@ -218,10 +228,14 @@ enum entry_store_part {
     ENTRY_STORE_PART_GROUPS = 8,     /* groups: members, holders, seize counts; a locate holds every key it has passed */
     ENTRY_STORE_PART_FREE_CHAIN = 9, /* the free chain goes only to records that nothing else reaches */
     ENTRY_STORE_PART_UNREACHED = 10, /* every record is reached */
-    ENTRY_STORE_PART_TABLE = 11      /* the table is of 17 records */
+    ENTRY_STORE_PART_TABLE = 11      /* the table is of ENTRY_STORE_PARTIES records */
 };
 
 /* ---- names */
+
+/* A number that a macro names, as a text. */
+#define ENTRY_STORE_TEXT(number) ENTRY_STORE_TEXT_OF(number)
+#define ENTRY_STORE_TEXT_OF(text) #text
 
 static inline const char *entry_store_word_text(uint32_t word)
 {
@@ -238,7 +252,7 @@ static inline const char *entry_store_word_text(uint32_t word)
 static inline const char *entry_store_refusal_text(uint32_t refusal)
 {
     switch (refusal) {
-    case ENTRY_STORE_TABLE: return "the table is not of 17 records";
+    case ENTRY_STORE_TABLE: return "the table is not of " ENTRY_STORE_TEXT(ENTRY_STORE_PARTIES) " records";
     case ENTRY_STORE_UNSOUND: return "store or table is not sound";
     case ENTRY_STORE_SIZES: return "format sizes are out of bounds";
     case ENTRY_STORE_PARTY: return "no such party, or the housekeeper in begin, commit or abort";

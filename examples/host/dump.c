@@ -47,12 +47,12 @@ static int is_record(const struct dump *d, uint32_t i)
 // Word k of record i, which is a record.
 static uint32_t word(const struct dump *d, uint32_t i, uint32_t k)
 {
-    return d->host.words[HEADER_WORDS + ENTRY_WORDS * d->entries + RECORD_WORDS * (i - 1) + k];
+    return d->host.words[entry_store_words(d->entries, i - 1) + k];
 }
 
 static uint32_t entry_word(const struct dump *d, uint32_t e, uint32_t k)
 {
-    return d->host.words[HEADER_WORDS + ENTRY_WORDS * (e - 1) + k];
+    return d->host.words[entry_store_words(e - 1, 0) + k];
 }
 
 // Whether i is a record that is met for the first time.

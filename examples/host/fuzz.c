@@ -64,15 +64,22 @@ static int one_in(uint32_t n)
 // Words that are likely to be on an edge.
 static uint32_t odd_word(void)
 {
-    static const uint32_t edges[] = {0,    1,    2,    3,    8,    15,         16,         17,         18,
-                                     1023, 1024, 1025, 4095, 4096, 4097,       0x7fffffff, 0x80000000, 0xffff,
-                                     20,   19,   21,   7,    9,    0xfffffffd, 0xfffffffe, 0xffffffff};
+    enum { PARTIES = ENTRY_STORE_PARTIES };
+    static const uint32_t edges[] = {
+        0,    1,    2,    3,    8,    PARTIES - 2, PARTIES - 1, PARTIES,    PARTIES + 1,
+        1023, 1024, 1025, 4095, 4096, 4097,        0x7fffffff,  0x80000000, 0xffff,
+        20,   19,   21,   7,    9,    0xfffffffd,  0xfffffffe,  0xffffffff};
     return one_in(2) ? edges[below(sizeof edges / sizeof edges[0])] : any_word();
 }
 
 // ---- lent memory between two pages that may not be touched
 
-enum { MAX_STORE = 16 + 3 * 1024 + 20 * 4096 + 64, MAX_TABLE = 24, MAX_LIST = 4096, PATTERN = 0xa5 };
+enum {
+    MAX_STORE = ENTRY_STORE_MAX_WORDS + 64,
+    MAX_TABLE = ENTRY_STORE_PARTIES + 7,
+    MAX_LIST = 4096,
+    PATTERN = 0xa5
+};
 
 struct lent {
     unsigned char *room; // between the two pages
@@ -245,10 +252,9 @@ static void on_signal(int number)
 
 static uint32_t format_refusal(uint32_t m)
 {
-    if (m < 1 || m > 1024 || store_len < 16 + 3 * (size_t)m) {
-        return ENTRY_STORE_SIZES;
-    }
-    return (store_len - 16 - 3 * (size_t)m) / 20 < 8 ? ENTRY_STORE_SIZES : 0;
+    int fits = m >= ENTRY_STORE_MIN_ENTRIES && m <= ENTRY_STORE_MAX_ENTRIES &&
+               store_len >= entry_store_words(m, ENTRY_STORE_MIN_RECORDS);
+    return fits ? 0 : ENTRY_STORE_SIZES;
 }
 
 static int infinite(uint32_t key)
@@ -277,7 +283,7 @@ static uint32_t request_refusal(const struct asked *a)
 // The checks 4, 5 and 7 of a party.
 static uint32_t party_refusal(const struct asked *a)
 {
-    if (a->party > 16 || (a->party == 0 && a->call != PUT && a->call != STEP)) {
+    if (a->party > ENTRY_STORE_SESSIONS || (a->party == 0 && a->call != PUT && a->call != STEP)) {
         return ENTRY_STORE_PARTY;
     }
     const struct entry_store_session *s = &old_table()[a->party];
@@ -294,7 +300,7 @@ static uint32_t party_refusal(const struct asked *a)
 // fault is that of store and table before the call.
 static uint32_t expected_refusal(const struct asked *a, uint32_t fault)
 {
-    if (table_len != 17) {
+    if (table_len != ENTRY_STORE_PARTIES) {
         return ENTRY_STORE_TABLE;
     }
     if (a->call == FORMAT) {
@@ -371,7 +377,7 @@ static void only_own_record(void)
 
 static size_t words_in_use(void)
 {
-    return 16 + 3 * (size_t)store[0] + 20 * (size_t)store[1];
+    return entry_store_words(store[0], store[1]);
 }
 
 static void words_beyond_kept(void)
@@ -387,11 +393,11 @@ static void words_beyond_kept(void)
 static int ends_with_request(size_t k)
 {
     const struct entry_store_session *r = &old_table()[now.party];
-    size_t records = 16 + 3 * (size_t)store[0];
+    size_t records = entry_store_words(store[0], 0);
     if (k < records) {
         return 0;
     }
-    size_t i = (k - records) / 20 + 1, at = (k - records) % 20;
+    size_t i = (k - records) / ENTRY_STORE_RECORD_WORDS + 1, at = (k - records) % ENTRY_STORE_RECORD_WORDS;
     return (r->stage == 3 && i == r->at && at == 0) || ((i == r->low || i == r->high) && at == 5);
 }
 
@@ -411,7 +417,7 @@ static void only_request_ended(void)
 static void facts_of_wait(struct entry_store_answer a)
 {
     nothing_changed();
-    fact(a.value <= 16, "wait names a party");
+    fact(a.value <= ENTRY_STORE_SESSIONS, "wait names a party");
     fact(a.value != now.party, "wait never names the caller");
     fact(a.value == 0 ? table[0].stage != 0 : table[a.value].begun != 0, "wait names a party that has begun");
 }
@@ -434,7 +440,7 @@ static void facts_of_pairs(uint32_t count, const struct entry_store_session *r)
 static void facts_of_done(struct entry_store_answer a, uint32_t count)
 {
     const struct entry_store_session *r = &old_table()[now.party];
-    const uint32_t *entry = store + 16 + 3 * (size_t)(r->code <= 4 ? r->entry - 1 : 0);
+    const uint32_t *entry = store + entry_store_words(r->code <= 4 ? r->entry - 1 : 0, 0);
     fact(r->stage != 0, "done needs a request in hand");
     fact(table[now.party].stage == 0, "done ends the request");
     fact((count == 2) == (r->code == 6), "a tidy's done has two numbers, any other one");
@@ -491,7 +497,7 @@ static void facts_of_format(void)
 {
     fact(unchanged(&list_room), "format leaves the list");
     fact(store[0] == now.entry, "format sets M");
-    for (size_t p = 0; p < 17; p++) {
+    for (size_t p = 0; p < ENTRY_STORE_PARTIES; p++) {
         fact((p == 0 || table[p].begun == 0) && table[p].stage == 0, "format clears the table");
     }
 }
@@ -521,7 +527,7 @@ static int ends_request(struct entry_store_answer a)
 }
 
 static uint64_t counts[CALLS][5 + 13];
-static int waits[17]; // the party's last call answered wait
+static int waits[ENTRY_STORE_PARTIES]; // the party's last call answered wait
 
 // What the runs have reached.
 static struct {
@@ -534,7 +540,7 @@ static struct {
 static void count(struct entry_store_answer a)
 {
     counts[now.call][a.word == ENTRY_STORE_REFUSED ? 4 + a.number : a.word] += 1;
-    if (now.party <= 16) {
+    if (now.party <= ENTRY_STORE_SESSIONS) {
         waits[now.party] = a.word == ENTRY_STORE_WAIT;
     }
     if (a.word == ENTRY_STORE_DONE) {
@@ -553,7 +559,7 @@ static struct entry_store_answer call(struct asked asked)
     keep(&list_room);
     uint32_t fault = entry_store_fault(store, store_len, table, table_len);
     nothing_changed();
-    fact(fault <= 11 && (fault == 11) == (table_len != 17),
+    fact(fault <= 11 && (fault == 11) == (table_len != ENTRY_STORE_PARTIES),
          "a part of soundness is 1 to 11, 11 for a wrong table");
     uint64_t bits = make_call(&now);
     struct entry_store_answer a = entry_store_unpack(bits);
@@ -640,7 +646,7 @@ static struct asked sensible_call(uint32_t party)
 static struct asked random_call(void)
 {
     uint32_t party = random_party();
-    if (party < table_len && party <= 16 && !one_in(wild)) {
+    if (party < table_len && party <= ENTRY_STORE_SESSIONS && !one_in(wild)) {
         return sensible_call(party);
     }
     struct asked a = random_put(party);
@@ -681,7 +687,7 @@ static void choose_arguments(void)
 {
     static const uint32_t spans[] = {3, 12, 40, 300, 4294967293u};
     key_span = spans[below(5)];
-    party_span = 1 + below(one_in(3) ? 16 : 4);
+    party_span = 1 + below(one_in(3) ? ENTRY_STORE_SESSIONS : 4);
     wild = one_in(4) ? 6 : one_in(2) ? 60 : 1000;
 }
 
@@ -689,7 +695,7 @@ static void choose_arguments(void)
 static void fresh_store(uint32_t m, uint32_t r, uint32_t beyond)
 {
     lend_store(entry_store_words(m, r) + beyond);
-    lend_table(17);
+    lend_table(ENTRY_STORE_PARTIES);
     fill(&store_room, one_in(2));
     fill(&table_room, one_in(2));
     struct asked format = {FORMAT, 0, 0, m, 0, 0};
@@ -748,16 +754,16 @@ static uint32_t run_length(void)
 // A place in the store that is likely to be in use.
 static size_t used_place(void)
 {
-    size_t records = 16 + 3 * (size_t)store[0];
+    size_t records = entry_store_words(store[0], 0);
     switch (below(6)) {
     case 0:
         return below(6);
     case 1:
-        return 16 + below((uint32_t)records - 16);
+        return ENTRY_STORE_HEADER_WORDS + below((uint32_t)records - ENTRY_STORE_HEADER_WORDS);
     case 2:
         return below((uint32_t)store_len);
     default:
-        return records + 20 * (size_t)below(store[1]) + (one_in(4) ? 9 + below(4) : below(7));
+        return entry_store_words(store[0], below(store[1])) + (one_in(4) ? 9 + below(4) : below(7));
     }
 }
 
@@ -780,7 +786,9 @@ static uint32_t damaged_word(uint32_t w)
 static void damaged_calls(void)
 {
     int in_table = one_in(4);
-    uint32_t *word = in_table ? (uint32_t *)(void *)table + below(17 * 13) : store + used_place();
+    uint32_t *word = in_table
+                         ? (uint32_t *)(void *)table + below(ENTRY_STORE_PARTIES * ENTRY_STORE_SESSION_WORDS)
+                         : store + used_place();
     uint32_t kept = *word;
     *word = damaged_word(kept);
     if (*word == kept) {
@@ -811,7 +819,7 @@ static void damaged_run(void)
 static void garbage_run(void)
 {
     lend_store(one_in(8) ? below(20) : below(400));
-    lend_table(one_in(2) ? 17 : below(MAX_TABLE));
+    lend_table(one_in(2) ? ENTRY_STORE_PARTIES : below(MAX_TABLE));
     fill(&store_room, one_in(2));
     fill(&table_room, one_in(2));
     for (uint32_t k = 0; k < 12; k++) {
@@ -827,7 +835,7 @@ static void garbage_run(void)
 static void wrong_table_run(void)
 {
     fresh_run();
-    lend_table((17 + 1 + below(MAX_TABLE - 2)) % (MAX_TABLE - 1));
+    lend_table((ENTRY_STORE_PARTIES + 1 + below(MAX_TABLE - 2)) % (MAX_TABLE - 1));
     fill(&table_room, 1);
     random_calls(10);
     struct asked format = {FORMAT, 0, 0, 1 + below(12), 0, 0};

@@ -7,7 +7,7 @@
 #include <string.h>
 #include <unistd.h>
 
-enum { MAGIC_BYTES = 8, HEAD_BYTES = 20, WORD_BYTES = 4, FIELDS = 13 };
+enum { MAGIC_BYTES = 8, HEAD_BYTES = 20, WORD_BYTES = 4, FIELDS = ENTRY_STORE_SESSION_WORDS };
 
 // More than any store needs: words beyond 4,096 records are never touched.
 enum { MAX_IMAGE_WORDS = 1 << 24 };
@@ -49,7 +49,7 @@ static size_t image_bytes(size_t words)
     return HEAD_BYTES + WORD_BYTES * (words + (size_t)ENTRY_STORE_PARTIES * FIELDS);
 }
 
-// ---- a record of the table as 13 words
+// ---- a record of the table as words
 
 static void session_to_words(const struct entry_store_session *s, uint32_t *w)
 {

@@ -7,10 +7,10 @@
 //   bytes    what, in words of four bytes, the lowest byte first
 //   0        the letters ENTRYST1
 //   8        number of words of the store, n
-//   12       number of records of the table: 17
+//   12       number of records of the table
 //   16       CRC-32 of all that follows
 //   20       the n words of the store
-//   20 + 4n  the 17 records, 13 words each, fields in the header file's order
+//   20 + 4n  the records, fields in the header file's order
 //
 // The soundness test sees damage to the structure, but any value of an entry
 // is sound: the sum sees those too.

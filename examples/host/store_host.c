@@ -161,7 +161,7 @@ static const char *const parts[] = {
     "be undone newest first; no record is reached twice",
     "the free chain goes only to records that nothing else reaches",
     "every record is reached",
-    "the table has 17 records",
+    "the table has " ENTRY_STORE_TEXT(ENTRY_STORE_PARTIES) " records",
 };
 
 const char *part_in_full(uint32_t part)

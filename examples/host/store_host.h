@@ -9,9 +9,6 @@
 
 #include "entry_store.h"
 
-// Words of a store (docs/STORE.md).
-enum { HEADER_WORDS = 16, ENTRY_WORDS = 3, RECORD_WORDS = 20 };
-
 // The stages of a request in hand (docs/STORE.md).
 enum { NO_REQUEST, AT_START, ENTERING, AT_NODE, CHANGING, TAKING };
 

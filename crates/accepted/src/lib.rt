@@ -108,7 +108,7 @@ pub fn format(store: &mut [u32], t: [Session; PARTIES], m: u32) -> Served
     ensures { λ r. ⌜ Formats m (now (store .entry)) t (said (r .answer)) (now (store .exit)) (r .table) ⌝ }
 {
     let entries = m as usize;
-    let r = meaning::records_for(entries, store.len());
+    let r = words::records_for(entries, store.len());
     endings::fresh_store(store, entries, r);
     let after = fresh_table();
     Served {

@@ -8,8 +8,6 @@
 ghost use mathlib.Core.Path.{_≡_};
 ghost use Rattle.words.specs.Store.{HasRecord};
 ghost use Rattle.words.specs.Header.{headerWord, freePlace};
-ghost use Rattle.nodes.specs.Paths.{sonToward};
-ghost use Rattle.descents.specs.Descents.{Toward};
 ghost use Rattle.finishing.specs.Finishing.{Endable};
 ghost use Rattle.outcomes.specs.Said.{moved};
 ghost use Rattle.arriving.specs.Arriving.{staged, toChange, toSecond, toTake, arrivedAt, pinStep, predOf, makeAt, madeStep, fullStep, makeStep, tidyAt, goneStep, leftStep, tidyStep, sessionStep, lowestStep};
@@ -81,17 +79,6 @@ fn arrive_at(x: Session, d: u32) -> Session
 
 // ---- descriptors
 
-// The descriptor on the path to a key.
-fn son_toward(store: &[u32], m: usize, at: usize, key: u32) -> usize
-    requires { ⌜ Toward (now store) m at key ⌝ }
-    ensures { λ r. ⌜ r ≡ sonToward (now (store .entry)) m at key ⌝ }
-{
-    let p = nodes::load_node(store, m, at);
-    let i = nodes::find_son(p, key);
-    let d = nodes::node_son(store, m, at, i) as usize;
-    d
-}
-
 // The descriptor before a key.
 fn pred_of(store: &[u32], m: usize, r: usize, key: u32) -> usize
     requires { ⌜ PredReady (now store) m r key ⌝ }
@@ -109,7 +96,7 @@ pub fn pin_step(store: &mut [u32], m: usize, x: Session) -> Moved
     ensures { λ r. ⌜ (now (store .exit) ≡ pinStep (now (store .entry)) m x .words) × (r ≡ moved (pinStep (now (store .entry)) m x)) ⌝ }
 {
     let at = x.at as usize;
-    let d = son_toward(store, m, at, x.target);
+    let d = descents::son_toward(store, m, at, x.target);
     nodes::set_latch(store, m, at, 0);
     members::pin_at(store, m, d);
     Moved {
@@ -212,7 +199,7 @@ pub fn tidy_step(store: &mut [u32], m: usize, r: usize, x: Session) -> Moved
     ensures { λ z. ⌜ (now (store .exit) ≡ tidyStep (now (store .entry)) m r x .words) × (z ≡ moved (tidyStep (now (store .entry)) m r x)) ⌝ }
 {
     let at = x.at as usize;
-    let d = son_toward(store, m, at, x.target);
+    let d = descents::son_toward(store, m, at, x.target);
     let b = pred_of(store, m, r, x.target);
     let gap = groups::descriptor_gap(store, m, b);
     let v = groups::load_descriptor(store, m, d);
@@ -229,7 +216,7 @@ fn session_step(store: &mut [u32], m: usize, r: usize, x: Session) -> Moved
     ensures { λ z. ⌜ (now (store .exit) ≡ sessionStep (now (store .entry)) m r x .words) × (z ≡ moved (sessionStep (now (store .entry)) m r x)) ⌝ }
 {
     let at = x.at as usize;
-    let d = son_toward(store, m, at, x.target);
+    let d = descents::son_toward(store, m, at, x.target);
     let key = words::word(store, m, d, 1);
     if key == x.target {
         return pin_step(store, m, x);

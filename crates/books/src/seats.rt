@@ -1,5 +1,7 @@
-// Seats: the session table of a side, 13 words a party.
+// Seats: the session table of a side.
+use schedules::side::SESSION_WORDS;
 use schedules::side::Side;
+use schedules::side::TABLE;
 use schedules::side::set_word;
 use schedules::side::word;
 use schedules::words::wide;
@@ -8,7 +10,7 @@ use sessions::Session;
 
 // Word k of party p's record.
 fn seat_word(s: &Side, p: usize, k: usize) -> u32 {
-    word(s, 13 * (p % PARTIES) + k % 13)
+    word(s, SESSION_WORDS * (p % PARTIES) + k % SESSION_WORDS)
 }
 
 fn seat(s: &Side, p: usize) -> Session {
@@ -61,14 +63,15 @@ fn field(x: Session, k: usize) -> u32 {
 
 pub fn set_table(s: &mut Side, t: [Session; PARTIES]) {
     let mut i = 0;
-    while i < 221 {
-        let x = t[i / 13];
-        set_word(s, i, field(x, i % 13));
+    while i < TABLE {
+        let x = t[i / SESSION_WORDS];
+        set_word(s, i, field(x, i % SESSION_WORDS));
         i += 1;
     }
 }
 
 // Is session p begun?
 pub fn is_begun(s: &Side, p: u32) -> bool {
-    0 < p && p < 17 && word(s, 13 * wide(p)) != 0
+    let at = wide(p);
+    0 < at && at < PARTIES && word(s, SESSION_WORDS * at) != 0
 }

@@ -14,6 +14,7 @@ use super::reach::found;
 use super::reach::item;
 use super::reach::place_of;
 use super::requests::party_keeps;
+use super::table::PARTIES;
 use super::table::Table;
 use super::tree::descriptor_keeps;
 use super::tree::node_keeps;
@@ -144,7 +145,7 @@ fn all_parties_keep(s: &[u32], t: &Table, list: &List, n: u32, c: u32) -> bool {
         return true;
     }
     let mut p = 0;
-    while p < 17 {
+    while p < PARTIES {
         if !party_keeps(s, t, list, n, c, p) {
             return false;
         }

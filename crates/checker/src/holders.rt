@@ -1,5 +1,6 @@
 // Holders: the clauses on long locks.
 use super::table::BEGUN;
+use super::table::PARTIES;
 use super::table::Table;
 use super::table::said;
 
@@ -7,7 +8,7 @@ use super::table::said;
 pub fn are_begun(t: &Table, holders: u32) -> bool {
     let mut left = holders;
     let mut p = 1;
-    while p < 17 {
+    while p < PARTIES {
         if (left % 2 == 1) & (said(t, p, BEGUN) == 0) {
             return false;
         }

@@ -18,6 +18,7 @@ use clauses::SIZES;
 use clauses::keeps;
 use reach::reach;
 use sessions::Session;
+use table::ROWS;
 use table::rows;
 use words::ENTRIES;
 use words::RECORDS;
@@ -25,13 +26,13 @@ use words::are_sizes;
 use words::word;
 
 // Are store and session table sound? No clause refuses.
-pub fn sound_by_paper(store: &[u32], t: [Session; 17]) -> bool {
+pub fn sound_by_paper(store: &[u32], t: [Session; ROWS]) -> bool {
     are_sizes(store.len(), word(store, ENTRIES), word(store, RECORDS))
         && is_only_refusal(store, t, CLAUSES)
 }
 
 // Does this clause, and no other, refuse store and table? The clauses one after the other, up to the first that says otherwise.
-pub fn is_only_refusal(store: &[u32], t: [Session; 17], clause: u32) -> bool {
+pub fn is_only_refusal(store: &[u32], t: [Session; ROWS], clause: u32) -> bool {
     let table = rows(t);
     let mut list = [[0u32; 4]; 4100];
     let n = reach(store, &table, &mut list);

@@ -1,4 +1,5 @@
 // Reach: the list of the records as they are reached, from the root, the descriptors' members, the sessions' undo chains and the free chain.
+use super::table::PARTIES;
 use super::table::Table;
 use super::table::said;
 use super::words::COUNT;
@@ -119,7 +120,7 @@ fn reach_groups(s: &[u32], list: &mut List) -> u32 {
 pub fn reach(s: &[u32], t: &Table, list: &mut List) -> u32 {
     let mut end = reach_groups(s, list);
     let mut p = 1;
-    while p < 17 {
+    while p < PARTIES {
         end = reach_chain(s, list, end, said(t, p, super::table::UNDO), UNDO, p);
         p += 1;
     }

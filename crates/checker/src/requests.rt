@@ -34,6 +34,7 @@ use super::table::HIGH;
 use super::table::LAST;
 use super::table::LOW;
 use super::table::NONE;
+use super::table::PARTIES;
 use super::table::SECOND;
 use super::table::STAGE;
 use super::table::START;
@@ -80,7 +81,7 @@ fn pinned(t: &Table, p: u32) -> u32 {
 pub fn pins(t: &Table, key: u32) -> u32 {
     let mut count = 0;
     let mut p = 0;
-    while p < 17 {
+    while p < PARTIES {
         let all = pinned(t, p);
         let is_first = (0 < all) & (said(t, p, FIRST) == key);
         if is_first | (1 < all) & (said(t, p, SECOND) == key) {

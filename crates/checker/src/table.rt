@@ -2,7 +2,14 @@
 use super::words::wide;
 use sessions::Session;
 
-pub type Table = [[u32; 13]; 17];
+// How many parties there are, as a number and as so many rows, and the words of a row.
+pub const PARTIES: u32 = 17;
+
+pub const ROWS: usize = PARTIES as usize;
+
+const ROW_WORDS: usize = 13;
+
+pub type Table = [[u32; ROW_WORDS]; ROWS];
 
 // The fields of a party's row.
 pub const BEGUN: usize = 0;
@@ -44,7 +51,7 @@ pub const CHANGE: u32 = 4;
 
 pub const TAKE: u32 = 5;
 
-fn row(x: Session) -> [u32; 13] {
+fn row(x: Session) -> [u32; ROW_WORDS] {
     [
         x.begun,
         x.code,
@@ -62,10 +69,10 @@ fn row(x: Session) -> [u32; 13] {
     ]
 }
 
-pub fn rows(t: [Session; 17]) -> Table {
-    let mut w = [[0u32; 13]; 17];
+pub fn rows(t: [Session; ROWS]) -> Table {
+    let mut w = [[0u32; ROW_WORDS]; ROWS];
     let mut p = 0;
-    while p < 17 {
+    while p < ROWS {
         w[p] = row(t[p]);
         p += 1;
     }
@@ -74,5 +81,9 @@ pub fn rows(t: [Session; 17]) -> Table {
 
 // Field k of party p's row; 0 for a party that there is not.
 pub fn said(t: &Table, p: u32, k: usize) -> u32 {
-    if p < 17 { t[wide(p)][k % 13] } else { 0 }
+    if p < PARTIES {
+        t[wide(p)][k % ROW_WORDS]
+    } else {
+        0
+    }
 }

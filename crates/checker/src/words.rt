@@ -1,6 +1,14 @@
 // Words: where the words of a store lie (docs/STORE.md). A word that is not there reads as 0.
 ghost use mathlib.Core.Path.{_≡_};
 ghost use Prim.Native.Nat.{_≤_};
+use super::table::PARTIES;
+
+// How many words the header has, an entry and a record.
+const HEADER_WORDS: usize = 16;
+
+const ENTRY_WORDS: usize = 3;
+
+const RECORD_WORDS: usize = 20;
 
 // The words of the header.
 pub const ENTRIES: usize = 0;
@@ -82,7 +90,8 @@ pub fn field(s: &[u32], i: u32, k: u32) -> u32 {
     if records(s) < i {
         return 0;
     }
-    word(s, 3 * wide(word(s, ENTRIES)) + 20 * wide(i) + wide(k) - 4)
+    let start = HEADER_WORDS + ENTRY_WORDS * wide(word(s, ENTRIES));
+    word(s, start + RECORD_WORDS * (wide(i) - 1) + wide(k))
 }
 
 // Word k of entry e.
@@ -93,7 +102,7 @@ pub fn entry_field(s: &[u32], e: u32, k: u32) -> u32 {
     if word(s, ENTRIES) < e {
         return 0;
     }
-    word(s, 13 + 3 * wide(e) + wide(k))
+    word(s, HEADER_WORDS + ENTRY_WORDS * (wide(e) - 1) + wide(k))
 }
 
 // Is session p among the holders?
@@ -101,7 +110,7 @@ pub fn is_holder(holders: u32, p: u32) -> bool {
     if p < 1 {
         return false;
     }
-    if 16 < p {
+    if PARTIES <= p {
         return false;
     }
     holders & (1 << (p - 1)) != 0
@@ -109,11 +118,11 @@ pub fn is_holder(holders: u32, p: u32) -> bool {
 
 // "the header's M and R are those format gives for this length"
 pub fn are_sizes(words: usize, m: u32, r: u32) -> bool {
-    let start = 16 + 3 * wide(m);
+    let start = HEADER_WORDS + ENTRY_WORDS * wide(m);
     if words < start {
         return false;
     }
-    let room = (words - start) / 20;
+    let room = (words - start) / RECORD_WORDS;
     let most = if room < 4096 { room } else { 4096 };
     1 <= m && m <= 1024 && 8 <= room && wide(r) == most
 }

@@ -3,6 +3,7 @@ use crate::keys::any_word;
 use crate::keys::some_descriptor;
 use crate::keys::some_entry;
 use crate::keys::some_key;
+use crate::kinds::ALL;
 use crate::kinds::set_phase;
 use crate::shares::COMMITS;
 use crate::shares::HOUSEKEEPER;
@@ -26,6 +27,11 @@ use schedules::random::chance;
 use schedules::random::random;
 use schedules::reading::field;
 use schedules::reading::key_of;
+use schedules::side::ENTRY_WORDS;
+use schedules::side::HEADER_WORDS;
+use schedules::side::LARGEST;
+use schedules::side::PARTIES;
+use schedules::side::RECORD_WORDS;
 use schedules::side::Side;
 use std::num::wrapping_add_u32;
 use std::num::wrapping_sub_u32;
@@ -72,18 +78,25 @@ fn format(entries: u32, words: u32) -> Call {
     }
 }
 
+// The words of the smallest store besides those of its entries, the words of an entry, and those of the largest store.
+const LEAST: u32 = (HEADER_WORDS + 8 * RECORD_WORDS) as u32;
+
+const ENTRY: u32 = ENTRY_WORDS as u32;
+
+const MOST: u32 = LARGEST as u32;
+
 // A format of too few words.
 fn small_format(b: &mut Book) -> Call {
     let m = 1 + below(b, 32) % 32;
     let less = wrapping_add_u32(below(b, 20), 1);
-    format(m, wrapping_sub_u32(176 + 3 * m, less))
+    format(m, wrapping_sub_u32(LEAST + ENTRY * m, less))
 }
 
 // A format that is refused: of no entries, of too many, or of too few words.
 fn bad_format(b: &mut Book) -> Call {
     match below(b, 3) {
-        0 => format(0, below(b, 14112)),
-        1 => format(wrapping_add_u32(below(b, 4), 1025), 14112),
+        0 => format(0, below(b, MOST)),
+        1 => format(wrapping_add_u32(below(b, 4), 1025), MOST),
         _ => small_format(b),
     }
 }
@@ -98,7 +111,7 @@ fn mostly_below(b: &mut Book, n: u32) -> u32 {
 fn any_call(b: &mut Book, kind: u32) -> Call {
     Call {
         kind: kind,
-        party: mostly_below(b, 19),
+        party: mostly_below(b, PARTIES + 2),
         code: mostly_below(b, 8),
         entry: any_word(b),
         first: any_word(b),
@@ -299,7 +312,7 @@ pub fn next(s: &Side, a: &Model, b: &mut Book, turn: u32) -> Call {
     choose(s, a, b)
 }
 
-// Session i of a sequence of all sixteen, which x picks.
+// Session i of a sequence of all, which x picks.
 pub fn in_sequence(x: u32, i: u32) -> u32 {
-    1 + wrapping_add_u32(x >> 8, i ^ (x % 16)) % 16
+    1 + wrapping_add_u32(x >> 8, i ^ (x % ALL)) % ALL
 }

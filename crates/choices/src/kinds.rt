@@ -20,24 +20,31 @@ use schedules::book::get;
 use schedules::book::put;
 use schedules::book::put_five;
 use schedules::random::below;
+use schedules::side;
+use schedules::side::ENTRY_WORDS;
+use schedules::side::HEADER_WORDS;
+use schedules::side::RECORD_WORDS;
 use std::num::wrapping_add_u32;
 
 // How many kinds of rounds there are.
 const KINDS: u32 = 10;
 
+// All sessions.
+pub const ALL: u32 = side::SESSIONS;
+
 // Sessions, entries and records of a kind; which keys, and how many of them.
 fn kind(number: u32) -> [u32; 5] {
     match number {
         0 => [6, 3, 8, 0, 12],
-        1 => [16, 16, 40, 0, 40],
+        1 => [ALL, 16, 40, 0, 40],
         2 => [6, 8, 24, 0, 12],
-        3 => [16, 32, 200, 1, 60],
+        3 => [ALL, 32, 200, 1, 60],
         4 => [6, 2, 20, 2, 20],
-        5 => [16, 32, 700, 0, 400],
+        5 => [ALL, 32, 700, 0, 400],
         6 => [6, 24, 40, 1, 20],
-        7 => [16, 20, 200, 2, 300],
+        7 => [ALL, 20, 200, 2, 300],
         8 => [6, 32, 700, 1, 200],
-        _ => [16, 5, 32, 0, 12],
+        _ => [ALL, 5, 32, 0, 12],
     }
 }
 
@@ -59,12 +66,19 @@ fn asked(records: u32) -> u32 {
     if records < 100 { 2 } else { 1 + records / 8 }
 }
 
+// The words of the header, of an entry and of a record.
+const HEADER: u32 = HEADER_WORDS as u32;
+
+const ENTRY: u32 = ENTRY_WORDS as u32;
+
+const RECORD: u32 = RECORD_WORDS as u32;
+
 fn set_size(b: &mut Book, records: u32) {
     put(b, RECORDS, records);
     put(b, TURNS, turns(records));
     put(b, ASKED, asked(records));
     let m = get(b, ENTRIES);
-    let fit = 16 + 3 * (m % 64) + 20 * (records % 1024);
+    let fit = HEADER + ENTRY * (m % 64) + RECORD * (records % 1024);
     let words = wrapping_add_u32(fit, below(b, 20));
     put(b, WORDS, words);
 }

@@ -9,6 +9,7 @@ use choices::choose::in_sequence;
 use schedules::book::Book;
 use schedules::book::get;
 use schedules::random::random;
+use schedules::side::SESSIONS;
 use schedules::side::SIDE;
 use schedules::side::Side;
 use schedules::side::copy;
@@ -25,7 +26,7 @@ fn abort_one(s: &mut Side, b: &mut Book, p: u32) {
 fn abort_all(s: &mut Side, b: &mut Book) {
     let x = random(b);
     let mut i = 0;
-    while i < 16 {
+    while i < SESSIONS {
         abort_one(s, b, in_sequence(x, i));
         i += 1;
     }

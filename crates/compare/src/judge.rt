@@ -8,15 +8,16 @@ use books::checks::is_sound;
 use books::checks::note_damage;
 use schedules::book::Book;
 use schedules::book::get;
+use schedules::side::PARTIES;
 use schedules::side::Side;
 use schedules::side::set_word;
 use schedules::side::word;
 use turns::damage::other;
 use turns::damage::place;
 
-// Party 17 is refused by 4, and by 2 before that.
+// A number that is no party's is refused by 4, and by 2 before that.
 fn is_taken(s: &mut Side, b: &mut Book, words: u32) -> bool {
-    let x = on_store(s, b, words, plain(BEGIN, 17));
+    let x = on_store(s, b, words, plain(BEGIN, PARTIES));
     x.first != 2
 }
 

@@ -14,6 +14,7 @@ use choices::kinds::start;
 use schedules::book::Book;
 use schedules::book::get;
 use schedules::random::random;
+use schedules::side::SESSIONS;
 use schedules::side::Side;
 
 fn turns(s: &mut Side, a: &mut Model, b: &mut Book) {
@@ -40,7 +41,7 @@ fn end_one(s: &mut Side, a: &mut Model, b: &mut Book, p: u32) {
 fn end(s: &mut Side, a: &mut Model, b: &mut Book) {
     let x = random(b);
     let mut i = 0;
-    while i < 16 {
+    while i < SESSIONS {
         end_one(s, a, b, in_sequence(x, i));
         i += 1;
     }

@@ -8,6 +8,7 @@ use super::values::LENGTHS;
 use super::values::VALUES;
 use super::values::length;
 use super::values::value;
+use samples::words::PARTIES;
 use samples::words::STORE;
 use samples::words::Words;
 use samples::words::get;
@@ -15,6 +16,11 @@ use samples::words::party_place;
 use samples::words::put;
 use samples::words::wide;
 use sessions::Session;
+
+// How many parties the session table has, and how many words.
+const ALL: u32 = PARTIES as u32;
+
+const TABLE: u32 = STORE as u32;
 
 fn field(w: &Words, p: u32, k: u32) -> u32 {
     get(w, party_place(p, k))
@@ -38,10 +44,10 @@ fn session(w: &Words, p: u32) -> Session {
     }
 }
 
-fn table(w: &Words) -> [Session; 17] {
-    let mut t = [session(w, 0); 17];
+fn table(w: &Words) -> [Session; PARTIES] {
+    let mut t = [session(w, 0); PARTIES];
     let mut p = 1;
-    while p < 17 {
+    while p < ALL {
         t[wide(p)] = session(w, p);
         p += 1;
     }
@@ -98,7 +104,7 @@ pub fn damage(w: &mut Words, words: u32) {
     let mut r = if 1000 < words {
         LENGTHS
     } else {
-        LENGTHS + VALUES * (221 + words)
+        LENGTHS + VALUES * (TABLE + words)
     };
     while 0 < r {
         r -= 1;

@@ -1,8 +1,13 @@
 // Values: what a word is changed to, and the length of a store.
+use samples::words::PARTIES;
 use samples::words::STORE;
 use samples::words::Words;
+use samples::words::bit;
 use samples::words::get;
 use samples::words::wide;
+
+// How many parties there are: a bit more than the sessions have.
+const ALL: u32 = PARTIES as u32;
 
 pub const VALUES: u32 = 13;
 
@@ -21,7 +26,7 @@ pub fn value(w: &Words, words: u32, i: u32, x: u32, k: u32) -> u32 {
             }
         }
         11 => 4294967295,
-        12 => x ^ (1 << (i % 17)),
+        12 => x ^ bit(i % ALL + 1),
         _ => k,
     }
 }

@@ -12,11 +12,10 @@ use Rattle.descents.specs.Descents.{plainSon, beside, insertLeaf, remove
 
 -- ---- one level down
 
-pub enter-run : (s : List ℕ) {s₁ s₂ : List ℕ} {p : Node} {i son : ℕ} (m at key w : ℕ)
-    → p ≡ nodeAt s m at → i ≡ sonFor p key → son ≡ sonAt s m at i → s₁ ≡ latchAt s m at 0 → s₂ ≡ latchAt s₁ m son w
+pub enter-run : (s : List ℕ) {s₁ s₂ : List ℕ} {son : ℕ} (m at key w : ℕ) → son ≡ sonToward s m at key → s₁ ≡ latchAt s m at 0 → s₂ ≡ latchAt s₁ m son w
     → (son ≡ sonToward s m at key) × (s₂ ≡ plainSon s m at key w)
 unfolding plainSon
-enter-run s m at key w a b c d e = (cc, cc)
+enter-run s m at key w a b c = (a, cc)
 
 -- ---- a lowest node
 

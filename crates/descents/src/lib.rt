@@ -63,14 +63,23 @@ pub fn has_free(store: &[u32], m: usize, n: u32) -> bool
 
 // ---- one level down
 
+// The son of node `at` on the path to a key.
+pub fn son_toward(store: &[u32], m: usize, at: usize, key: u32) -> usize
+    requires { ⌜ Toward (now store) m at key ⌝ }
+    ensures { λ r. ⌜ r ≡ sonToward (now (store .entry)) m at key ⌝ }
+{
+    let p = nodes::load_node(store, m, at);
+    let i = nodes::find_son(p, key);
+    let d = nodes::node_son(store, m, at, i) as usize;
+    d
+}
+
 // Releases node `at` and latches its son on the path to the key: that son.
 pub fn enter_son(store: &mut [u32], m: usize, at: usize, key: u32, w: u32) -> usize
     requires { ⌜ Toward (now store) m at key ⌝ }
     ensures { λ r. ⌜ (r ≡ sonToward (now (store .entry)) m at key) × (now (store .exit) ≡ plainSon (now (store .entry)) m at key w) ⌝ }
 {
-    let p = nodes::load_node(store, m, at);
-    let i = nodes::find_son(p, key);
-    let son = nodes::node_son(store, m, at, i) as usize;
+    let son = son_toward(store, m, at, key);
     nodes::set_latch(store, m, at, 0);
     nodes::set_latch(store, m, son, w);
     son

@@ -45,7 +45,8 @@ fn tidy_aim(store: &[u32], m: usize, r: usize, first: u32) -> Aim
     choose(store, m, next)
 }
 
-// The first stage by the request's code.
+// The first stage by the request's code: a locate and a tidy begin with a descent, read, write, insert and remove with a step of their
+// own, and so would a code that is unknown.
 fn first_stage(store: &[u32], m: usize, r: usize, code: u32, first: u32) -> Aim
     requires { ⌜ PutReady (now store) m r first ⌝ }
     ensures { λ a. ⌜ a ≡ aimOf (now (store .entry)) m r code first ⌝ }
@@ -56,7 +57,7 @@ fn first_stage(store: &[u32], m: usize, r: usize, code: u32, first: u32) -> Aim
             target: first,
         },
         6 => tidy_aim(store, m, r, first),
-        _ => Aim {
+        0..=4 | 7..=4294967295 => Aim {
             stage: 1,
             target: 0,
         },

@@ -1,11 +1,13 @@
 -- The six calls: the refusals of each in order, and what an accepted call does (document 01, "Refusals", "Steps").
--- Refusals 1 and 2 are of the words of store and table: a state is sound and has its 17 sessions.
+-- Refusals 1 and 2 are of the words of store and table: a state is sound and has all its sessions.
 use mathlib.Core.Bool.{Bool, true, false, cond, not, _&&_, _||_}
 use mathlib.Core.List.{List, [], _∷_, map}
 use mathlib.Core.Option.{Option, none, some}
-use Prim.Native.Nat.{suc, _+_, _-_, _*_, _/_, min, ℕ}
+use Prim.Native.Nat.{suc, _+_, _-_, ℕ}
 use lib.Dec.{leb, ltb, eqb}
 use lib.ListN.{length}
+-- R by the length of the store: the crate words'.
+pub use Rattle.words.specs.Sizes.{records-for}
 use Rattle.machine.specs.Holders.{width, left-by}
 use Rattle.machine.specs.State.{Entry, Desc, Stage, start, enter, Request, Undo, added, taken, State, more, refused, Outcome, top, idle, sessionOf, stored, lowest-from, with-entries, with-free, on-entry, on-session, on-tree, on-leaves, on-desc, hold-desc, group-desc, with-member, without-member, set-hand, fresh, value, ok}
 use Rattle.machine.specs.Steps.{ended, next-step, answer}
@@ -74,10 +76,6 @@ commit-checks p s = (4, no-session p) ∷ (5, not (has-begun p s)) ∷ (7, in-ha
 
 abbrev pub abort-checks : ℕ → State → List (ℕ × Bool)
 abort-checks p s = (4, no-session p) ∷ (5, not (has-begun p s)) ∷ []
-
--- R by the length of the store.
-abbrev pub records-for : ℕ → ℕ → ℕ
-records-for m words = min ((words - (16 + 3 * m)) / 20) 4096
 
 abbrev pub format-checks : ℕ → ℕ → List (ℕ × Bool)
 format-checks m words = (3, eqb m 0 || ltb 1024 m || ltb (records-for m words) 8) ∷ []

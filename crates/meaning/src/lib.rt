@@ -6,22 +6,3 @@
 // Writes), a tree with a hole (Around, Lens), the node where a session stands (Stand, Latched), sessions (Table), a group with one member more or less
 // (Grouping).
 // It rests on `machine` for states and on the crates of record kinds for what a record's words say.
-ghost use mathlib.Core.Path.{_≡_};
-ghost use Prim.Native.Nat.{_≤_};
-ghost use Rattle.machine.specs.Calls.{records-for};
-
-// How many records a store of so many words has, for m entries.
-pub fn records_for(m: usize, words: usize) -> usize
-    requires { ⌜ m ≤ 1024 ⌝ }
-    ensures { λ r. ⌜ r ≡ records-for m words ⌝ }
-{
-    let used = 16 + 3 * m;
-    if words < used {
-        return 0;
-    }
-    let r = (words - used) / 20;
-    if 4096 < r {
-        return 4096;
-    }
-    r
-}

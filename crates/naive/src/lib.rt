@@ -91,12 +91,15 @@ use naive_tree::tree::take_node;
 // The words that the model needs.
 pub const SIZE: usize = naive_tree::arrays::SIZE;
 
+// The words that a store has for each entry.
+const ENTRY_WORDS: u32 = 3;
+
 // How many records a store of so many words has, 0 where it has too few words.
 fn records_of(m: u32, length: u32) -> u32 {
     if 1024 < m {
         return 0;
     }
-    let before = 16 + 3 * m;
+    let before = 16 + ENTRY_WORDS * m;
     if length < before {
         return 0;
     }

@@ -5,7 +5,7 @@ pub use std::num::wrapping_add_u32 as plus;
 pub use std::num::wrapping_sub_u32 as minus;
 
 // How many words the model has.
-pub const SIZE: usize = 68376;
+pub const SIZE: usize = NOWHERE as usize;
 
 pub type Words = [u32; SIZE];
 
@@ -25,46 +25,46 @@ pub const HEADER: u32 = 32;
 
 pub const VALUES: u32 = 48;
 
-pub const SESSIONS: u32 = 80;
+pub const SESSIONS: u32 = VALUES + ENTRY_SLOTS;
 
 // The level of each node, 1 for the lowest; 0 marks a free slot. Slot 0 is never used.
-pub const LEVELS: u32 = 352;
+pub const LEVELS: u32 = SESSIONS + 16 * PARTIES;
 
 // How many sons each node has.
-pub const FANOUTS: u32 = 1852;
+pub const FANOUTS: u32 = LEVELS + NODE_SLOTS;
 
 // The boundary before each son of a node.
-pub const BOUNDARIES: u32 = 3352;
+pub const BOUNDARIES: u32 = FANOUTS + NODE_SLOTS;
 
 // The sons of a lowest node are keys of descriptors, those of another node are node slots.
-pub const CHILDREN: u32 = 15352;
+pub const CHILDREN: u32 = BOUNDARIES + 8 * NODE_SLOTS;
 
 // The undo log, in order of time: five arrays of SLOTS words, one behind another.
-pub const UNDO_SESSIONS: u32 = 27352;
+pub const UNDO_SESSIONS: u32 = CHILDREN + 8 * NODE_SLOTS;
 
-pub const UNDO_EVENTS: u32 = 31448;
+pub const UNDO_EVENTS: u32 = UNDO_SESSIONS + SLOTS;
 
-pub const UNDO_ARRAYS: u32 = 35544;
+pub const UNDO_ARRAYS: u32 = UNDO_EVENTS + SLOTS;
 
-pub const UNDO_MARKS: u32 = 39640;
+pub const UNDO_MARKS: u32 = UNDO_ARRAYS + SLOTS;
 
-pub const UNDO_WORDS: u32 = 43736;
+pub const UNDO_WORDS: u32 = UNDO_MARKS + SLOTS;
 
 // The descriptors, rising by key: five such arrays.
-pub const GROUPS: u32 = 47832;
+pub const GROUPS: u32 = UNDO_WORDS + SLOTS;
 
-pub const KEYS: u32 = 51928;
+pub const KEYS: u32 = GROUPS + SLOTS;
 
-pub const LOCATES: u32 = 56024;
+pub const LOCATES: u32 = KEYS + SLOTS;
 
-pub const UPDATES: u32 = 60120;
+pub const UPDATES: u32 = LOCATES + SLOTS;
 
-pub const GAPS: u32 = 64216;
+pub const GAPS: u32 = UPDATES + SLOTS;
 
 // The holders of the entries. So the holders of all are one behind another.
-pub const SHARES: u32 = 68312;
+pub const SHARES: u32 = GAPS + SLOTS;
 
-pub const EXCLUSIVES: u32 = 68344;
+pub const EXCLUSIVES: u32 = SHARES + ENTRY_SLOTS;
 
 // The words of the header: M, R and the root; how many nodes, descriptors and undo records there are.
 pub const M: u32 = 0;
@@ -98,7 +98,7 @@ pub const LAST: u32 = 6;
 // A number that is added to take one away, and an element that no array has.
 pub const LESS: u32 = 4294967295;
 
-pub const NOWHERE: u32 = 68376;
+pub const NOWHERE: u32 = EXCLUSIVES + ENTRY_SLOTS;
 
 // Element i of the array at base.
 pub fn get(a: &Words, base: u32, i: u32) -> u32 {

@@ -3,8 +3,8 @@
 // Refusals 1 and 2, of the words of store and table, are asked before; 11 and 12 are a step's. Each function promises that its result EQUALS a
 // definition of specs/: seat, is_begun and has_request what the table says, settle the table with one record changed; a refusal the first number of a
 // list whose test is true (Refusing.first-of), the lists being document 01's order. Refusing proves that these lists are the machine's, on sound words;
-// Coded that the checks of a request are those of its code. It rests on the crates sessions, endings for an idle record, meaning for how many records a
-// store has, and machine.
+// Coded that the checks of a request are those of its code. It rests on the crates sessions, endings for an idle record, words for how many records a
+// store has, meaning and machine.
 ghost use mathlib.Core.Path.{_≡_};
 ghost use mathlib.Core.Bool.{_||_};
 ghost use Prim.Native.Nat.{_≤_};
@@ -174,7 +174,7 @@ pub fn format_refusal(m: u32, words: usize) -> u32
     if 1024 < m {
         return 3;
     }
-    let r = meaning::records_for(m as usize, words);
+    let r = words::records_for(m as usize, words);
     if r < 8 {
         return 3;
     }

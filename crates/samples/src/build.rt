@@ -1,4 +1,8 @@
 // Build: the parts of a store that take more than the numbers of a line as they stand. Each helper writes the words that its part uses, and no other.
+use super::words::BEHIND;
+use super::words::ENTRY_WORDS;
+use super::words::HEADER_WORDS;
+use super::words::SESSION_WORDS;
 use super::words::STORE;
 use super::words::Words;
 use super::words::get;
@@ -64,45 +68,53 @@ const UNDO: u32 = 12;
 // A word that no node or descriptor uses: here the highest key below it, which its father's boundary is made of.
 const HIGHEST: u32 = 17;
 
+// The words of a party and of the session table, and those of table and store.
+const PARTY: u32 = SESSION_WORDS as u32;
+
+const TABLE: u32 = STORE as u32;
+
+const ALL: u32 = BEHIND as u32;
+
 // Word i of the session table where nobody has begun, with x where a field is not in use. Party 0 uses neither mark nor chain.
 fn idle(i: u32, x: u32) -> u32 {
-    let k = i % 13;
+    let k = i % PARTY;
     match k {
         STAGE => 0,
-        BEGUN | UNDO => if i < 13 { x } else { 0 },
+        BEGUN | UNDO => if i < PARTY { x } else { 0 },
         _ => x,
     }
 }
 
 // Word i of a store of m entries and r records where nothing is held, with x elsewhere.
 fn unheld(i: usize, m: u32, r: u32, x: u32) -> u32 {
-    if i < 16 {
+    if i < HEADER_WORDS {
         return match i {
             0 => m,
             1 => r,
             _ => x,
         };
     }
-    if wide(m) <= (i - 16) / 3 {
+    let at = i - HEADER_WORDS;
+    if wide(m) <= at / ENTRY_WORDS {
         return x;
     }
-    if i % 3 == 1 { x } else { 0 }
+    if at % ENTRY_WORDS == 0 { x } else { 0 }
 }
 
 // M entries and R records, nothing held, nobody begun; the other words are zeros or, where junk is not 0, small numbers that could be taken
 // for record numbers.
 pub fn base(w: &mut Words, m: u32, r: u32, junk: u32) {
     let mut i = 0;
-    while i < 82221 {
+    while i < ALL {
         let x = if junk == 0 {
             0
         } else {
             2 + (4 * (i % 13) + 1) % 13
         };
-        let y = if i < 221 {
+        let y = if i < TABLE {
             idle(i, x)
         } else {
-            unheld(wide(i - 221), m, r, x)
+            unheld(wide(i - TABLE), m, r, x)
         };
         put(w, wide(i), y);
         i += 1;

@@ -3,9 +3,11 @@
 // Word 0 is the random state. From HANDS on stand, 8 words a party, the request in hand and how many the session has finished; then the two lists that are
 // lent, the nodes that a count of them goes through, what the sessions have finished, a copy of the logical content, and last the logical content.
 ghost use Prim.Native.Nat.{_<_};
+use super::content::WORDS;
+use super::side::PARTIES;
 use std::num::wrapping_add_u32;
 
-pub const BOOK: usize = 24808;
+pub const BOOK: usize = CONTENT + WORDS;
 
 pub type Book = [u32; BOOK];
 
@@ -18,9 +20,9 @@ pub const QUEUE: usize = 2560;
 
 pub const LOGS: usize = 3584;
 
-pub const SPARE: usize = 20584;
+pub const SPARE: usize = LOGS + 1000 * PARTIES as usize;
 
-pub const CONTENT: usize = 22696;
+pub const CONTENT: usize = SPARE + WORDS;
 
 pub fn get(b: &Book, at: usize) -> u32 {
     if at < BOOK { b[at] } else { 0 }

@@ -14,10 +14,12 @@ use super::words::wide;
 use std::num::wrapping_add_u32;
 use std::num::wrapping_sub_u32;
 
-// How many words it has, and how many memberships there is room for.
+// How many words it has, how many memberships there is room for, and where they stand.
 pub const WORDS: usize = 2112;
 
 pub const ROOM: u32 = 1024;
+
+const MEMBERSHIPS: usize = CONTENT + 64;
 
 pub fn value(b: &Book, e: u32) -> u32 {
     get(b, CONTENT + wide(e))
@@ -25,11 +27,11 @@ pub fn value(b: &Book, e: u32) -> u32 {
 
 // The entry of membership i, and its key.
 fn entry(b: &Book, i: u32) -> u32 {
-    get(b, 22760 + 2 * wide(i))
+    get(b, MEMBERSHIPS + 2 * wide(i))
 }
 
 pub fn key(b: &Book, i: u32) -> u32 {
-    get(b, 22761 + 2 * wide(i))
+    get(b, MEMBERSHIPS + 1 + 2 * wide(i))
 }
 
 // The place of a membership, or the first free place.
@@ -87,7 +89,7 @@ fn change(b: &mut Book, at: usize, is_insert: bool) -> u32
     if is_there == is_insert {
         return 0;
     }
-    let to = 22760 + 2 * wide(i % ROOM);
+    let to = MEMBERSHIPS + 2 * wide(i % ROOM);
     if is_insert {
         copy(b, at + 1, to, 2);
     } else {

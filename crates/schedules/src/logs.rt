@@ -7,6 +7,7 @@ use super::book::copy;
 use super::book::get;
 use super::book::put;
 use super::content::run;
+use super::side::PARTIES;
 use super::words::wide;
 
 // The words of a hand: code, entry, first, second; whether its last step waited; how many requests the session has finished.
@@ -18,14 +19,14 @@ pub const FINISHED: usize = 5;
 pub fn hand(p: u32) -> usize
     ensures { λ r. ⌜ r < 1000 ⌝ }
 {
-    HANDS + 8 * wide(p % 17)
+    HANDS + 8 * wide(p % PARTIES)
 }
 
 // Where request i of session p stands: code, entry, first, second and what it answered. There is room for 200.
 fn logged(p: u32, i: u32) -> usize
     ensures { λ r. ⌜ r < 100000 ⌝ }
 {
-    LOGS + 1000 * wide(p % 17) + 5 * wide(i % 200)
+    LOGS + 1000 * wide(p % PARTIES) + 5 * wide(i % 200)
 }
 
 // The request in hand is finished, and this is what it answered.

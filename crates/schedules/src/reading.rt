@@ -3,7 +3,11 @@ use super::book::Book;
 use super::book::QUEUE;
 use super::book::get;
 use super::book::put;
+use super::side::ENTRY_WORDS;
+use super::side::HEADER_WORDS;
+use super::side::RECORD_WORDS;
 use super::side::Side;
+use super::side::TABLE;
 use super::side::word;
 use super::words::bit;
 use super::words::wide;
@@ -11,24 +15,32 @@ use std::num::wrapping_add_u32;
 use std::num::wrapping_sub_u32;
 
 // The header's words: how many entries there are, the root, the levels of nodes, the descriptor of key 0, the first free record.
-pub const ENTRIES: usize = 221;
+pub const ENTRIES: usize = TABLE;
 
-pub const ROOT: usize = 223;
+pub const ROOT: usize = TABLE + 2;
 
-pub const HEIGHT: usize = 224;
+pub const HEIGHT: usize = TABLE + 3;
 
-pub const FIRST: usize = 225;
+pub const FIRST: usize = TABLE + 4;
 
-pub const FREE: usize = 226;
+pub const FREE: usize = TABLE + 5;
+
+// Where an entry and a record with number 0 would lie, were there such.
+const NO_ENTRY: usize = TABLE + HEADER_WORDS - ENTRY_WORDS;
+
+const NO_RECORD: usize = TABLE + HEADER_WORDS - RECORD_WORDS;
 
 // Word k of entry e, and of record i.
 pub fn entry(s: &Side, e: u32, k: u32) -> u32 {
-    word(s, 234 + 3 * wide(e) + wide(k))
+    word(s, NO_ENTRY + ENTRY_WORDS * wide(e) + wide(k))
 }
 
 pub fn field(s: &Side, i: u32, k: u32) -> u32 {
     let m = wide(word(s, ENTRIES));
-    word(s, 217 + 3 * m + 20 * wide(i) + wide(k))
+    word(
+        s,
+        NO_RECORD + ENTRY_WORDS * m + RECORD_WORDS * wide(i) + wide(k),
+    )
 }
 
 // How many records the chain has that the header names at this place.

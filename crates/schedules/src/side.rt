@@ -2,16 +2,32 @@
 
 ghost use Prim.Native.Nat.{_<_};
 
-// The session table, 13 words a party; behind it the store.
-pub const TABLE: usize = 221;
+// How many parties there are, and how many sessions among them.
+pub const PARTIES: u32 = 17;
 
-// The words of the largest store: 16, 3 for each of 32 entries, 20 for each of 700 records, and 19 that make no record.
-pub const STORE: usize = 14131;
+pub const SESSIONS: u32 = PARTIES - 1;
+
+// How many words a party has, the header, an entry and a record.
+pub const SESSION_WORDS: usize = 13;
+
+pub const HEADER_WORDS: usize = 16;
+
+pub const ENTRY_WORDS: usize = 3;
+
+pub const RECORD_WORDS: usize = 20;
+
+// The words of the session table; behind it lies the store.
+pub const TABLE: usize = PARTIES as usize * SESSION_WORDS;
+
+// The words of the largest store, of 32 entries and 700 records; and with 19 words more, that make no record.
+pub const LARGEST: usize = HEADER_WORDS + ENTRY_WORDS * 32 + RECORD_WORDS * 700;
+
+pub const STORE: usize = LARGEST + 19;
 
 // Table and store, and some words more that no call is lent.
-pub const SIDE: usize = 14397;
+pub const SIDE: usize = TABLE + STORE + 45;
 
-pub const SIDES: usize = 28794;
+pub const SIDES: usize = 2 * SIDE;
 
 pub type Side = [u32; SIDES];
 

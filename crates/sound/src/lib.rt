@@ -8,11 +8,10 @@
 ghost use mathlib.Core.Path.{_≡_};
 ghost use Prim.Native.Nat.{_+_, _*_, _≤_, _<_};
 ghost use lib.ListN.{length};
-ghost use Rattle.words.specs.Store.{entryWords};
 ghost use Rattle.marks.specs.Marks.{HasRecords};
 ghost use Rattle.marks.specs.Trail.{Ends};
 ghost use Rattle.undo_chains.specs.UndoChains.{Filing};
-ghost use Rattle.sound.specs.Sizes.{recordsFor, sizesOk};
+ghost use Rattle.sound.specs.Sizes.{sizesOk};
 ghost use Rattle.sound.specs.Sound.{failed, lowestOk, freeFrom, finishOf, groupsThen, undosThen, partiesThen, faultIn, firstFault, isSound};
 use marks::Chain;
 use sessions::PARTIES;
@@ -72,18 +71,6 @@ fn broken(fault: u32) -> Checked
 
 // ---- sizes
 
-// How many records a store of so many words and m entries has.
-pub fn records_for(len: usize, m: usize) -> usize
-    requires { ⌜ (m ≤ 1024) × (16 + entryWords * m ≤ len) ⌝ }
-    ensures { λ r. ⌜ r ≡ recordsFor len m ⌝ }
-{
-    let r = (len - 16 - words::ENTRY_WORDS * m) / 20;
-    if 4096 < r {
-        return 4096;
-    }
-    r
-}
-
 // The header's M and R are those that format gives for this length.
 fn sizes_ok(store: &[u32]) -> bool
     ensures { λ b. ⌜ b ≡ sizesOk (now (store .entry)) ⌝ }
@@ -99,10 +86,7 @@ fn sizes_ok(store: &[u32]) -> bool
     if 1024 < m {
         return false;
     }
-    if len < 16 + words::ENTRY_WORDS * m {
-        return false;
-    }
-    let r = records_for(len, m);
+    let r = words::records_for(m, len);
     if r < 8 {
         return false;
     }

@@ -2,7 +2,6 @@
 use mathlib.Core.Path.{_≡_, refl, sym, ap, ap₂, _∙_}
 use mathlib.Core.Bool.{cond}
 use mathlib.Core.List.{List}
-use mathlib.Core.Logic.{_⊎_, inl, inr}
 use Prim.Native.Nat.{ℕ, zero, suc, _≤_, _<_}
 use native.Mathlib.Omega.{arith}
 use lib.Dec.{eqb, leb}
@@ -89,16 +88,11 @@ some-run s t r m p x e o l =
 
 -- By code.
 
-from-three : (c : ℕ) → 1 ≤ c → ¬ (c ≡ 1) → ¬ (c ≡ 2) → 3 ≤ c
+pub from-three : (c : ℕ) → 1 ≤ c → ¬ (c ≡ 1) → ¬ (c ≡ 2) → 3 ≤ c
 from-three zero a b d = absurd (omega (arith, a))
 from-three (suc zero) a b d = absurd (b refl)
 from-three (suc (suc zero)) a b d = absurd (d refl)
 from-three (suc (suc (suc n))) a b d = omega arith
-
--- A code that is none of 1 and 2, and not from 3 to 4.
-pub last-code : (c : ℕ) → 1 ≤ c → ¬ (c ≡ 1) → ¬ (c ≡ 2) → (c < 3) ⊎ (4 < c) → 4 < c
-last-code c a b d (inl e) = absurd (omega (arith, from-three c a b d, e))
-last-code c a b d (inr e) = e
 
 module _ (s t : List ℕ) (r : Moved) (m p : ℕ) (x : Session) where
   pub read-run : x .code ≡ 1 → Leaves t r (readStep s p x) → Leaves t r (firstStep s m p x)

@@ -167,7 +167,7 @@ pub fn tidied_none(x: Session) -> Moved
     }
 }
 
-// ---- by code
+// ---- by code: of those from 5 on only a tidy's, 6, has a first step
 
 pub fn first_step(store: &mut [u32], m: usize, p: u32, x: Session) -> Moved
     requires { ⌜ FirstReady (now store) m p x ⌝ }
@@ -184,7 +184,7 @@ pub fn first_step(store: &mut [u32], m: usize, p: u32, x: Session) -> Moved
         3 | 4 => {
             return entry_step(store, p, x);
         }
-        _ => {
+        0 | 5..=4294967295 => {
             return tidied_none(x);
         }
     }

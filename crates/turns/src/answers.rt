@@ -23,7 +23,11 @@ use schedules::book::Book;
 use schedules::book::LISTS;
 use schedules::book::count;
 use schedules::book::get;
+use schedules::side::ENTRY_WORDS;
+use schedules::side::HEADER_WORDS;
+use schedules::side::RECORD_WORDS;
 use schedules::side::Side;
+use schedules::side::TABLE;
 use schedules::side::is_kept;
 use schedules::words::bit;
 use schedules::words::wide;
@@ -80,7 +84,10 @@ pub fn is_still(word: u32, first: u32) -> bool {
 
 // Where the words behind the store begin.
 fn end(b: &Book) -> usize {
-    237 + 3 * wide(get(b, ENTRIES)) + 20 * wide(get(b, RECORDS))
+    TABLE
+        + HEADER_WORDS
+        + ENTRY_WORDS * wide(get(b, ENTRIES))
+        + RECORD_WORDS * wide(get(b, RECORDS))
 }
 
 // The call changed no word at all, or none behind the store.

@@ -5,6 +5,8 @@ use schedules::book::Book;
 use schedules::book::get;
 use schedules::random::below;
 use schedules::random::random;
+use schedules::side::PARTIES;
+use schedules::side::TABLE;
 use schedules::words::bit;
 use schedules::words::wide;
 use std::num::wrapping_add_u32;
@@ -12,7 +14,7 @@ use std::num::wrapping_sub_u32;
 
 // A place in the table or in the store.
 pub fn place(b: &mut Book) -> usize {
-    let end = wrapping_add_u32(get(b, WORDS), 221);
+    let end = wrapping_add_u32(get(b, WORDS), TABLE as u32);
     wide(below(b, end))
 }
 
@@ -28,7 +30,7 @@ pub fn other(b: &mut Book, x: u32) -> u32 {
         0 => wrapping_add_u32(x, 1),
         1 => wrapping_sub_u32(x, 1),
         2 => record(b),
-        3 => x ^ bit(below(b, 17)),
+        3 => x ^ bit(below(b, PARTIES)),
         _ => random(b),
     }
 }

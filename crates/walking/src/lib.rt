@@ -12,8 +12,6 @@ ghost use Prim.Native.Nat.{_-_, _≤_};
 ghost use lib.Dec.{eqb};
 ghost use Rattle.machine.specs.Holders.{width};
 ghost use Rattle.nodes.specs.Ops.{sonFor};
-ghost use Rattle.nodes.specs.Paths.{sonToward};
-ghost use Rattle.descents.specs.Descents.{Toward};
 ghost use Rattle.splits.specs.Splits.{CanSplitSon};
 ghost use Rattle.joins.specs.Joins.{CanJoin, CanMoveLeft, CanMoveRight};
 ghost use Rattle.finishing.specs.Finishing.{Endable};
@@ -75,17 +73,6 @@ fn full_step(store: &mut [u32], m: usize, x: Session) -> Moved
 
 // ---- the son alone
 
-// The son on the path to a key.
-fn son_toward(store: &[u32], m: usize, at: usize, key: u32) -> usize
-    requires { ⌜ Toward (now store) m at key ⌝ }
-    ensures { λ r. ⌜ r ≡ sonToward (now (store .entry)) m at key ⌝ }
-{
-    let p = nodes::load_node(store, m, at);
-    let i = nodes::find_son(p, key);
-    let d = nodes::node_son(store, m, at, i) as usize;
-    d
-}
-
 // A session splits a full node; the housekeeper mends one of 3 sons.
 fn splits(p: u32, count: u32) -> bool
     ensures { λ r. ⌜ r ≡ (not (eqb p 0) && eqb count 8) ⌝ }
@@ -138,7 +125,7 @@ fn down_step(store: &mut [u32], m: usize, p: u32, x: Session) -> Moved
     ensures { λ z. ⌜ (now (store .exit) ≡ downStep (now (store .entry)) m p x .words) × (z ≡ moved (downStep (now (store .entry)) m p x)) ⌝ }
 {
     let at = x.at as usize;
-    let son = son_toward(store, m, at, x.target);
+    let son = descents::son_toward(store, m, at, x.target);
     let count = nodes::node_count(store, m, son);
     if splits(p, count) {
         return split_step(store, m, p, x);
@@ -151,7 +138,7 @@ fn alone_step(store: &mut [u32], m: usize, p: u32, x: Session) -> Moved
     ensures { λ z. ⌜ (now (store .exit) ≡ aloneStep (now (store .entry)) m p x .words) × (z ≡ moved (aloneStep (now (store .entry)) m p x)) ⌝ }
 {
     let at = x.at as usize;
-    let son = son_toward(store, m, at, x.target);
+    let son = descents::son_toward(store, m, at, x.target);
     let b = descents::in_way(p, nodes::node_latch(store, m, son));
     if b == 0 {
         return down_step(store, m, p, x);
@@ -272,7 +259,7 @@ pub fn level_step(store: &mut [u32], m: usize, p: u32, x: Session) -> Moved
     ensures { λ z. ⌜ (now (store .exit) ≡ levelStep (now (store .entry)) m p x .words) × (z ≡ moved (levelStep (now (store .entry)) m p x)) ⌝ }
 {
     let at = x.at as usize;
-    let son = son_toward(store, m, at, x.target);
+    let son = descents::son_toward(store, m, at, x.target);
     let count = nodes::node_count(store, m, son);
     if mends(p, count) {
         return pair_step(store, m, p, x);

@@ -1,4 +1,5 @@
 -- The definitions that the contracts of `words` cite, and their laws.
+pub mod Sizes
 pub mod Cases
 pub mod Window
 pub mod Store

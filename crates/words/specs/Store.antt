@@ -8,11 +8,8 @@ use lib.ListN.{take, drop, length, getD, set, length-set}
 use borrow.Rule.Slice.PartMut.{putMid}
 use Prim.Native.Nat.{ℕ, _+_, _-_, _*_, _≤_, _<_}
 use native.Mathlib.Omega.{arith}
+pub use Rattle.words.specs.Sizes.{entryWords}
 use Rattle.words.specs.Window.{wordsAt, putAt, length-put, words-put, words-put-before, words-put-after, words-get, words-part, length-words, put-set}
-
--- how many words an entry has
-abbrev pub entryWords : ℕ
-entryWords = 3
 
 -- where record i starts
 abbrev pub baseOf : ℕ → ℕ → ℕ

@@ -2,17 +2,35 @@
 //
 // A store is 16 header words, then ENTRY_WORDS words an entry, then records of 20 words, numbered from 1 (docs/STORE.md).
 // Other crates ask this one where a word lies. It promises for each function that its result, or the store it leaves, EQUALS a
-// definition of specs/: Window (a run of words of a list, read and replaced), Store (the records), Header, Entries. Frames says what
-// a write of one part leaves of every other part. Nothing here says what the words mean. It rests on no other crate.
+// definition of specs/: Sizes (how many records there are), Window (a run of words of a list, read and replaced), Store (the
+// records), Header, Entries. Frames says what a write of one part leaves of every other part. Nothing here says what the words
+// mean. It rests on no other crate.
 ghost use mathlib.Core.Path.{_≡_};
 ghost use Prim.Native.Nat.{_≤_, _<_};
 ghost use lib.ListN.{length};
+ghost use Rattle.words.specs.Sizes.{records-for};
 ghost use Rattle.words.specs.Store.{entryWords, baseOf, HasRecord, wordOf};
 ghost use Rattle.words.specs.Header.{headerWord, putHeaderWord, entriesPlace, recordsPlace, rootPlace, heightPlace, firstPlace, freePlace};
 ghost use Rattle.words.specs.Entries.{HasEntry, entryPlace, entryWord, putEntryWord};
 
 // The words of an entry: value, share holders, exclusive holders.
 pub const ENTRY_WORDS: usize = 3;
+
+// How many records a store of so many words has, for m entries.
+pub fn records_for(m: usize, words: usize) -> usize
+    requires { ⌜ m ≤ 1024 ⌝ }
+    ensures { λ r. ⌜ r ≡ records-for m words ⌝ }
+{
+    let used = 16 + ENTRY_WORDS * m;
+    if words < used {
+        return 0;
+    }
+    let r = (words - used) / 20;
+    if 4096 < r {
+        return 4096;
+    }
+    r
+}
 
 // Writes 20 words over a lent part.
 pub fn save_words(part: &mut [u32], w: [u32; 20])

@@ -24,22 +24,12 @@ returns-3 : tie.Need-returns-3
 unfolding sizesOk
 returns-3 c = simp (le-leb _ _ (c .before .before .before .if1 .left), le-leb _ _ (c .before .if2 .left), lt-leb _ _ (c .if3 .taken), sym (c .before .before .entries .ensures))
 
-mul-if4 : tie.Need-mul-if4
-mul-if4 c = search needs
-
-add-if4 : tie.Need-add-if4
-add-if4 c = search needs
-
-returns-4 : tie.Need-returns-4
-unfolding sizesOk
-returns-4 c = simp (le-leb _ _ (c .before .before .before .before .if1 .left), le-leb _ _ (c .before .before .if2 .left), le-leb _ _ (c .before .if3 .left), lt-leb _ _ (c .if4 .taken), sym (c .before .before .before .entries .ensures))
-
 records-for-requires : tie.Need-records-for-requires
 records-for-requires c κs = search needs
 
-returns-5 : tie.Need-returns-5
+returns-4 : tie.Need-returns-4
 unfolding sizesOk
-returns-5 c = simp (le-leb _ _ (c .before .before .before .before .before .before .if1 .left), le-leb _ _ (c .before .before .before .before .if2 .left), le-leb _ _ (c .before .before .before .if3 .left), le-leb _ _ (c .before .before .if4 .left), lt-leb _ _ (c .if5 .taken), sym (c .before .records-for .ensures), sym (c .before .before .before .before .before .entries .ensures))
+returns-4 c = simp (le-leb _ _ (c .before .before .before .before .before .if1 .left), le-leb _ _ (c .before .before .before .if2 .left), le-leb _ _ (c .before .before .if3 .left), lt-leb _ _ (c .if4 .taken), sym (c .before .records-for .ensures), sym (c .before .before .before .before .entries .ensures))
 
 records-requires : tie.Need-records-requires
 records-requires c κs = search needs
@@ -47,9 +37,9 @@ records-requires c κs = search needs
 cast-n : tie.Need-cast-n
 cast-n c = search needs
 
-returns-6 : tie.Need-returns-6
+returns-5 : tie.Need-returns-5
 unfolding sizesOk
-returns-6 c = simp (le-leb _ _ (c .before .before .before .before .before .before .before .if1 .left), le-leb _ _ (c .before .before .before .before .before .if2 .left), le-leb _ _ (c .before .before .before .before .if3 .left), le-leb _ _ (c .before .before .before .if4 .left), le-leb _ _ (c .before .if5 .left), sym (c .records .ensures), sym (c .before .before .records-for .ensures), sym (c .before .before .before .before .before .before .entries .ensures))
+returns-5 c = simp (le-leb _ _ (c .before .before .before .before .before .before .if1 .left), le-leb _ _ (c .before .before .before .before .if2 .left), le-leb _ _ (c .before .before .before .if3 .left), le-leb _ _ (c .before .if4 .left), sym (c .records .ensures), sym (c .before .before .records-for .ensures), sym (c .before .before .before .before .before .entries .ensures))
 
 pub sizes-ok-spec : {M : Type 1} → statement M
 sizes-ok-spec =
@@ -60,11 +50,8 @@ sizes-ok-spec =
     cast-m
     returns-2
     returns-3
-    mul-if4
-    add-if4
-    returns-4
     records-for-requires
-    returns-5
+    returns-4
     records-requires
     cast-n
-    returns-6)
+    returns-5)

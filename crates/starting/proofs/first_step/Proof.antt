@@ -1,8 +1,8 @@
 -- The proof of `first_step`.
 use mathlib.Core.Path.{refl}
-use mathlib.Core.Logic.{inl, inr, ⊎-elim}
+use mathlib.Core.Logic.{⊎-elim}
 use native.Mathlib.Omega.{arith}
-use Rattle.starting.specs.Runs.{last-code, read-run, write-run, entry-run, tidied-run}
+use Rattle.starting.specs.Runs.{from-three, read-run, write-run, entry-run, tidied-run}
 use borrow.Author.Needs.{needs}
 use Rattle.starting.proofs.first_step.Statement.{statement}
 use Rattle.starting.proofs.first_step.Tie as tie
@@ -26,19 +26,20 @@ returns-2 : tie.Need-returns-2
 returns-2 c = write-run _ _ _ _ _ _ (c .before .before .before .before .match .keys2) (c .before .before .write-step .ensures)
 
 entry-step-requires : tie.Need-entry-step-requires
-entry-step-requires c κs = c .before .before .before .before .before .pre .held (omega (arith, c .before .if2 .taken))
+entry-step-requires c κs = c .before .before .before .before .pre .held (omega (arith, c .before .if1 .taken))
 
 same-length-3 : tie.Need-same-length-3
 same-length-3 c = search needs
 
 returns-3 : tie.Need-returns-3
-returns-3 c = entry-run _ _ _ _ _ _ (omega (arith, c .before .before .before .before .before .if1 .left)) (omega (arith, c .before .before .before .before .if2 .taken)) (c .before .before .entry-step .ensures)
+returns-3 c =
+    entry-run _ _ _ _ _ _ (from-three _ (c .before .before .before .before .before .before .before .pre .least) (c .before .before .before .before .before .match .rest .0 .0 .1) (c .before .before .before .before .before .match .rest .0 .1)) (omega (arith, c .before .before .before .before .if1 .taken)) (c .before .before .entry-step .ensures)
 
 tidied-none-requires : tie.Need-tidied-none-requires
 tidied-none-requires c κs = search needs
 
 returns-4 : tie.Need-returns-4
-returns-4 c = tidied-run _ _ _ _ _ _ (last-code _ (c .before .before .before .before .pre .least) (c .before .before .match .rest .0 .1) (c .before .before .match .rest .1) (⊎-elim (λ w. inl (omega (arith, w .taken))) (λ w. inr (omega (arith, w .1 .left))) (c .before .if1 .came))) refl (c .tidied-none .ensures)
+returns-4 c = tidied-run _ _ _ _ _ _ (⊎-elim (λ w. absurd (omega (arith, w .keys3, c .before .before .before .pre .least))) (λ w. omega (arith, w .1 .left)) (c .before .match .came)) refl (c .tidied-none .ensures)
 
 pub first-step-spec : {M : Type 1} → statement M
 first-step-spec =

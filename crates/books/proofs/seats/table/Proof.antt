@@ -8,7 +8,7 @@ abbrev Inv-loop : tie.InvT-loop
 Inv-loop s t₀ p₀ t p = Unit {0}
 
 abbrev μ-loop : tie.MeasureT-loop
-μ-loop s t₀ p₀ t p = 17 - p
+μ-loop s t₀ p₀ t p = 4294967295 - p
 
 seat-requires : tie.Need-seat-requires Inv-loop μ-loop
 seat-requires c κs = search needs

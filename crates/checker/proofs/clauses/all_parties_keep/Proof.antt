@@ -8,7 +8,7 @@ abbrev Inv-loop : tie.InvT-loop
 Inv-loop s t list n c p₀ p = Unit {0}
 
 abbrev μ-loop : tie.MeasureT-loop
-μ-loop s t list n c p₀ p = 17 - p
+μ-loop s t list n c p₀ p = 4294967295 - p
 
 returns : tie.Need-returns Inv-loop μ-loop
 returns c = search needs

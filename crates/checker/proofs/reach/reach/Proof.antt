@@ -8,7 +8,7 @@ abbrev Inv-loop : tie.InvT-loop
 Inv-loop s t list₀ end₀ p₀ list end p = Unit {0}
 
 abbrev μ-loop : tie.MeasureT-loop
-μ-loop s t list₀ end₀ p₀ list end p = 17 - p
+μ-loop s t list₀ end₀ p₀ list end p = 4294967295 - p
 
 reach-groups-requires : tie.Need-reach-groups-requires Inv-loop μ-loop
 reach-groups-requires c κs = search needs

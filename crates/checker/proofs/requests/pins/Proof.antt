@@ -8,7 +8,7 @@ abbrev Inv-loop : tie.InvT-loop
 Inv-loop t key count₀ p₀ count p = Unit {0}
 
 abbrev μ-loop : tie.MeasureT-loop
-μ-loop t key count₀ p₀ count p = 17 - p
+μ-loop t key count₀ p₀ count p = 4294967295 - p
 
 loop-holds : tie.Need-loop-holds Inv-loop μ-loop
 loop-holds c = search needs

@@ -8,7 +8,7 @@ abbrev Inv-loop : tie.InvT-loop
 Inv-loop t w₀ p₀ w p = Unit {0}
 
 abbrev μ-loop : tie.MeasureT-loop
-μ-loop t w₀ p₀ w p = 17 - p
+μ-loop t w₀ p₀ w p = 4294967295 - p
 
 loop-holds : tie.Need-loop-holds Inv-loop μ-loop
 loop-holds c = search needs

@@ -8,7 +8,7 @@ abbrev Inv-loop : tie.InvT-loop
 Inv-loop s₀ b₀ x i₀ s b i = Unit {0}
 
 abbrev μ-loop : tie.MeasureT-loop
-μ-loop s₀ b₀ x i₀ s b i = 16 - i
+μ-loop s₀ b₀ x i₀ s b i = 4294967295 - i
 
 random-requires : tie.Need-random-requires Inv-loop μ-loop
 random-requires c κs = search needs

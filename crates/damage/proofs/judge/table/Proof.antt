@@ -8,7 +8,7 @@ abbrev Inv-loop : tie.InvT-loop
 Inv-loop w t₀ p₀ t p = Unit {0}
 
 abbrev μ-loop : tie.MeasureT-loop
-μ-loop w t₀ p₀ t p = 17 - p
+μ-loop w t₀ p₀ t p = 4294967295 - p
 
 session-requires : tie.Need-session-requires Inv-loop μ-loop
 session-requires c κs = search needs

@@ -8,7 +8,7 @@ abbrev Inv-loop : tie.InvT-loop
 Inv-loop a p n parties₀ q₀ parties q = Unit {0}
 
 abbrev μ-loop : tie.MeasureT-loop
-μ-loop a p n parties₀ q₀ parties q = 17 - q
+μ-loop a p n parties₀ q₀ parties q = 4294967295 - q
 
 loop-holds : tie.Need-loop-holds Inv-loop μ-loop
 loop-holds c = search needs

@@ -8,7 +8,7 @@ abbrev Inv-loop : tie.InvT-loop
 Inv-loop w₀ m r junk i₀ w i = Unit {0}
 
 abbrev μ-loop : tie.MeasureT-loop
-μ-loop w₀ m r junk i₀ w i = 82221 - i
+μ-loop w₀ m r junk i₀ w i = 4294967295 - i
 
 loop-holds : tie.Need-loop-holds Inv-loop μ-loop
 loop-holds c = search needs

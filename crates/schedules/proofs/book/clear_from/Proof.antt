@@ -8,7 +8,7 @@ abbrev Inv-loop : tie.InvT-loop
 Inv-loop b₀ from at₀ b at = Unit {0}
 
 abbrev μ-loop : tie.MeasureT-loop
-μ-loop b₀ from at₀ b at = 24808 - at
+μ-loop b₀ from at₀ b at = 4294967295 - at
 
 loop-holds : tie.Need-loop-holds Inv-loop μ-loop
 loop-holds c = search needs

@@ -8,7 +8,7 @@ abbrev Inv-loop : tie.InvT-loop
 Inv-loop s₀ from to k₀ s k = Unit {0}
 
 abbrev μ-loop : tie.MeasureT-loop
-μ-loop s₀ from to k₀ s k = 14397 - k
+μ-loop s₀ from to k₀ s k = 4294967295 - k
 
 loop-holds : tie.Need-loop-holds Inv-loop μ-loop
 loop-holds c = search needs

@@ -1,8 +1,8 @@
 -- The proof of `son_toward`.
 use borrow.Author.Needs.{needs}
 use Rattle.nodes.specs.Paths.{path-place, son-same}
-use Rattle.walking.proofs.son_toward.Statement.{statement}
-use Rattle.walking.proofs.son_toward.Tie as tie
+use Rattle.descents.proofs.son_toward.Statement.{statement}
+use Rattle.descents.proofs.son_toward.Tie as tie
 
 load-node-requires : tie.Need-load-node-requires
 load-node-requires c κs = search needs
