@@ -5,6 +5,7 @@ use mathlib.Core.List.{List, [], _∷_, _++_}
 use mathlib.Core.Logic.{_⊎_, inl, inr}
 use mathlib.Core.Option.{Option, none, some}
 use Prim.Native.Nat.{ℕ, suc, zero, _+_, _*_, _≤_, _<_}
+use native.Mathlib.Decide.{decLt}
 use native.Mathlib.Omega.{arith}
 use lib.Dec.{eqb, leb, ltb, lit<}
 use lib.ListN.{length}
@@ -32,8 +33,11 @@ use Rattle.packing.specs.Packed.{Worded}
 abbrev pub Word : ℕ → Type 0
 Word n = n < 4294967296
 
-zero-word : Word 0
+pub zero-word : Word 0
 zero-word = lit< tt
+
+pub word-or-not : (n : ℕ) → Dec (Word n)
+word-or-not n = decLt n 4294967296
 
 one-word : Word 1
 one-word = lit< tt

@@ -3,7 +3,7 @@
 use mathlib.Core.Bool.{Bool, true, false, cond, not, _&&_, _||_}
 use mathlib.Core.List.{List, [], _∷_, map}
 use mathlib.Core.Option.{Option, none, some}
-use Prim.Native.Nat.{suc, _+_, _-_, ℕ}
+use Prim.Native.Nat.{suc, _+_, ℕ}
 use lib.Dec.{leb, ltb, eqb}
 use lib.ListN.{length}
 -- R by the length of the store: the crate words'.

@@ -189,6 +189,10 @@ module _ (𝓢 : Machine) where
     pub hand-told : (p : ℕ) → hand x p ≡ t .hands p
     pub begun-told : (s : ℕ) → meaning x .begun s ≡ t .unfinished s
 
+  -- The history that was told is one of this store's.
+  abbrev pub Serial : Told → X → Type 0
+  Serial t x = Inv store empty (t .past) (view (meaning x))
+
   -- An accepted format.
   pub record Anew (t : Told) (y : X) : Type 0 where
     pub nothing-told : t .past ≡ none-yet store
@@ -212,10 +216,7 @@ module _ (𝓢 : Machine) where
     -- ---- the theorem
 
     module _ (strict : Strict T) (𝓛 : Laws) where
-      abbrev Serial : Told → X → Type 0
-      Serial t x = Inv store empty (t .past) (view (meaning x))
-
-      keeps : (k : Turn) (x y : X) (t : Told) → Does x k y → Knows t x → Serial t x → Serial (tell k t) y
+      pub keeps : (k : Turn) (x y : X) (t : Told) → Does x k y → Knows t x → Serial t x → Serial (tell k t) y
       keeps k x y t d w v = go (𝓛 .moves k x y t d w)
         where
           go : Moves t (tell k t) x y ⊎ Anew (tell k t) y → Serial (tell k t) y

@@ -6,6 +6,7 @@ pub mod Locks
 pub mod LockMachine
 pub mod Calls
 pub mod Unfinished
+pub mod Values
 pub mod Example
 pub mod ExampleLaws
 pub mod Traces

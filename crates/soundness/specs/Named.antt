@@ -1,5 +1,5 @@
 -- The number that the test answers: 0 where every part holds; else it names a part that is broken, the first, for those before it hold.
-use mathlib.Core.Path.{_≡_, refl, sym, subst}
+use mathlib.Core.Path.{_≡_, refl, subst}
 use mathlib.Core.Bool.{Bool, true, false, cond, false≢true}
 use mathlib.Core.List.{List}
 use mathlib.Core.Logic.{_↔_}
