@@ -33,7 +33,7 @@ abbrev Kept : C.Told → Lending → Type 0
 Kept t x = Fitting Word functions t x
 
 kept-turn : (k : Turn) (x y : Lending) (t : C.Told) → Lends x k y → WordCall (k .call) → Kept t x → Kept (tell k t) y
-kept-turn = fitting-turn Word zero-word word-or-not functions lock-rule lock-rule-strict functions-laws
+kept-turn = fitting-turn Word functions lock-rule lock-rule-strict functions-laws
 
 -- The answer of the next call has a word for its value,
 turn-worded : (k : Turn) (x y : Lending) (t : C.Told) → Lends x k y → Kept t x → Worded (k .answer)
@@ -96,7 +96,7 @@ module _ (m : ℕ) (x x′ : Lending) (h : Told Formatted (x .store) (x .table) 
   start-kept =
       let e = format-ok m x x′ h in
       let F = accepted-format m (h .answer) x x′ (h .does) e in
-      fitting-fresh Word zero-word word-or-not functions x′ (start-known m (h .answer) x x′ (h .does) e) (formatted-new m (x .store) (x′ .store) (x .table) (x′ .table) F)
+      fitting-fresh Word functions x′ (start-known m (h .answer) x x′ (h .does) e) (formatted-new m (x .store) (x′ .store) (x .table) (x′ .table) F)
 
   -- Every list of calls has a run.
   pub exported-made : (cs : List C.Call) → WordCalls cs → Made x′ cs
@@ -107,5 +107,5 @@ module _ (m : ℕ) (x x′ : Lending) (h : Told Formatted (x .store) (x .table) 
       → (ss : List ℕ) × Unfinished (told nothing (map turn-of ks)) ss × Made y (map C.abort ss)
   exported-aborts ks y r w =
       let u = unfinished-told (map turn-of ks) in
-      let K = fitting-run Word zero-word word-or-not functions lock-rule lock-rule-strict functions-laws nothing (L.own-run (lendings r)) (subst (λ l. WordCalls (calls-of l)) (sym (own-told r)) (own-words r w)) start-kept in
+      let K = fitting-run Word functions lock-rule lock-rule-strict functions-laws nothing (L.own-run (lendings r)) (subst (λ l. WordCalls (calls-of l)) (sym (own-told r)) (own-words r w)) start-kept in
       (u .0, u .1, kept-made (map C.abort (u .0)) (told nothing (L.own (lendings r))) y (aborts-words (u .0)) K)

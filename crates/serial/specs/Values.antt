@@ -19,7 +19,7 @@ either : {A : Type 0} (F : A → Type 0) (b : Bool) (x y : A) → F x → F y �
 either F true x y f g = f
 either F false x y f g = g
 
-module _ (P : ℕ → Type 0) (zero-fits : P 0) (dec : (n : ℕ) → Dec (P n)) where
+module _ (P : ℕ → Type 0) where
   -- What a put hands over to be written fits.
   abbrev pub FitCall : Call → Type 0
   FitCall (format m) = Unit {0}
@@ -167,16 +167,6 @@ module _ (P : ℕ → Type 0) (zero-fits : P 0) (dec : (n : ℕ) → Dec (P n)) 
   serial-fits [] d w h = h
   serial-fits (l ∷ ls) d w h = serial-fits ls (after store l d) (w .1) (after-fits l d (w .0) h)
 
-  values-fit : (h : Hist store) (σ : S.State store) → Inv store empty h σ → FitHist h → (e : ℕ) → P (σ .db (value e))
-  values-fit h σ v W e = go (dec (σ .db (value e)))
-    where
-      base : Fit (serial store (h .closed) empty)
-      base = serial-fits (h .closed) empty (W .closed) (λ x. zero-fits)
-
-      go : Dec (P (σ .db (value e))) → P (σ .db (value e))
-      go (yes l) = l
-      go (no n) = subst P (sym (v .core .free (value e) (λ t. not-true (σ .changes t (value e)) λ w. n (subst P (sym (v .core .part t .own (value e) w)) (after-fits (h .current t) (serial store (h .closed) empty) (W .current t) base e))))) (base e)
-
   -- ---- along a list of calls
 
   -- What is known of a store after calls that told t, where what was written fits.
@@ -184,10 +174,6 @@ module _ (P : ℕ → Type 0) (zero-fits : P 0) (dec : (n : ℕ) → Dec (P n)) 
     pub knows : Knows 𝓢 t x
     pub serial : Serial 𝓢 t x
     pub written : FitTold t
-
-  -- Every value fits.
-  pub fitting-values : (𝓢 : Machine) (t : Told) (x : 𝓢 .X) → Fitting 𝓢 t x → (e : ℕ) → P (𝓢 .meaning x .db (value e))
-  fitting-values 𝓢 t x F e = values-fit (t .past) (view (𝓢 .meaning x)) (F .serial) (F .written .past) e
 
   pub fitting-fresh : (𝓢 : Machine) (x : 𝓢 .X) → Knows 𝓢 nothing x → Formatted (𝓢 .meaning x) → Fitting 𝓢 nothing x
   fitting-fresh 𝓢 x w f = record { knows = w; serial = inv-fresh store empty tt (view (𝓢 .meaning x)) (formatted-fresh (𝓢 .meaning x) f); written = nothing-fits }
@@ -203,3 +189,18 @@ module _ (P : ℕ → Type 0) (zero-fits : P 0) (dec : (n : ℕ) → Dec (P n)) 
     pub fitting-run : {x y : 𝓢 .X} {ks : List Turn} (t : Told) → Run 𝓢 x ks y → FitCalls (calls-of ks) → Fitting 𝓢 t x → Fitting 𝓢 (told t ks) y
     fitting-run t stop w F = F
     fitting-run t (next {x} {y} {z} {k} {ks} d r) w F = fitting-run (tell k t) r (w .1) (fitting-turn k x y t d (w .0) F)
+
+  module _ (zero-fits : P 0) (dec : (n : ℕ) → Dec (P n)) where
+    values-fit : (h : Hist store) (σ : S.State store) → Inv store empty h σ → FitHist h → (e : ℕ) → P (σ .db (value e))
+    values-fit h σ v W e = go (dec (σ .db (value e)))
+      where
+        base : Fit (serial store (h .closed) empty)
+        base = serial-fits (h .closed) empty (W .closed) (λ x. zero-fits)
+
+        go : Dec (P (σ .db (value e))) → P (σ .db (value e))
+        go (yes l) = l
+        go (no n) = subst P (sym (v .core .free (value e) (λ t. not-true (σ .changes t (value e)) λ w. n (subst P (sym (v .core .part t .own (value e) w)) (after-fits (h .current t) (serial store (h .closed) empty) (W .current t) base e))))) (base e)
+
+    -- Every value fits.
+    pub fitting-values : (𝓢 : Machine) (t : Told) (x : 𝓢 .X) → Fitting 𝓢 t x → (e : ℕ) → P (𝓢 .meaning x .db (value e))
+    fitting-values 𝓢 t x F e = values-fit (t .past) (view (𝓢 .meaning x)) (F .serial) (F .written .past) e

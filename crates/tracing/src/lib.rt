@@ -3,7 +3,7 @@
 // A line is a letter and numbers in base ten: b begin, r w i d l t the six requests in the order of their codes, s one step, g steps until the answer is
 // not more, c commit, a abort; then the party and the arguments that its code uses, in the order entry, first, second. A blank line is counted and tells
 // nothing; any other line that is not of this form is told as malformed and makes no call. What is promised here is that every function is safe and
-// ends; what a call does is promised by `calls`. It rests on `calls`, on `endings` for the table at the start, on `scripts` for the text of a line and of an answer.
+// ends; what a call does is promised by `calls`. It rests on `calls`, on `endings` for the table at the start, on `scripts` for the text of a line and of an answer, on `words` for the words of an entry.
 pub mod play;
 
 use endings::fresh_session;
@@ -15,9 +15,10 @@ use scripts::text::malformed;
 use scripts::text::told;
 use sessions::PARTIES;
 use sessions::Session;
+use words::ENTRY_WORDS;
 
-// Words of the store: 16, 3 for each of 16 entries, 20 for each of 700 records.
-pub const STORE: usize = 14064;
+// Words of the store: those of the header, of 16 entries and of 700 records.
+pub const STORE: usize = 16 + ENTRY_WORDS * ENTRIES as usize + 20 * 700;
 
 // Words of the lent list.
 pub const LIST: usize = 1024;
