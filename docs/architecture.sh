@@ -1,7 +1,7 @@
 #!/bin/sh
 # Draws docs/architecture.svg: the crates of crates.txt by layer and family, with the main arrows between families.
 #   docs/architecture.sh          writes the picture
-#   docs/architecture.sh check    says whether the picture is up to date, and whether docs/ARCHITECTURE.md has each crate once
+#   docs/architecture.sh check    says whether the picture is as drawn, and whether docs/ARCHITECTURE.md has each crate once
 # Each crate of crates.txt must stand in one box below, and each arrow must be a dependency of crates.txt: else nothing is written.
 set -eu
 cd "$(dirname "$0")/.."
@@ -40,7 +40,8 @@ draw() {
         box("test", 614, 490, 160, 138, "test", "test of soundness", "one pass a part", \
             "marks requests standing parties tree_walk undo_chains lists holders passing holdings sound")
         box("damage", 814, 490, 160, 96, "beside", "samples, damage", "one word changed", "samples damage")
-        box("records", 304, 650, 470, 66, "store", "records", "20 words each, read and written", "kinds chain nodes reshaping groups undos")
+        box("records", 304, 650, 470, 66, "store", "records", "20 words each, read and written", \
+            "kinds chain nodes reshaping groups undos")
 
         box("words", 304, 752, 470, 58, "store", "words, session table, lock rule, answers", "", "words locks sessions outcomes")
 
@@ -109,7 +110,8 @@ draw() {
     }
     # The crates of a box, as many on a line as its width has room for.
     function paint_box(i,  n, a, k, y, line, room) {
-        printf "<rect x=\"%d\" y=\"%d\" width=\"%d\" height=\"%d\" rx=\"5\" class=\"%s\"/>\n", bx[i], by[i], bw[i], bh[i], bcolour[i]
+        printf "<rect x=\"%d\" y=\"%d\" width=\"%d\" height=\"%d\" rx=\"5\" ", bx[i], by[i], bw[i], bh[i]
+        printf "class=\"%s\"/>\n", bcolour[i]
         text(bx[i] + 9, by[i] + 19, "title", btitle[i])
         y = by[i] + 35
         if (bnote[i] != "") { text(bx[i] + 9, y, "note", bnote[i]); y += 18 } else y += 4
@@ -128,17 +130,21 @@ draw() {
         text(x + 23, 27, "note", s)
     }
     function paint(  i) {
-        print "<svg xmlns=\"http://www.w3.org/2000/svg\" width=\"1000\" height=\"836\" viewBox=\"0 0 1000 836\" font-family=\"DejaVu Sans, Verdana, sans-serif\">"
+        print "<svg xmlns=\"http://www.w3.org/2000/svg\" width=\"1000\" height=\"836\" viewBox=\"0 0 1000 836\""
+        print "    font-family=\"DejaVu Sans, Verdana, sans-serif\">"
         print "<title>The crates by layer and family</title>"
         print "<!-- made by docs/architecture.sh from crates.txt: change that, not this -->"
         print "<style>"
-        print "text { fill: #1a1a1a } .name { font-size: 14px; font-weight: bold } .title { font-size: 12.5px; font-weight: bold }"
-        print ".note { font-size: 10.5px; fill: #444 } .crate { font-size: 12px; font-family: DejaVu Sans Mono, Menlo, Consolas, monospace }"
-        print "rect { stroke: #8a8a8a; stroke-width: 1 } .layer { fill: #f5f5f5; stroke: none } .paper { fill: #ffffff; stroke: none }"
+        print "text { fill: #1a1a1a } .name { font-size: 14px; font-weight: bold }"
+        print ".title { font-size: 12.5px; font-weight: bold } .note { font-size: 10.5px; fill: #444 }"
+        print ".crate { font-size: 12px; font-family: DejaVu Sans Mono, Menlo, Consolas, monospace }"
+        print "rect { stroke: #8a8a8a; stroke-width: 1 }"
+        print ".layer { fill: #f5f5f5; stroke: none } .paper { fill: #ffffff; stroke: none }"
         print ".theory { fill: #dfe9fb } .store { fill: #e0f2e0 } .test { fill: #fcefcc } .beside { fill: #efe3f5 }"
         print "polyline { fill: none; stroke: #444; stroke-width: 1.5; marker-end: url(#head) }"
         print "</style>"
-        print "<defs><marker id=\"head\" viewBox=\"0 0 8 8\" refX=\"7\" refY=\"4\" markerWidth=\"6\" markerHeight=\"6\" orient=\"auto\"><path d=\"M0,0 L8,4 L0,8 z\" fill=\"#444\"/></marker></defs>"
+        print "<defs><marker id=\"head\" viewBox=\"0 0 8 8\" refX=\"7\" refY=\"4\" markerWidth=\"6\" markerHeight=\"6\" orient=\"auto\">"
+        print "<path d=\"M0,0 L8,4 L0,8 z\" fill=\"#444\"/></marker></defs>"
         print "<rect x=\"0\" y=\"0\" width=\"1000\" height=\"836\" class=\"paper\"/>"
         for (i = 1; i <= L; i++) paint_layer(i)
         text(8, 27, "name", crates " crates")
