@@ -390,8 +390,8 @@ static void words_beyond_kept(void)
          "the words beyond the records are not changed");
 }
 
-// Whether 11 and 12 may change word k of the store: the short lock of the request's node, the seize counts of
-// its descriptors.
+// Whether 11 and 12 may change word k of the store: the latch of the request's node, the pins of its
+// descriptors.
 static int ends_with_request(size_t k)
 {
     const struct entry_store_session *r = &old_table()[now.party];
@@ -403,12 +403,12 @@ static int ends_with_request(size_t k)
     return (r->stage == 3 && i == r->at && at == 0) || ((i == r->low || i == r->high) && at == 5);
 }
 
-// 11 and 12 end the request, its short lock and its seizures.
+// 11 and 12 end the request, its latch and its pins.
 static void only_request_ended(void)
 {
     for (size_t k = 0; k < store_len; k++) {
         fact(store[k] == old_store()[k] || ends_with_request(k),
-             "11 and 12 change no word but the request's short lock and seize counts");
+             "11 and 12 change no word but the request's latch and pins");
     }
     fact(table[now.party].stage == 0, "11 and 12 end the request");
     fact(unchanged(&list_room), "11 and 12 leave the list");
