@@ -1,19 +1,24 @@
 /*
  * entry_store.h: the entry store for C. Link libentry_store.a (x86-64).
  *
- * A store holds entries 1 to M, each with a value of one word (0: no value), and groups of entries by key. Up to 16 sessions (parties 1 to 16) read and
- * change it under long locks, and a housekeeper (party 0) tidies it. A session begins, puts one request after another, makes steps until each is done,
- * and commits or aborts. No call blocks, allocates or keeps a pointer: all memory is the caller's.
+ * A store holds entries 1 to M, each with a value of one word (0: no value), and groups of entries by key. Up to 16
+ * sessions (parties 1 to 16) read and change it under long locks, and a housekeeper (party 0) tidies it. A session
+ * begins, puts one request after another, makes steps until each is done, and commits or aborts. No call blocks,
+ * allocates or keeps a pointer: all memory is the caller's.
  *
- * What the functions promise is proved of their source (crates/entry_store) for any words at all in store, table and list, and any numbers; the
- * compiler's back end is trusted. They take as given what no test can tell, and the caller answers for it at every call:
+ * The rules are in docs/RULES.md; "Rules, section 5" below is a section of it. docs/HOST.md is for whoever writes the
+ * program around the store, docs/STORE.md has the store's words, and examples/hello.c is a whole program.
+ *
+ * What the functions promise is proved of their source (crates/entry_store) for any words at all in store, table and
+ * list, and any numbers; the compiler's back end is trusted. They take as given what no test can tell, and the caller
+ * answers for it at every call (Rules, section 12):
  *   - a pointer is not null and is aligned for its type, also where the length beside it is 0;
  *   - a length counts elements, not bytes: words of a store or list, records of a table; so many elements are there;
  *   - store, table and list do not overlap, and no other thread touches them during the call.
  * A call takes some 60 KiB of stack: leave it 128.
  *
- * One store and one table belong together. Copies of both, made between calls, may be kept and put back together. Threads take turns by a lock of the
- * caller's.
+ * One store and one table belong together. Copies of both, made between calls, may be kept and put back together.
+ * Threads take turns by a lock of the caller's.
  */
 #ifndef ENTRY_STORE_H
 #define ENTRY_STORE_H
@@ -25,7 +30,15 @@
 extern "C" {
 #endif
 
-/* ---- sizes */
+/* ---- version */
+
+/* Of this header and the archive beside it. */
+#define ENTRY_STORE_VERSION_MAJOR 0
+#define ENTRY_STORE_VERSION_MINOR 1
+#define ENTRY_STORE_VERSION_PATCH 0
+#define ENTRY_STORE_VERSION "0.1.0"
+
+/* ---- sizes: Rules, section 3 */
 
 /* Records of a session table: the housekeeper's, and one for each of the sessions from 1 on. */
 #define ENTRY_STORE_PARTIES 17
@@ -36,32 +49,35 @@ extern "C" {
 #define ENTRY_STORE_HEADER_WORDS 16
 #define ENTRY_STORE_ENTRY_WORDS 3
 #define ENTRY_STORE_RECORD_WORDS 20
-#define ENTRY_STORE_SESSION_WORDS (sizeof(struct entry_store_session) / sizeof(uint32_t))
+#define ENTRY_STORE_SESSION_WORDS 13
 
-/* What format accepts: M entries and at least so many records. Above 4,096 records the words beyond are never touched. */
+/* What format accepts: M entries and at least so many records. Above 4,096 records the words beyond are never
+ * touched. */
 #define ENTRY_STORE_MIN_ENTRIES 1
 #define ENTRY_STORE_MAX_ENTRIES 1024
 #define ENTRY_STORE_MIN_RECORDS 8
 #define ENTRY_STORE_MAX_RECORDS 4096
 
-/* The words of the largest store. */
-#define ENTRY_STORE_MAX_WORDS                                                                                                                          \
-    (ENTRY_STORE_HEADER_WORDS + ENTRY_STORE_ENTRY_WORDS * ENTRY_STORE_MAX_ENTRIES + ENTRY_STORE_RECORD_WORDS * ENTRY_STORE_MAX_RECORDS)
+/* The words of a store of m entries and r records: for an array, and for numbers. */
+#define ENTRY_STORE_WORDS(m, r)                                                                                        \
+    (ENTRY_STORE_HEADER_WORDS + ENTRY_STORE_ENTRY_WORDS * (m) + ENTRY_STORE_RECORD_WORDS * (r))
 
-/* Keys that name a group. 0 and 4,294,967,295 are the two infinities. */
+static inline size_t entry_store_words(uint32_t m, uint32_t r)
+{
+    return ENTRY_STORE_WORDS((size_t)m, (size_t)r);
+}
+
+/* The words of the largest store. */
+#define ENTRY_STORE_MAX_WORDS ENTRY_STORE_WORDS(ENTRY_STORE_MAX_ENTRIES, ENTRY_STORE_MAX_RECORDS)
+
+/* Keys that name a group (Rules, section 1). 0 and 4,294,967,295 are the two infinities. */
 #define ENTRY_STORE_MIN_KEY UINT32_C(1)
 #define ENTRY_STORE_MAX_KEY UINT32_C(4294967294)
 
-/* The words of a store of m entries and r records. */
-static inline size_t entry_store_words(uint32_t m, uint32_t r)
-{
-    return ENTRY_STORE_HEADER_WORDS + (size_t)ENTRY_STORE_ENTRY_WORDS * m + (size_t)ENTRY_STORE_RECORD_WORDS * r;
-}
+/* ---- the session table: Rules, section 3 */
 
-/* ---- the session table */
-
-/* Party p's record is table[p]. A caller reads it at will, and lends it back as it was left: a table that is not sound beside its store is refused
- * (2). A field that is not in use for the request and stage in hand may have any value. */
+/* Party p's record is table[p]. A caller reads it at will, and lends it back as it was left: a table that is not sound
+ * beside its store is refused (2). A field that is not in use for the request and stage in hand may have any value. */
 struct entry_store_session {
     uint32_t begun;  /* not 0: the session is begun; unused for party 0 */
     uint32_t code;   /* the request in hand, 1 to 6; in use where stage is not 0, as all below but undo */
@@ -69,23 +85,28 @@ struct entry_store_session {
     uint32_t first;
     uint32_t second;
     uint32_t stage;  /* 0 no request in hand, 1 start, 2 enter the root, 3 at a node, 4 change, 5 take */
-    uint32_t target; /* stages 2 and 3: the key that the walk goes to; tidy's choice */
-    uint32_t at;     /* stage 3: the record of the node under the short lock */
+    uint32_t target; /* stages 2 and 3: the key that the descent goes to; tidy's choice */
+    uint32_t at;     /* stage 3: the record of the latched node */
     uint32_t level;  /* stage 3: its level from below, 1 where its sons are descriptors */
-    uint32_t low;    /* stages 4 and 5, and a locate's second walk: the record of the seized descriptor of first */
-    uint32_t high;   /* stage 5, where second is not first: the record of the seized descriptor of second */
+    uint32_t low;    /* stages 4 and 5, and a locate's second descent: the record of the pinned descriptor of first */
+    uint32_t high;   /* stage 5, where second is not first: the record of the pinned descriptor of second */
     uint32_t last;   /* stage 5: the last key that a locate took, 0 for none */
-    uint32_t undo;   /* the newest take-back record, 0 for none; unused for party 0 */
+    uint32_t undo;   /* the newest undo record, 0 for none; unused for party 0 */
 };
 
-/* ---- answers */
+/* The archive has these words one after the other, with nothing between them: elsewhere this does not compile. */
+typedef char entry_store_session_has_its_words
+    [sizeof(struct entry_store_session) == ENTRY_STORE_SESSION_WORDS * sizeof(uint32_t) ? 1 : -1];
+
+/* ---- answers: Rules, sections 6 (a step's words) and 12 (the bits) */
 
 /*
  * Each of the six calls answers one uint64_t:
  *   bits  0 to 31   value
  *   bits 32 to 39   number
  *   bits 40 to 47   word
- *   bits 48 to 55   how many numbers the answer has: 0, 1 (value) or 2 (value and number); it tells a tidy's done from the others'
+ *   bits 48 to 55   how many numbers the answer has: 0, 1 (value) or 2 (value and number); it tells a tidy's done
+ *                   from the others'
  *   bits 56 to 63   0
  *
  *   word       value                              number
@@ -99,7 +120,8 @@ struct entry_store_session {
 enum entry_store_word {
     ENTRY_STORE_OK = 0,     /* format, begin, put, commit, abort: accepted */
     ENTRY_STORE_MORE = 1,   /* step: the request moved, and another step is due */
-    ENTRY_STORE_WAIT = 2,   /* step: a party's lock is in the way; nothing changed; step again once that party has moved on or ended */
+    ENTRY_STORE_WAIT = 2,   /* step: a party's lock is in the way; nothing changed; step again once that party has
+                               moved on or ended */
     ENTRY_STORE_DONE = 3,   /* step: the request is finished and no longer in hand */
     ENTRY_STORE_REFUSED = 4 /* any call: see enum entry_store_refusal */
 };
@@ -140,92 +162,114 @@ static inline struct entry_store_answer entry_store_unpack(uint64_t answer)
     return a;
 }
 
-/* ---- refusals */
+/* ---- refusals: Rules, section 8 */
 
 /*
- * A refusal changes no word of store, table or list, but that 11 and 12 also end the request in hand, its short lock and its seizures; long locks of
- * earlier steps stay. Where more than one applies the first in the order 1, 3 or 2, 4, 5, 7, 6, 8, 9, 10 is answered.
+ * A refusal changes no word of store, table or list, but that 11 and 12 also end the request in hand, its latch and its
+ * pins; long locks of earlier steps stay. Where more than one applies the first in the order 1, 3 or 2, 4, 5, 7, 6, 8,
+ * 9, 10 is answered.
  */
 enum entry_store_refusal {
     /* The host program causes these: a fault of the caller's code or of its memory. */
     ENTRY_STORE_TABLE = 1,   /* the table is not of ENTRY_STORE_PARTIES records: pass so many */
-    ENTRY_STORE_UNSOUND = 2, /* all calls but format: store and table are not as format and the calls leave them, or belong to different stores;
-                                entry_store_fault says which part; put back a kept copy of both, or format anew */
-    ENTRY_STORE_SIZES = 3,   /* format: M outside 1 to 1,024, or room for fewer than 8 records; lend entry_store_words(m, r) words, r at least 8 */
+    ENTRY_STORE_UNSOUND = 2, /* all calls but format: store and table are not as format and the calls leave them, or
+                                belong to different stores; entry_store_fault says which part; put back a kept copy of
+                                both, or format anew */
+    ENTRY_STORE_SIZES = 3,   /* format: M outside 1 to 1,024, or room for fewer than 8 records; lend
+                                entry_store_words(m, r) words, r at least 8 */
 
     /* The session's user causes these: answer them to that user. */
     ENTRY_STORE_PARTY = 4,   /* party above ENTRY_STORE_SESSIONS; or 0 in begin, commit or abort */
-    ENTRY_STORE_BEGUN = 5,   /* begin of a begun session: commit or abort it first; put, step, commit or abort of one not begun: begin it first */
+    ENTRY_STORE_BEGUN = 5,   /* begin of a begun session: commit or abort it first; put, step, commit or abort of one
+                                not begun: begin it first */
     ENTRY_STORE_CODE = 6,    /* put: code outside 1 to 6, 6 from a session, or 1 to 5 from party 0 */
-    ENTRY_STORE_HAND = 7,    /* put or commit with a request in hand: make its steps, or abort; step with none in hand: put first */
+    ENTRY_STORE_HAND = 7,    /* put or commit with a request in hand: make its steps, or abort; step with none in hand:
+                                put first */
     ENTRY_STORE_ENTRY = 8,   /* put, codes 1 to 4: entry outside 1 to M */
     ENTRY_STORE_KEY = 9,     /* put, codes 3 to 5: a key 0 or 4,294,967,295 */
     ENTRY_STORE_RANGE = 10,  /* put, code 5: first above second */
-    ENTRY_STORE_LIST = 12,   /* a locate's last step: the list has fewer than twice value words; lend more, and put the locate again */
+    ENTRY_STORE_LIST = 12,   /* a locate's last step: the list has fewer than twice value words; lend more, and put the
+                                locate again */
 
     /* The sessions together cause this. */
-    ENTRY_STORE_FULL = 11    /* step: fewer free records than it needs; put the request again once a session has committed or aborted, or a tidy removed
-                                a descriptor; where that never helps, the store is too small */
+    ENTRY_STORE_FULL = 11    /* step: fewer free records than it needs; put the request again once a session has
+                                committed or aborted, or a tidy removed a descriptor; where that never helps, the store
+                                is too small */
 };
 
-/* ---- requests */
+/* ---- requests: Rules, section 2 */
 
 enum entry_store_code {
     ENTRY_STORE_READ = 1,   /* the entry's value: done value */
     ENTRY_STORE_WRITE = 2,  /* first as the entry's value: done 0 */
     ENTRY_STORE_INSERT = 3, /* the entry into group first: done 1 if added, 0 if it is a member already */
     ENTRY_STORE_REMOVE = 4, /* the entry out of group first: done 1 if taken out, 0 if it is no member */
-    ENTRY_STORE_LOCATE = 5, /* the members of the groups first to second, both included: done with their count, and as many pairs of words (key,
-                               entry), rising by key and then entry, at the start of the list; later words of the list stay */
-    ENTRY_STORE_TIDY = 6    /* party 0 only: the lowest stored descriptor above first (any word): done with its key, 0 where there is none, and 1 beside it
-                               if it was removed */
+    ENTRY_STORE_LOCATE = 5, /* the members of the groups first to second, both included: done with their count, and as
+                               many pairs of words (key, entry), rising by key and then entry, at the start of the list;
+                               later words of the list stay */
+    ENTRY_STORE_TIDY = 6    /* party 0 only: the lowest stored descriptor above first (any word): done with its key, 0
+                               where there is none, and 1 beside it if it was removed */
 };
 
 /* ---- the calls */
 
-/* An empty store of so many entries, and a table with no session begun. All that was there before is lost. Answers ok; refuses 1 or 3. */
-uint64_t entry_store_format(uint32_t *store, size_t store_words, struct entry_store_session *table, size_t table_records, uint32_t entries);
+/* An empty store of so many entries, and a table with no session begun. All that was there before is lost. Answers ok;
+ * refuses 1 or 3. Rules, section 7. */
+uint64_t entry_store_format(uint32_t *store, size_t store_words, struct entry_store_session *table,
+                            size_t table_records, uint32_t entries);
 
-/* A session, 1 to ENTRY_STORE_SESSIONS, begins. Answers ok; refuses 1, 2, 4 or 5. The store is not changed. */
-uint64_t entry_store_begin(uint32_t *store, size_t store_words, struct entry_store_session *table, size_t table_records, uint32_t party);
+/* A session, 1 to ENTRY_STORE_SESSIONS, begins. Answers ok; refuses 1, 2, 4 or 5. The store is not changed. Rules,
+ * section 7. */
+uint64_t entry_store_begin(uint32_t *store, size_t store_words, struct entry_store_session *table,
+                           size_t table_records, uint32_t party);
 
-/* A party's request: it is in hand until a step answers done, 11 or 12, or until an abort. Arguments that the code does not use are ignored. Answers ok;
- * refuses 1, 2, 4 to 10. The store is not changed. */
-uint64_t entry_store_put(uint32_t *store, size_t store_words, struct entry_store_session *table, size_t table_records, uint32_t party, uint32_t code,
-                         uint32_t entry, uint32_t first, uint32_t second);
+/* A party's request: it is in hand until a step answers done, 11 or 12, or until an abort. Arguments that the code does
+ * not use are ignored. Answers ok; refuses 1, 2, 4 to 10. The store is not changed. Rules, section 2. */
+uint64_t entry_store_put(uint32_t *store, size_t store_words, struct entry_store_session *table, size_t table_records,
+                         uint32_t party, uint32_t code, uint32_t entry, uint32_t first, uint32_t second);
 
-/* One step of the request that the party has in hand. Only a locate's last step, where it answers done, writes the list; a list of 0 words will do for
- * all others. Answers more, wait or done; refuses 1, 2, 4, 5, 7, 11 or 12. */
-uint64_t entry_store_step(uint32_t *store, size_t store_words, struct entry_store_session *table, size_t table_records, uint32_t *list,
-                          size_t list_words, uint32_t party);
+/* One step of the request that the party has in hand. Only a locate's last step, where it answers done, writes the
+ * list; a list of 0 words will do for all others. Answers more, wait or done; refuses 1, 2, 4, 5, 7, 11 or 12. Rules,
+ * section 6; which long locks a step asks for: section 5. */
+uint64_t entry_store_step(uint32_t *store, size_t store_words, struct entry_store_session *table, size_t table_records,
+                          uint32_t *list, size_t list_words, uint32_t party);
 
-/* A session ends, and what it did stays. Its locks end. Answers ok; refuses 1, 2, 4, 5 or 7. */
-uint64_t entry_store_commit(uint32_t *store, size_t store_words, struct entry_store_session *table, size_t table_records, uint32_t party);
+/* A session ends, and what it did stays. Its locks end. Answers ok; refuses 1, 2, 4, 5 or 7. Rules, section 7. */
+uint64_t entry_store_commit(uint32_t *store, size_t store_words, struct entry_store_session *table,
+                            size_t table_records, uint32_t party);
 
-/* A session ends, and what it did is undone; a request in hand ends too. Its locks end. Answers ok; refuses 1, 2, 4 or 5. */
-uint64_t entry_store_abort(uint32_t *store, size_t store_words, struct entry_store_session *table, size_t table_records, uint32_t party);
+/* A session ends, and what it did is undone; a request in hand ends too. Its locks end. Answers ok; refuses 1, 2, 4 or
+ * 5. Rules, section 7. */
+uint64_t entry_store_abort(uint32_t *store, size_t store_words, struct entry_store_session *table,
+                           size_t table_records, uint32_t party);
 
 /* ---- reading */
 
-/* How many sessions a holders word has: the number of its ones; session s is bit s - 1. Entry e's words stand from store[entry_store_words(e - 1, 0)]
- * on: its value, its share holders, its exclusive holders. */
+/* How many sessions a holders word has: the number of its ones; session s is bit s - 1. Entry e's words stand from
+ * store[entry_store_words(e - 1, 0)] on: its value, its share holders, its exclusive holders. Rules, sections 3 and
+ * 5. */
 uint32_t entry_store_lock_count(uint32_t holders);
 
-/* The first part of soundness that store and table break (enum entry_store_part), 0 for none: the test that every call but format makes. It changes
- * nothing. Proved: it is 0 exactly if store and table are sound, and any other number names a part that is broken. */
-uint32_t entry_store_fault(const uint32_t *store, size_t store_words, const struct entry_store_session *table, size_t table_records);
+/* The first part of soundness that store and table break (enum entry_store_part), 0 for none: the test that every call
+ * but format makes. It changes nothing. Proved: it is 0 exactly if store and table are sound, and any other number
+ * names a part that is broken. Rules, section 4. */
+uint32_t entry_store_fault(const uint32_t *store, size_t store_words, const struct entry_store_session *table,
+                           size_t table_records);
 
-/* The parts of soundness, in the order in which they are tested, but that 11 comes before them all. */
+/* The parts of soundness, in the order in which they are tested, but that 11 comes before them all. Rules, section
+ * 4. */
 enum entry_store_part {
     ENTRY_STORE_PART_NONE = 0,
     ENTRY_STORE_PART_SIZES = 1,      /* the header's M and R are those that format gives for this length */
     ENTRY_STORE_PART_ENTRIES = 2,    /* entries: only begun sessions hold, and no two holders conflict */
     ENTRY_STORE_PART_KEY_ZERO = 3,   /* key 0 is stored and has no member */
-    ENTRY_STORE_PART_TREE = 4,       /* nodes and descriptors form a tree as document 01 has it, keys rising; no record is reached twice */
-    ENTRY_STORE_PART_REQUESTS = 5,   /* each request in hand passes put's checks and stands where its own steps can bring it */
-    ENTRY_STORE_PART_LATCHES = 6,    /* each short lock belongs to a request in hand */
-    ENTRY_STORE_PART_UNDOS = 7,      /* each take-back chain can be undone under locks that its session holds */
-    ENTRY_STORE_PART_GROUPS = 8,     /* groups: members, holders, seize counts; a locate holds every key it has passed */
+    ENTRY_STORE_PART_TREE = 4,       /* nodes and descriptors form a tree as the Rules have it, keys rising; no record
+                                        is reached twice */
+    ENTRY_STORE_PART_REQUESTS = 5,   /* each request in hand passes put's checks and stands where its own steps can
+                                        bring it */
+    ENTRY_STORE_PART_LATCHES = 6,    /* each latch belongs to a request in hand */
+    ENTRY_STORE_PART_UNDOS = 7,      /* each chain of undo records can be undone under locks that its session holds */
+    ENTRY_STORE_PART_GROUPS = 8,     /* groups: members, holders, pins; a locate holds every key it has passed */
     ENTRY_STORE_PART_FREE_CHAIN = 9, /* the free chain goes only to records that nothing else reaches */
     ENTRY_STORE_PART_UNREACHED = 10, /* every record is reached */
     ENTRY_STORE_PART_TABLE = 11      /* the table is of ENTRY_STORE_PARTIES records */
@@ -233,7 +277,8 @@ enum entry_store_part {
 
 /* ---- names */
 
-/* A number that a macro names, as a text. */
+/* A number that a macro names, as a text. The texts are those that the examples print: a short lock is a latch, a
+ * take-back an undo record (docs/RULES.md, Glossary). */
 #define ENTRY_STORE_TEXT(number) ENTRY_STORE_TEXT_OF(number)
 #define ENTRY_STORE_TEXT_OF(text) #text
 

@@ -1,6 +1,7 @@
 // Prints a saved image of a store and its session table, and changes nothing.
 //
-// Usage: dump IMAGE [KEY...]. A key is a number, or driver/day/hours:minutes.
+// Usage: dump IMAGE [KEY...]. A key is a number, or driver/day/hours:minutes. dump --dot IMAGE draws it
+// instead (dot.c).
 //
 // Prints the sizes, whether store and table are sound or which part of soundness fails, what the records are,
 // the parties with their requests in hand and take-backs, the tree level by level, the descriptors in the
@@ -10,156 +11,11 @@
 // followed once at most: what is not a record is printed as ?number, what was met before as number!.
 //
 // Exit status: 0 for a sound image, 1 for a damaged one, 2 where there is none.
-#include "image.h"
+#include "dump.h"
 
+#include <errno.h>
 #include <stdio.h>
-#include <stdlib.h>
-
-// docs/STORE.md
-enum { H_ENTRIES, H_RECORDS, H_ROOT, H_HEIGHT, H_FIRST, H_FREE };
-enum { NEXT = 0 };
-enum { NODE_LATCH = 0, NODE_COUNT = 1, NODE_BOUNDS = 2, NODE_SONS = 9, MAX_SONS = 8, MAX_HEIGHT = 8 };
-enum { DESC_KEY = 1, DESC_LOCATE, DESC_UPDATE, DESC_GAP, DESC_PINS, DESC_MEMBER };
-enum { MEMBER_ENTRY = 2 };
-enum { UNDO_KIND = 1, UNDO_ENTRY = 2, UNDO_VALUE = 3, UNDO_DESC = 4 };
-enum { UNDO_WRITE = 1, UNDO_ADDED = 2, UNDO_TAKEN = 3 };
-
-struct dump {
-    struct store_host host;
-    uint32_t entries, records;
-    unsigned char seen[ENTRY_STORE_MAX_RECORDS + 1];
-    uint32_t nodes[ENTRY_STORE_MAX_RECORDS];       // level by level from the root
-    uint32_t level_start[MAX_HEIGHT + 1];          // where each level starts in nodes
-    uint32_t levels;                               // how many levels were met
-    uint32_t descriptors[ENTRY_STORE_MAX_RECORDS]; // in the tree's order
-    uint32_t members[ENTRY_STORE_MAX_RECORDS];     // how many of each descriptor were met
-    uint32_t undos[ENTRY_STORE_PARTIES];           // how many of each session were met
-    uint32_t node_count, descriptor_count, member_count, undo_count, free_count;
-};
-
-// ---- words
-
-static int is_record(const struct dump *d, uint32_t i)
-{
-    return i >= 1 && i <= d->records;
-}
-
-// Word k of record i, which is a record.
-static uint32_t word(const struct dump *d, uint32_t i, uint32_t k)
-{
-    return d->host.words[entry_store_words(d->entries, i - 1) + k];
-}
-
-static uint32_t entry_word(const struct dump *d, uint32_t e, uint32_t k)
-{
-    return d->host.words[entry_store_words(e - 1, 0) + k];
-}
-
-// Whether i is a record that is met for the first time.
-static int meet(struct dump *d, uint32_t i)
-{
-    if (!is_record(d, i) || d->seen[i]) {
-        return 0;
-    }
-    d->seen[i] = 1;
-    return 1;
-}
-
-// ---- texts
-
-static void print_key(uint32_t key)
-{
-    uint32_t minute = key % KEYS_A_DRIVER;
-    printf("%u (%u/%u/%02u:%02u)", key, key / KEYS_A_DRIVER, minute / DAY_MINUTES, minute % DAY_MINUTES / 60,
-           minute % 60);
-}
-
-// The sessions of a holders word.
-static void print_holders(const char *name, uint32_t holders)
-{
-    printf("  %s ", name);
-    if (holders == 0) {
-        printf("-");
-    }
-    const char *before = "";
-    for (uint32_t bit = 0; bit < 32; bit++) {
-        if ((holders >> bit & 1) != 0) {
-            printf("%s%u", before, bit + 1);
-            before = ",";
-        }
-    }
-}
-
-// A record number that leads nowhere.
-static void print_astray(const struct dump *d, uint32_t i)
-{
-    printf(is_record(d, i) ? " %u!" : " ?%u", i);
-}
-
-// ---- the tree: met first, printed later
-
-static uint32_t sons_of(const struct dump *d, uint32_t node)
-{
-    uint32_t count = word(d, node, NODE_COUNT);
-    return count < MAX_SONS ? count : MAX_SONS;
-}
-
-// Meets the sons of the nodes of one level, in order; they go into row from count on. Answers the new count.
-static uint32_t meet_sons(struct dump *d, uint32_t from, uint32_t end, uint32_t *row, uint32_t count)
-{
-    for (uint32_t k = from; k < end; k++) {
-        uint32_t node = d->nodes[k];
-        for (uint32_t s = 0; s < sons_of(d, node); s++) {
-            uint32_t son = word(d, node, NODE_SONS + s);
-            if (meet(d, son)) {
-                row[count] = son;
-                count += 1;
-            }
-        }
-    }
-    return count;
-}
-
-static void meet_tree(struct dump *d)
-{
-    uint32_t root = d->host.words[H_ROOT], height = d->host.words[H_HEIGHT];
-    if (height < 1 || height > MAX_HEIGHT || !meet(d, root)) {
-        return;
-    }
-    d->nodes[0] = root;
-    d->node_count = 1;
-    d->level_start[0] = 0;
-    for (d->levels = 1; d->levels < height; d->levels++) {
-        uint32_t from = d->level_start[d->levels - 1], end = d->node_count;
-        d->level_start[d->levels] = end;
-        d->node_count = meet_sons(d, from, end, d->nodes, end);
-    }
-    d->descriptor_count = meet_sons(d, d->level_start[d->levels - 1], d->node_count, d->descriptors, 0);
-}
-
-// How many records of a chain are met, from the first on.
-static uint32_t meet_chain(struct dump *d, uint32_t first)
-{
-    uint32_t count = 0;
-    for (uint32_t i = first; meet(d, i); i = word(d, i, NEXT)) {
-        count += 1;
-    }
-    return count;
-}
-
-static void meet_all(struct dump *d)
-{
-    meet_tree(d);
-    for (uint32_t k = 0; k < d->descriptor_count; k++) {
-        d->members[k] = meet_chain(d, word(d, d->descriptors[k], DESC_MEMBER));
-        d->member_count += d->members[k];
-    }
-    for (uint32_t p = 1; p < ENTRY_STORE_PARTIES; p++) {
-        d->undos[p] = meet_chain(d, d->host.table[p].undo);
-        d->undo_count += d->undos[p];
-    }
-    d->free_count = meet_chain(d, d->host.words[H_FREE]);
-}
+#include <string.h>
 
 // ---- printing
 
@@ -263,43 +119,6 @@ static void print_entries(const struct dump *d)
 
 // ---- parties
 
-static void print_request(const struct entry_store_session *s)
-{
-    static const char *const codes[] = {"?", "read", "write", "insert", "remove", "locate", "tidy"};
-    printf("%s", codes[s->code <= ENTRY_STORE_TIDY ? s->code : 0]);
-    if (s->code >= ENTRY_STORE_READ && s->code <= ENTRY_STORE_REMOVE) {
-        printf(" entry %u", s->entry);
-    }
-    if (s->code == ENTRY_STORE_WRITE) {
-        printf(", value %u", s->first);
-    } else if (s->code != ENTRY_STORE_READ) {
-        printf(s->code == ENTRY_STORE_TIDY ? " above key " : " key ");
-        print_key(s->first);
-    }
-    if (s->code == ENTRY_STORE_LOCATE) {
-        printf(" to ");
-        print_key(s->second);
-    }
-}
-
-static void print_stage(const struct entry_store_session *s)
-{
-    static const char *const stages[] = {"no request", "at its start",      "before the root",
-                                         "at a node",  "before the change", "taking"};
-    printf("; %s", s->stage <= TAKING ? stages[s->stage] : "no such stage");
-    if (s->stage == AT_NODE) {
-        printf(", record %u, level %u", s->at, s->level);
-    }
-    if (s->stage == ENTERING || s->stage == AT_NODE) {
-        printf(", on the way to key ");
-        print_key(s->target);
-    }
-    if (s->stage == TAKING) {
-        printf(", last key taken ");
-        print_key(s->last);
-    }
-}
-
 static void print_undo(const struct dump *d, uint32_t i)
 {
     uint32_t kind = word(d, i, UNDO_KIND), of = word(d, i, UNDO_DESC);
@@ -353,6 +172,7 @@ static void print_party(const struct dump *d, uint32_t p)
         printf("no request in hand");
     } else {
         print_request(s);
+        printf("; ");
         print_stage(s);
     }
     printf("\n");
@@ -424,15 +244,6 @@ static int parse_key(const char *text, uint32_t *key)
 
 // ---- the whole
 
-// The sizes, if they are those of a store of this length; else no record is looked at.
-static void take_sizes(struct dump *d, uint32_t fault)
-{
-    if (fault != ENTRY_STORE_PART_SIZES) {
-        d->entries = d->host.words[H_ENTRIES];
-        d->records = d->host.words[H_RECORDS];
-    }
-}
-
 static void print_image(const struct dump *d, enum image_state state, uint32_t fault)
 {
     printf("image: %zu words, %u entries, %u records; the sum %s\n", d->host.length, d->entries, d->records,
@@ -445,13 +256,12 @@ static void print_image(const struct dump *d, enum image_state state, uint32_t f
     }
 }
 
-static void print_all(struct dump *d, uint32_t fault)
+static void print_all(const struct dump *d, uint32_t fault)
 {
     if (fault == ENTRY_STORE_PART_SIZES) {
         printf("nothing else can be told: where a record lies depends on the sizes\n");
         return;
     }
-    meet_all(d);
     print_records(d);
     print_parties(d);
     print_tree(d);
@@ -471,23 +281,74 @@ static void print_keys(const struct dump *d, int count, char **words)
     }
 }
 
-int main(int count, char **words)
+static const char usage[] =
+    "usage: dump IMAGE [KEY...]\n"
+    "       dump --dot IMAGE\n"
+    "Prints a saved image of a store and its session table: whether it is sound, or which part of soundness\n"
+    "fails; its records, parties, tree, descriptors and entries; and who holds each KEY.\n"
+    "  KEY     a number, or driver/day/hours:minutes\n"
+    "  --dot   prints a picture of tree, latches and holders for Graphviz: dump --dot IMAGE | dot -Tsvg\n"
+    "  --help  prints this\n"
+    "The exit status is 0 for a sound image, 1 for a damaged one, 2 where there is none.\n";
+
+// What cannot be read is told where the text would stand, or beside the picture.
+static int no_image(const char *path, enum image_state state, int picture)
+{
+    fprintf(picture ? stderr : stdout, "%s: %s%s\n", path, state == IMAGE_NOT_READ ? "cannot be read: " : "",
+            image_reason(state));
+    return 2;
+}
+
+static int wrong_arguments(const char *fault, const char *word)
+{
+    fprintf(stderr, "dump: %s%s\n%s", fault, word, usage);
+    return 2;
+}
+
+static int dump_image(const char *path, int picture, int count, char **keys)
 {
     static struct dump d;
-    if (count < 2) {
-        fprintf(stderr, "usage: dump IMAGE [KEY...]\n");
-        return 2;
-    }
-    enum image_state state = image_read(&d.host, words[1]);
+    enum image_state state = image_read(&d.host, path);
     if (state != IMAGE_GOOD && state != IMAGE_SUM_DIFFERS) {
-        printf("%s: %s\n", words[1], state == IMAGE_NOT_WHOLE ? "not a whole image" : "cannot be read");
-        return 2;
+        return no_image(path, state, picture);
     }
     uint32_t fault = host_fault(&d.host);
     take_sizes(&d, fault);
-    print_image(&d, state, fault);
-    print_all(&d, fault);
-    print_keys(&d, count - 2, words + 2);
+    meet_all(&d);
+    if (picture) {
+        print_dot(&d, state, fault);
+    } else {
+        print_image(&d, state, fault);
+        print_all(&d, fault);
+        print_keys(&d, count, keys);
+    }
     host_close(&d.host);
     return fault == 0 && state == IMAGE_GOOD ? 0 : 1;
+}
+
+int main(int count, char **words)
+{
+    int picture = 0, at = 1;
+    for (; at < count && words[at][0] == '-'; at++) {
+        if (strcmp(words[at], "--help") == 0) {
+            fputs(usage, stdout);
+            return 0;
+        }
+        if (strcmp(words[at], "--dot") != 0) {
+            return wrong_arguments("no such option: ", words[at]);
+        }
+        picture = 1;
+    }
+    if (at == count) {
+        return wrong_arguments("an image is missing", "");
+    }
+    if (picture && at + 1 < count) {
+        return wrong_arguments("--dot takes no key: ", words[at + 1]);
+    }
+    int status = dump_image(words[at], picture, count - at - 1, words + at + 1);
+    if (fflush(stdout) != 0 || ferror(stdout)) {
+        fprintf(stderr, "dump: what it prints cannot be written: %s\n", strerror(errno));
+        return 2;
+    }
+    return status;
 }

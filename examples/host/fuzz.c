@@ -10,17 +10,19 @@
 // The facts (each is a function below, and prints its name where it fails):
 //   - the bits of an answer are those that the header names: word, number, value, how many numbers there are
 //   - which words each call may answer, and refusals 1 to 12 only
-//   - a call is refused exactly by the first check that fails, in the order of the scope paper; 11 and 12
-//     only in a step; and it is refused with 2 exactly if entry_store_fault names a part
+//   - a call is refused exactly by the first check that fails, in the order of docs/RULES.md, section 8; 11
+//   and
+//     12 only in a step; and it is refused with 2 exactly if entry_store_fault names a part
 //   - a refusal but 11 and 12, and a wait, change nothing; 11 and 12 change the party's own record, and in
-//     the store at most one short lock and two seize counts
+//     the store at most one latch and the pins of two descriptors
 //   - a wait names a party that has begun, never the caller
 //   - done ends the request in hand, more leaves it; a read answers the entry's value; a locate's pairs rise,
 //     lie in its range and are as many as it says; nothing else writes the list
 //   - only the caller's record of the table changes; begin and put leave the store
 //   - after every accepted call store and table are sound, M and R and the words beyond the records as before
 //
-// Prints how often each call gave each answer, and then ok, or the fact that failed and how to see it again.
+// Prints every few seconds how far it is, then how often each call gave each answer, and then ok, or the fact
+// that failed and how to see it again.
 #define _DEFAULT_SOURCE
 #include "entry_store.h"
 
@@ -248,7 +250,7 @@ static void on_signal(int number)
     _exit(1);
 }
 
-// ---- the refusal that the scope paper gives, from arguments, table and lengths
+// ---- the refusal that docs/RULES.md, section 8, gives, from arguments, table and lengths
 
 static uint32_t format_refusal(uint32_t m)
 {
@@ -388,8 +390,8 @@ static void words_beyond_kept(void)
          "the words beyond the records are not changed");
 }
 
-// Whether 11 and 12 may change word k of the store: the short lock of the request's node, the seize counts of
-// its descriptors.
+// Whether 11 and 12 may change word k of the store: the latch of the request's node, the pins of its
+// descriptors.
 static int ends_with_request(size_t k)
 {
     const struct entry_store_session *r = &old_table()[now.party];
@@ -401,12 +403,12 @@ static int ends_with_request(size_t k)
     return (r->stage == 3 && i == r->at && at == 0) || ((i == r->low || i == r->high) && at == 5);
 }
 
-// 11 and 12 end the request, its short lock and its seizures.
+// 11 and 12 end the request, its latch and its pins.
 static void only_request_ended(void)
 {
     for (size_t k = 0; k < store_len; k++) {
         fact(store[k] == old_store()[k] || ends_with_request(k),
-             "11 and 12 change no word but the request's short lock and seize counts");
+             "11 and 12 change no word but the request's latch and pins");
     }
     fact(table[now.party].stage == 0, "11 and 12 end the request");
     fact(unchanged(&list_room), "11 and 12 leave the list");
@@ -926,22 +928,80 @@ static double seconds(void)
     return (double)t.tv_sec + (double)t.tv_nsec / 1e9;
 }
 
+static void print_progress(double passed, double duration, uint64_t runs)
+{
+    printf("%.0f of %.0f s: %llu runs, words damaged %llu times\n", passed, duration,
+           (unsigned long long)runs, (unsigned long long)reached.damaged);
+    fflush(stdout);
+}
+
+// Seconds between two lines of progress.
+enum { PROGRESS = 5 };
+
 static uint64_t run_for(double duration)
 {
-    double end = seconds() + duration;
+    double begin = seconds(), passed = 0, next_line = PROGRESS;
     uint64_t number = 0;
-    while (seconds() < end) {
+    while (passed < duration) {
         run(number);
         number += 1;
+        passed = seconds() - begin;
+        if (passed >= next_line) {
+            print_progress(passed, duration, number);
+            next_line = passed + PROGRESS;
+        }
     }
     return number;
 }
 
+static const char usage[] = "usage: fuzz SECONDS [SEED [RUN]]\n"
+                            "Makes random calls on random and damaged words and holds every answer against "
+                            "the contract's plain facts.\n"
+                            "  SECONDS  for how long\n"
+                            "  SEED     which random numbers (1)\n"
+                            "  RUN      makes only the run of this number\n"
+                            "  --help   prints this\n"
+                            "The last line is ok, or how to see again what failed. The exit status is 0, or "
+                            "1 where a fact failed, or\n"
+                            "2 for wrong arguments.\n";
+
+static int wrong_arguments(const char *fault, const char *word)
+{
+    fprintf(stderr, "fuzz: %s%s\n%s", fault, word, usage);
+    return 2;
+}
+
+static int is_number(const char *text, const char *digits)
+{
+    return text[0] != 0 && text[strspn(text, digits)] == 0;
+}
+
+// 0 where the arguments are good, and else the exit status.
+static int check_arguments(int argc, char **argv)
+{
+    for (int k = 1; k < argc; k++) {
+        if (argv[k][0] == '-') {
+            return wrong_arguments("no such option: ", argv[k]);
+        }
+        if (!is_number(argv[k], k == 1 ? "0123456789." : "0123456789")) {
+            return wrong_arguments("no number: ", argv[k]);
+        }
+    }
+    if (argc < 2) {
+        return wrong_arguments("SECONDS is missing", "");
+    }
+    return argc > 4 ? wrong_arguments("too many arguments: ", argv[4]) : 0;
+}
+
 int main(int argc, char **argv)
 {
-    if (argc < 2) {
-        fprintf(stderr, "usage: fuzz SECONDS [SEED [RUN]]\n");
-        return 2;
+    if (argc > 1 && strcmp(argv[1], "--help") == 0) {
+        fputs(usage, stdout);
+        return 0;
+    }
+    int status = check_arguments(argc, argv);
+    if (status != 0) {
+        return status;
     }
     signal(SIGSEGV, on_signal);
     signal(SIGBUS, on_signal);

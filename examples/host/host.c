@@ -21,9 +21,11 @@
 #include "image.h"
 #include "morning.h"
 
+#include <errno.h>
 #include <stdarg.h>
 #include <stdio.h>
 #include <stdlib.h>
+#include <string.h>
 
 // ---- the parties
 
@@ -295,21 +297,26 @@ static void planner_take(struct yard *y, struct actor *a, struct entry_store_ans
 }
 
 // The first minute, as a key, from which nothing but rest stands for long enough; 0 where there is none.
+// Stretches may overlap, as those of a card and a vehicle file do. No stretch runs past midnight, so none of
+// the evening before reaches into the first day; elsewhere the locate starts earlier (docs/HOST.md, "Finding
+// a rest").
 static uint32_t first_rest(const struct actor *a)
 {
     const struct wish *w = wish_of(a);
-    uint32_t start = first_key(w);
+    uint32_t start = first_key(w), end = last_key(w) + 1;
     for (uint32_t k = 0; k < a->found; k++) {
         uint32_t key = a->list.words[2 * k], value = a->values[k];
         if (activity_of(value) == REST) {
             continue;
         }
-        if (key - start >= w->length) {
+        if (key >= start && key - start >= w->length) {
             return start;
         }
-        start = key + length_of(value);
+        if (key + length_of(value) > start) {
+            start = key + length_of(value);
+        }
     }
-    return last_key(w) + 1 - start >= w->length ? start : 0;
+    return start <= end && end - start >= w->length ? start : 0;
 }
 
 // The rest is found, or there is none. The planner holds what it read while its user decides.
@@ -405,7 +412,12 @@ static void save_once(struct yard *y, const struct actor *a)
         return;
     }
     y->saved = image_save(&y->host, y->image);
-    tell(y, a, y->saved ? "(the host saves store and table)" : "(the host cannot save store and table)");
+    if (y->saved) {
+        tell(y, a, "(the host saves store and table)");
+    } else {
+        const char *reason = strerror(errno);
+        tell(y, a, "(the host cannot save store and table in %s: %s)", y->image, reason);
+    }
 }
 
 // A long lock is in the way. The request stays in hand and is stepped again in the next round.
@@ -710,7 +722,9 @@ static int restart(struct yard *y)
 {
     struct store_host h;
     struct pair_list list = {NULL, 0};
-    if (!image_load(&h, y->image)) {
+    enum image_state state = image_load(&h, y->image);
+    if (state != IMAGE_GOOD) {
+        printf("\nThe saved image %s cannot be loaded: %s\n", y->image, image_reason(state));
         return 0;
     }
     printf("\nThe saved image is loaded. Undone:");
@@ -727,26 +741,56 @@ static int restart(struct yard *y)
     return 1;
 }
 
-int main(int count, char **words)
+// The whole morning; 0 where something failed, which is told.
+static int play_morning(struct yard *y)
 {
-    static struct yard y;
-    y.image = count > 1 ? words[1] : NULL;
-    if (!host_open(&y.host, ENTRIES, RECORDS)) {
+    if (!host_open(&y->host, ENTRIES, RECORDS)) {
         printf("no store\n");
-        return 1;
+        return 0;
     }
     printf(
         "A store of %d entries and %d records, %zu words. (%u records would do for all of this at once.)\n",
-        ENTRIES, RECORDS, y.host.length, records_wanted(ENTRIES, ENTRIES, 2 * WISHES));
+        ENTRIES, RECORDS, y->host.length, records_wanted(ENTRIES, ENTRIES, 2 * WISHES));
     printf("\nround  who          what\n");
-    set_yard(&y);
-    int good = play(&y);
+    set_yard(y);
+    int good = play(y);
     if (good) {
-        printf("\n%u times somebody waited for another's step on the way down the tree.\n", y.short_waits);
-        print_stretches(&y.host);
-        good = y.image == NULL || (y.saved && restart(&y));
+        printf("\n%u times somebody waited for another's step on the way down the tree.\n", y->short_waits);
+        print_stretches(&y->host);
+        good = y->image == NULL || (y->saved && restart(y));
     }
-    list_free(&y.actors[PLANNER].list);
-    host_close(&y.host);
+    list_free(&y->actors[PLANNER].list);
+    host_close(&y->host);
+    return good;
+}
+
+static const char usage[] =
+    "usage: host [IMAGE]\n"
+    "Plays a morning of six desks, a planner and the housekeeper in one store and prints a timeline.\n"
+    "  IMAGE   a file: store and table are saved there in the middle, and loaded again at the end\n"
+    "  --help  prints this\n"
+    "The exit status is 0, or 1 where a call or a file failed, or 2 for wrong arguments.\n";
+
+int main(int count, char **words)
+{
+    static struct yard y;
+    if (count > 1 && strcmp(words[1], "--help") == 0) {
+        fputs(usage, stdout);
+        return 0;
+    }
+    if (count > 1 && words[1][0] == '-') {
+        fprintf(stderr, "host: no such option: %s\n%s", words[1], usage);
+        return 2;
+    }
+    if (count > 2) {
+        fprintf(stderr, "host: one image at most\n%s", usage);
+        return 2;
+    }
+    y.image = count > 1 ? words[1] : NULL;
+    int good = play_morning(&y);
+    if (fflush(stdout) != 0 || ferror(stdout)) {
+        fprintf(stderr, "host: the timeline cannot be written: %s\n", strerror(errno));
+        return 1;
+    }
     return good ? 0 : 1;
 }

@@ -1,6 +1,7 @@
 #define _POSIX_C_SOURCE 200809L
 #include "image.h"
 
+#include <errno.h>
 #include <fcntl.h>
 #include <stdio.h>
 #include <stdlib.h>
@@ -42,6 +43,14 @@ static uint32_t crc32(const unsigned char *bytes, size_t count)
         }
     }
     return ~crc;
+}
+
+// Frees; errno stays.
+static void free_and_keep_reason(void *memory)
+{
+    int reason = errno;
+    free(memory);
+    errno = reason;
 }
 
 static size_t image_bytes(size_t words)
@@ -94,12 +103,24 @@ static int write_all(int file, const unsigned char *bytes, size_t count)
     while (count > 0) {
         ssize_t written = write(file, bytes, count);
         if (written <= 0) {
+            errno = written == 0 ? EIO : errno;
             return 0;
         }
         bytes += written;
         count -= (size_t)written;
     }
     return 1;
+}
+
+// Closes a file of which all was good so far, or not; the reason of the first failure stays in errno.
+static int close_after(int file, int good)
+{
+    int reason = errno;
+    if (close(file) != 0 && good) {
+        return 0;
+    }
+    errno = reason;
+    return good;
 }
 
 // The bytes are on the disk when this answers 1.
@@ -109,8 +130,7 @@ static int write_file(const char *path, const unsigned char *bytes, size_t count
     if (file < 0) {
         return 0;
     }
-    int good = write_all(file, bytes, count) && fsync(file) == 0;
-    return close(file) == 0 && good;
+    return close_after(file, write_all(file, bytes, count) && fsync(file) == 0);
 }
 
 // The new name is on the disk when this answers 1.
@@ -129,12 +149,11 @@ static int sync_folder_of(const char *path)
         folder[length] = 0;
     }
     int file = open(folder, O_RDONLY);
-    free(folder);
+    free_and_keep_reason(folder);
     if (file < 0) {
         return 0;
     }
-    int good = fsync(file) == 0;
-    return close(file) == 0 && good;
+    return close_after(file, fsync(file) == 0);
 }
 
 // A new file beside the old one, which then takes its name: after a crash the
@@ -149,15 +168,18 @@ static int replace_file(const char *path, const unsigned char *bytes, size_t cou
     strcat(beside, ".new");
     int good = write_file(beside, bytes, count) && rename(beside, path) == 0;
     if (!good) {
+        int reason = errno;
         remove(beside);
+        errno = reason;
     }
-    free(beside);
+    free_and_keep_reason(beside);
     return good && sync_folder_of(path);
 }
 
 int image_save(const struct store_host *h, const char *path)
 {
     if (h->length > MAX_IMAGE_WORDS) {
+        errno = EFBIG;
         return 0;
     }
     size_t count = image_bytes(h->length);
@@ -167,7 +189,7 @@ int image_save(const struct store_host *h, const char *path)
     }
     fill_image(h, bytes);
     int good = replace_file(path, bytes, count);
-    free(bytes);
+    free_and_keep_reason(bytes);
     return good;
 }
 
@@ -209,14 +231,14 @@ static enum image_state read_body(struct store_host *h, FILE *file, size_t words
     if (bytes == NULL) {
         return IMAGE_NOT_READ;
     }
-    enum image_state state = IMAGE_NOT_WHOLE;
-    if (fread(bytes, 1, count, file) == count && fgetc(file) == EOF) {
-        state = IMAGE_NOT_READ;
-        if (take_image(h, bytes, words)) {
-            state = crc32(bytes, count) == sum ? IMAGE_GOOD : IMAGE_SUM_DIFFERS;
-        }
+    enum image_state state = IMAGE_NOT_READ;
+    int whole = fread(bytes, 1, count, file) == count && fgetc(file) == EOF;
+    if (!whole && !ferror(file)) {
+        state = IMAGE_NOT_WHOLE;
+    } else if (whole && take_image(h, bytes, words)) {
+        state = crc32(bytes, count) == sum ? IMAGE_GOOD : IMAGE_SUM_DIFFERS;
     }
-    free(bytes);
+    free_and_keep_reason(bytes);
     return state;
 }
 
@@ -229,21 +251,43 @@ enum image_state image_read(struct store_host *h, const char *path)
         return IMAGE_NOT_READ;
     }
     enum image_state state = IMAGE_NOT_WHOLE;
-    if (fread(head, 1, HEAD_BYTES, file) == HEAD_BYTES && head_words(head, &words)) {
+    size_t count = fread(head, 1, HEAD_BYTES, file);
+    if (ferror(file)) {
+        state = IMAGE_NOT_READ;
+    } else if (count == HEAD_BYTES && head_words(head, &words)) {
         state = read_body(h, file, words, get_word(head + 16));
     }
+    int reason = errno;
     fclose(file);
+    errno = reason;
     return state;
 }
 
-int image_load(struct store_host *h, const char *path)
+enum image_state image_load(struct store_host *h, const char *path)
 {
     enum image_state state = image_read(h, path);
-    if (state == IMAGE_GOOD && host_fault(h) == 0) {
-        return 1;
+    if (state == IMAGE_GOOD && host_fault(h) != 0) {
+        host_close(h);
+        return IMAGE_NOT_SOUND;
     }
-    if (state == IMAGE_GOOD || state == IMAGE_SUM_DIFFERS) {
+    if (state == IMAGE_SUM_DIFFERS) {
         host_close(h);
     }
-    return 0;
+    return state;
+}
+
+const char *image_reason(enum image_state state)
+{
+    switch (state) {
+    case IMAGE_GOOD:
+        return "good";
+    case IMAGE_SUM_DIFFERS:
+        return "not what was written: the sum differs";
+    case IMAGE_NOT_SOUND:
+        return "store or table is not sound";
+    case IMAGE_NOT_WHOLE:
+        return "not a whole image";
+    default:
+        return strerror(errno);
+    }
 }

@@ -22,18 +22,23 @@
 enum image_state {
     IMAGE_GOOD,
     IMAGE_SUM_DIFFERS, // whole, but not what was written
+    IMAGE_NOT_SOUND,   // as it was written, but no sound store and table
     IMAGE_NOT_WHOLE,   // cut short, too long, or no image
-    IMAGE_NOT_READ,    // no such file, or no memory
+    IMAGE_NOT_READ,    // no such file, or it cannot be read, or no memory: errno says which
 };
 
-// Writes both, or leaves the file as it was. 0 where it failed.
+// Writes both, or leaves the file as it was. 0 where it failed; errno says why.
 int image_save(const struct store_host *h, const char *path);
 
 // Reads both. Where the state is IMAGE_GOOD or IMAGE_SUM_DIFFERS, h has them
 // and is to be closed; soundness is not looked at.
 enum image_state image_read(struct store_host *h, const char *path);
 
-// For a host: reads both and accepts only a good image that is sound.
-int image_load(struct store_host *h, const char *path);
+// For a host: reads both and accepts only a good image that is sound. Where the state is not IMAGE_GOOD, h
+// has nothing and needs no close.
+enum image_state image_load(struct store_host *h, const char *path);
+
+// The reason of a state, right after it was given: IMAGE_NOT_READ's is that of errno.
+const char *image_reason(enum image_state state);
 
 #endif

@@ -1,12 +1,15 @@
 #!/bin/sh
 # Usage: run_checks.sh FOLDER compare|write
 #
-# Runs host and dump of FOLDER. What they print is compared with the files in expected/, or written there.
+# Runs hello, host and dump of FOLDER. What they print is compared with the files in expected/, or written there.
+#   hello.txt      what ../hello.c prints
 #   timeline.txt   the host's rounds, from begin to end
 #   dump.txt       the image that it saves in the middle, and the holders of four keys
+#   middle.dot     the same image as a picture; docs/middle.svg is drawn from it
 #   damaged.txt    the same image with a member's chain that leads into itself, in full
-#   parts.txt      the image damaged in ten ways, one for each part of soundness
+#   parts.txt      the image damaged in ten ways, one for each part of soundness; each can be drawn too
 #   short.txt      images that are cut short must be turned down
+#   words.txt      wrong options and files, with the reasons
 set -eu
 folder=$1
 mode=$2
@@ -37,10 +40,15 @@ dump_damaged() {
     [ "$status" -eq 1 ] || echo "exit status $status"
 }
 
-# the same, its line about soundness alone
+# the same, its line about soundness alone; the picture says the same and is whole
 part() {
     damage "$@"
     dump_damaged | sed -n 2p
+    status=0
+    "$folder/dump" --dot "$folder/damaged.image" >"$folder/damaged.dot" || status=$?
+    [ "$status" -eq 1 ] || echo "--dot: exit status $status"
+    grep -q 'not sound: part' "$folder/damaged.dot" || echo "--dot: no word of the part"
+    [ "$(tail -n 1 "$folder/damaged.dot")" = "}" ] || echo "--dot: not whole"
 }
 
 # Where things lie in this image: 32 entries, so record i starts at word 112 + 20 (i - 1); 1792 words, then 13 a session.
@@ -85,10 +93,35 @@ turned_down() {
     echo "short images are turned down"
 }
 
+# told STATUS COMMAND...: what a command says, whose exit status is to be this one; names of folders are left out.
+told() {
+    wanted=$1
+    shift
+    status=0
+    "$@" >"$folder/told" 2>&1 || status=$?
+    [ "$status" -eq "$wanted" ] || echo "exit status $status"
+    sed "s|$folder/||g" "$folder/told"
+}
+
+words() {
+    told 0 "$folder/host" --help
+    told 0 "$folder/dump" --help
+    told 2 "$folder/host" --nothing
+    told 2 "$folder/dump" --nothing "$image"
+    told 2 "$folder/dump" "$folder/none.image"
+    told 2 "$folder/dump" --dot "$folder/none.image"
+    told 2 "$folder/dump" "$here"/expected | sed "s|$here/||"
+    told 1 "$folder/host" "$folder/none/middle.image" | grep 'cannot' || echo "host: no reason"
+}
+
+"$folder/hello" >"$folder/said"
+hold hello.txt <"$folder/said"
 "$folder/host" "$image" >"$folder/timeline"
 hold timeline.txt <"$folder/timeline"
 "$folder/dump" "$image" 2/4/01:30 2/4/05:00 2/3/15:00 17 >"$folder/dumped"
 hold dump.txt <"$folder/dumped"
+"$folder/dump" --dot "$image" >"$folder/dumped"
+hold middle.dot <"$folder/dumped"
 damage "$(record 83 6)" 83
 dump_damaged >"$folder/dumped"
 hold damaged.txt <"$folder/dumped"
@@ -96,4 +129,6 @@ parts >"$folder/dumped"
 hold parts.txt <"$folder/dumped"
 turned_down >"$folder/dumped"
 hold short.txt <"$folder/dumped"
+words >"$folder/dumped"
+hold words.txt <"$folder/dumped"
 exit $failed

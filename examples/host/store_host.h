@@ -68,8 +68,8 @@ typedef int (*wait_handler)(void *context, uint32_t party, uint32_t holder);
 struct entry_store_answer host_run(struct store_host *h, uint32_t party, struct request r,
                                    struct pair_list *list, wait_handler on_wait, void *context);
 
-// What a sound store has, for each part of soundness (enum entry_store_part), in the words of the scope
-// paper.
+// What a sound store has, for each part of soundness (enum entry_store_part; docs/RULES.md, section 4). A
+// seize count is a descriptor's pins, a short lock a latch, a walk a descent, a take-back an undo record.
 const char *part_in_full(uint32_t part);
 
 // The planner's keys: driver x 1,048,576 + minute. The store doesn't care.
