@@ -25,15 +25,15 @@ help: ## this list
 try: need-rt ## a look: plays SCRIPT (an example) with nothing proved, in seconds
 	@examples/look '$(SCRIPT)'
 
-prove: need-rt ## proves CRATE (the trace program) and what it rests on, 10 minutes; trace then plays SCRIPT
+prove: need-rt ## proves CRATE (the trace program) and what it rests on, 8 minutes; trace then plays SCRIPT
 	@[ -r '$(SCRIPT)' ] || { echo 'make $@: SCRIPT, $(SCRIPT), cannot be read' >&2; exit 2; }
 	@.ci/prove $(CRATE)
 	@if [ '$(CRATE)' = trace ]; then echo 'target/bin/trace < $(SCRIPT)'; target/bin/trace < '$(SCRIPT)'; fi
 
-check: need-rt need-cc ## everything from nothing, 30 minutes: proofs, must-fail edits, programs, the example host
+check: need-rt need-cc ## everything from nothing, 17 minutes: proofs, must-fail edits, programs, the example host
 	@.ci/run
 
-archive: $(LIBRARY) ## proves and builds the library for C, 10 minutes
+archive: $(LIBRARY) ## proves and builds the library for C, 8 minutes
 
 $(LIBRARY): crates.txt $(shell find crates -path '*/src/*.rt' -o -path '*/specs/*.antt' -o -path '*/proofs/*.antt')
 	@.ci/archive
