@@ -1,0 +1,75 @@
+# The ways in: `make` lists them. Each says what is missing. CC may name another C compiler.
+CC ?= cc
+CRATE ?= trace
+SCRIPT ?= examples/two_desks_and_a_planner.txt
+PREFIX ?= /usr/local
+DESTDIR ?=
+LIBDIR ?= $(PREFIX)/lib
+INCLUDEDIR ?= $(PREFIX)/include
+FUZZ_SECONDS ?= 60
+FUZZ_SEED ?= 1
+
+HEADER = include/entry_store.h
+LIBRARY = target/staticlib/libentry_store.a
+# The version stands in the header and nowhere else.
+VERSION = $(shell sed -n 's/^\#define ENTRY_STORE_VERSION "\(.*\)".*/\1/p' $(HEADER))
+export CC
+
+.PHONY: help try prove check archive host install uninstall bench fuzz clean need-rt need-cc need-version
+
+help: ## this list
+	@sed -n 's/^\([a-z]*\):[^#]*## \(.*\)/\1|\2/p' Makefile | while IFS='|' read -r name what; do \
+	    printf '  make %-10s %s\n' "$$name" "$$what"; done
+	@echo 'Times are of two processors. CRATE, SCRIPT, PREFIX, DESTDIR, FUZZ_SECONDS and CC may be set.'
+
+try: need-rt ## a look: plays SCRIPT (an example) with nothing proved, in seconds
+	@examples/look '$(SCRIPT)'
+
+prove: need-rt ## proves CRATE (the trace program) and what it rests on, 8 minutes; trace then plays SCRIPT
+	@[ -r '$(SCRIPT)' ] || { echo 'make $@: SCRIPT, $(SCRIPT), cannot be read' >&2; exit 2; }
+	@.ci/prove $(CRATE)
+	@if [ '$(CRATE)' = trace ]; then echo 'target/bin/trace < $(SCRIPT)'; target/bin/trace < '$(SCRIPT)'; fi
+
+check: need-rt need-cc ## everything from nothing, 17 minutes: proofs, must-fail edits, programs, the example host
+	@.ci/run
+
+archive: $(LIBRARY) ## proves and builds the library for C, 8 minutes
+
+$(LIBRARY): crates.txt $(shell find crates -path '*/src/*.rt' -o -path '*/specs/*.antt' -o -path '*/proofs/*.antt')
+	@.ci/archive
+
+host: need-cc archive ## builds the example host, its dump and the fuzz harness, and checks what they print
+	@$(MAKE) --no-print-directory -C examples/host all check CC='$(CC)'
+
+install: need-version archive ## library, header and pkg-config file under PREFIX (/usr/local), below DESTDIR if that is set
+	@printf '%s\n' 'prefix=$(PREFIX)' 'libdir=$(LIBDIR)' 'includedir=$(INCLUDEDIR)' '' 'Name: entry_store' \
+	    'Description: A verified store for entries under long locks on keys and gaps' 'Version: $(VERSION)' \
+	    'Libs: -L$${libdir} -lentry_store' 'Cflags: -I$${includedir}' > target/entry_store.pc
+	install -d '$(DESTDIR)$(LIBDIR)/pkgconfig' '$(DESTDIR)$(INCLUDEDIR)'
+	install -m 644 $(LIBRARY) '$(DESTDIR)$(LIBDIR)/libentry_store.a'
+	install -m 644 $(HEADER) '$(DESTDIR)$(INCLUDEDIR)/entry_store.h'
+	install -m 644 target/entry_store.pc '$(DESTDIR)$(LIBDIR)/pkgconfig/entry_store.pc'
+
+uninstall: ## removes what install wrote
+	rm -f '$(DESTDIR)$(LIBDIR)/libentry_store.a' '$(DESTDIR)$(INCLUDEDIR)/entry_store.h' \
+	    '$(DESTDIR)$(LIBDIR)/pkgconfig/entry_store.pc'
+
+bench: ## measures calls, and the same work in SQLite, half a minute; tables and plot in target/bench
+	@bench/run
+
+fuzz: need-cc archive ## random calls on random and damaged words for FUZZ_SECONDS (60), under the address sanitizer
+	@$(MAKE) --no-print-directory -C examples/host fuzz CC='$(CC)' FUZZ_SECONDS='$(FUZZ_SECONDS)' FUZZ_SEED='$(FUZZ_SEED)'
+
+clean: ## removes target/, with all that was proved and built
+	rm -rf target
+
+# ---- what is missing is said before anything is proved
+
+need-rt:
+	@.ci/need 'make $(MAKECMDGOALS)' rt
+
+need-cc:
+	@.ci/need 'make $(MAKECMDGOALS)' cc
+
+need-version:
+	@[ -n '$(VERSION)' ] || { echo 'make $(MAKECMDGOALS): no line #define ENTRY_STORE_VERSION in $(HEADER)' >&2; exit 2; }
