@@ -28,7 +28,7 @@ fn show(out: &[u8], length: usize) -> bool {
     is_written
 }
 
-fn part(script: Script, is_more: bool, is_failed: bool) -> Part {
+fn after(script: Script, is_more: bool, is_failed: bool) -> Part {
     Part {
         script: script,
         is_more: is_more,
@@ -40,16 +40,17 @@ fn play_byte(store: &mut [u32], list: &mut [u32], out: &mut Text, x: Script, b: 
     let read = tracing::read_byte(store, list, x, b, out);
     let script = read.script;
     let is_shown = show(out, read.length);
-    part(script, is_shown, !is_shown)
+    after(script, is_shown, !is_shown)
 }
 
 fn play(store: &mut [u32], list: &mut [u32], out: &mut Text, x: Script, bytes: &[u8]) -> Part {
-    let mut y = part(x, true, false);
+    let mut y = after(x, true, false);
     let mut i = 0;
     while i < bytes.len() && y.is_more {
-        let script = y.script;
-        y = play_byte(store, list, out, script, bytes[i]);
+        let b = bytes[i];
         i += 1;
+        let script = y.script;
+        y = play_byte(store, list, out, script, b);
     }
     y
 }
@@ -60,10 +61,10 @@ fn play_some(store: &mut [u32], list: &mut [u32], out: &mut Text, x: Script) -> 
     let got = libc::read(STDIN_FILENO, &mut buf);
     if got < 0 {
         os::fail(b"trace: standard input cannot be read");
-        return part(x, false, true);
+        return after(x, false, true);
     }
     if got == 0 {
-        return part(x, false, false);
+        return after(x, false, false);
     }
     let n = io::count(got, &buf);
     play(store, list, out, x, &buf[..n])
@@ -71,7 +72,7 @@ fn play_some(store: &mut [u32], list: &mut [u32], out: &mut Text, x: Script) -> 
 
 // Nothing says that the input ends, so the turns are counted down, from a number that no run uses up.
 fn play_all(store: &mut [u32], list: &mut [u32], out: &mut Text, x: Script) -> Part {
-    let mut y = part(x, true, false);
+    let mut y = after(x, true, false);
     let mut turns = u64::MAX;
     while turns > 0 && y.is_more {
         let script = y.script;
