@@ -1,6 +1,7 @@
 // Lines: the line in hand, byte by byte, and which command it is.
 //
-// Blanks (spaces, tabs, returns) part the words of a line. The first word is one byte, each other one a number in digits, of at most 32 bits.
+// Blanks (spaces, tabs, returns) part the words of a line. The first word is one byte, each other one a number in digits, of at most 32 bits. A # ends the
+// words wherever it stands, also inside one: it and the rest of the line are a comment.
 
 pub const NUMBERS: usize = 3;
 
@@ -11,6 +12,8 @@ pub struct Line {
     pub is_inside: bool,
     // Some word is not of the form above, or is one too many.
     pub is_broken: bool,
+    // A comment has begun.
+    pub is_comment: bool,
     pub letter: u8,
     pub numbers: [u32; NUMBERS],
 }
@@ -49,6 +52,7 @@ impl Line {
             words: 0,
             is_inside: false,
             is_broken: false,
+            is_comment: false,
             letter: 0,
             numbers: [0; NUMBERS],
         }
@@ -61,6 +65,11 @@ impl Line {
 
     fn with_blank(mut self) -> Self {
         self.is_inside = false;
+        self
+    }
+
+    fn with_comment(mut self) -> Self {
+        self.is_comment = true;
         self
     }
 
@@ -104,8 +113,8 @@ impl Line {
         self.broken()
     }
 
-    // The line with one more byte.
-    pub fn with_byte(self, b: u8) -> Self {
+    // The line with one more byte of its words.
+    fn with_part(self, b: u8) -> Self {
         if is_blank(b) {
             return self.with_blank();
         }
@@ -113,6 +122,17 @@ impl Line {
             return self.goes_on(self.words, b);
         }
         self.begins(self.words, b)
+    }
+
+    // The line with one more byte.
+    pub fn with_byte(self, b: u8) -> Self {
+        if self.is_comment {
+            return self;
+        }
+        if b == b'#' {
+            return self.with_comment();
+        }
+        self.with_part(b)
     }
 }
 

@@ -1,7 +1,9 @@
 // Vectors: plays scripts whose text is known, and compares.
 //
-// The arguments name files two by two: a script, and the text that it must give. Each script has a store of its own, as in crate trace.
+// The arguments name files two by two: a script, and the text that it must give. Each script has a store of its own, as in crate trace. A file that cannot
+// be read, or not whole, counts as a difference, and it says so on standard error.
 ghost use Rattle.io.specs.Counts.{Counts};
+use libc::STDERR_FILENO;
 use libc::STDOUT_FILENO;
 use scripts::text::TEXT;
 use scripts::text::Text;
@@ -77,25 +79,60 @@ fn is_right(script: &[u8], wanted: &[u8]) -> bool {
     gives(&mut store, &mut list, &mut out, script, wanted)
 }
 
-// Reads the file that argument i names; how many bytes it has.
-fn load(i: usize, buf: &mut [u8; 65536]) -> usize
-    ensures { λ r. ⌜ Counts r (now (buf .exit)) ⌝ }
+// How much of a file was read, and whether that is all of it.
+struct Loaded {
+    length: usize,
+    is_all: bool,
+}
+
+// Whether nothing is left to read in the file at this path. If something is, or if reading fails, it says so on standard error.
+fn is_at_end(fd: i32, path: &[u8]) -> bool {
+    let mut rest = [0u8; 1];
+    let got = libc::read(fd, &mut rest);
+    if got < 0 {
+        os::fail(path);
+    }
+    if got > 0 {
+        io::write_all(STDERR_FILENO, path);
+        io::write_all(STDERR_FILENO, b": more than 65536 bytes\n");
+    }
+    got == 0
+}
+
+// Opens the file at this path; if it cannot, it says so on standard error.
+fn opened(path: &[u8]) -> i32 {
+    let fd = os::open_read(path);
+    if fd < 0 {
+        os::fail(path);
+    }
+    fd
+}
+
+// Reads the file that argument i names.
+fn load(i: usize, buf: &mut [u8; 65536]) -> Loaded
+    ensures { λ r. ⌜ Counts (r .length) (now (buf .exit)) ⌝ }
 {
     let mut path = io::buffer();
     let length = os::arg(i, &mut path);
-    let fd = os::open_read(&path[..length]);
+    let fd = opened(&path[..length]);
     let n = io::read_full(fd, buf);
+    let is_all = fd >= 0 && is_at_end(fd, &path[..length]);
     libc::close(fd);
-    n
+    Loaded {
+        length: n,
+        is_all: is_all,
+    }
 }
 
 // Plays the script that argument i names; whether its text is that of argument j.
 fn is_same(i: usize, j: usize) -> bool {
     let mut script = io::large_buffer();
     let mut wanted = io::large_buffer();
-    let n = load(i, &mut script);
-    let k = load(j, &mut wanted);
-    is_right(&script[..n], &wanted[..k])
+    let x = load(i, &mut script);
+    let y = load(j, &mut wanted);
+    let n = x.length;
+    let k = y.length;
+    x.is_all && y.is_all && is_right(&script[..n], &wanted[..k])
 }
 
 fn tell(i: usize, text: &[u8]) {
@@ -136,7 +173,9 @@ fn report(scripts: usize, different: u64) {
     io::print_decimal(STDOUT_FILENO, scripts as u64);
     io::write_all(STDOUT_FILENO, b" scripts, ");
     io::print_decimal(STDOUT_FILENO, different);
-    io::write_all(STDOUT_FILENO, b" differences\n");
+    if !io::write_all(STDOUT_FILENO, b" differences\n") {
+        os::fail(b"vectors: standard output cannot be written");
+    }
 }
 
 fn main() {

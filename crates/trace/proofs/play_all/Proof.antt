@@ -6,10 +6,13 @@ use Rattle.trace.proofs.play_all.Statement.{statement}
 use Rattle.trace.proofs.play_all.Tie as tie
 
 abbrev Inv-loop : tie.InvT-loop
-Inv-loop store₀ list₀ out₀ part₀ turns₀ store list out part turns = (length store ≡ length store₀) × (length list ≡ length list₀)
+Inv-loop store₀ list₀ out₀ y₀ turns₀ store list out y turns = (length store ≡ length store₀) × (length list ≡ length list₀)
 
 abbrev μ-loop : tie.MeasureT-loop
-μ-loop store₀ list₀ out₀ part₀ turns₀ store list out part turns = turns
+μ-loop store₀ list₀ out₀ y₀ turns₀ store list out y turns = turns
+
+after-requires : tie.Need-after-requires Inv-loop μ-loop
+after-requires c κs = search needs
 
 loop-holds : tie.Need-loop-holds Inv-loop μ-loop
 loop-holds c = search needs
@@ -35,12 +38,22 @@ same-length-2 c = search needs
 returns : tie.Need-returns Inv-loop μ-loop
 returns c = search needs
 
+same-length-3 : tie.Need-same-length-3 Inv-loop μ-loop
+same-length-3 c = search needs
+
+same-length-4 : tie.Need-same-length-4 Inv-loop μ-loop
+same-length-4 c = search needs
+
+returns-2 : tie.Need-returns-2 Inv-loop μ-loop
+returns-2 c = search needs
+
 pub play-all-spec : {M : Type 1} → statement M
 play-all-spec =
     tie.close
     (tie.spec
     Inv-loop
     μ-loop
+    after-requires
     loop-holds
     play-some-requires
     sub-turns
@@ -48,4 +61,7 @@ play-all-spec =
     loop-again
     same-length
     same-length-2
-    returns)
+    returns
+    same-length-3
+    same-length-4
+    returns-2)
