@@ -1,6 +1,6 @@
 /* One session writes an entry, inserts it at a key, finds it there and commits. From the project's root:
  *     cc -std=c99 -Iinclude examples/hello.c target/staticlib/libentry_store.a -o target/hello
- * (rt staticlib entry_store makes the archive; docs/HOST.md says what a host does at each answer.) */
+ * (make archive proves and builds the archive; docs/HOST.md says what a host does at each answer.) */
 #include "entry_store.h"
 
 #include <stdio.h>
