@@ -10,7 +10,7 @@
 // An image may be damaged in any way. Every record number is tested before it is used, and every record is
 // followed once at most: what is not a record is printed as ?number, what was met before as number!.
 //
-// Exit status: 0 for a sound image, 1 for a damaged one, 2 where there is none.
+// Exit status: 0 for a sound image, 1 for a damaged one, 2 where there is none or the arguments are wrong.
 #include "dump.h"
 
 #include <errno.h>
@@ -275,8 +275,6 @@ static void print_keys(const struct dump *d, int count, char **words)
         uint32_t key;
         if (parse_key(words[k], &key)) {
             print_holders_of(d, key);
-        } else {
-            printf("\n%s is no key\n", words[k]);
         }
     }
 }
@@ -289,7 +287,8 @@ static const char usage[] =
     "  KEY     a number, or driver/day/hours:minutes\n"
     "  --dot   prints a picture of tree, latches and holders for Graphviz: dump --dot IMAGE | dot -Tsvg\n"
     "  --help  prints this\n"
-    "The exit status is 0 for a sound image, 1 for a damaged one, 2 where there is none.\n";
+    "The exit status is 0 for a sound image, 1 for a damaged one, 2 where there is none or for wrong\n"
+    "arguments.\n";
 
 // What cannot be read is told where the text would stand, or beside the picture.
 static int no_image(const char *path, enum image_state state, int picture)
@@ -344,6 +343,12 @@ int main(int count, char **words)
     }
     if (picture && at + 1 < count) {
         return wrong_arguments("--dot takes no key: ", words[at + 1]);
+    }
+    for (int k = at + 1; k < count; k++) {
+        uint32_t key;
+        if (!parse_key(words[k], &key)) {
+            return wrong_arguments("no key: ", words[k]);
+        }
     }
     int status = dump_image(words[at], picture, count - at - 1, words + at + 1);
     if (fflush(stdout) != 0 || ferror(stdout)) {

@@ -10,8 +10,7 @@
 // The facts (each is a function below, and prints its name where it fails):
 //   - the bits of an answer are those that the header names: word, number, value, how many numbers there are
 //   - which words each call may answer, and refusals 1 to 12 only
-//   - a call is refused exactly by the first check that fails, in the order of docs/RULES.md, section 8; 11
-//   and
+//   - a call is refused exactly by the first check that fails, in the order of docs/RULES.md, section 8; 11 and
 //     12 only in a step; and it is refused with 2 exactly if entry_store_fault names a part
 //   - a refusal but 11 and 12, and a wait, change nothing; 11 and 12 change the party's own record, and in
 //     the store at most one latch and the pins of two descriptors

@@ -108,6 +108,7 @@ words() {
     told 0 "$folder/dump" --help
     told 2 "$folder/host" --nothing
     told 2 "$folder/dump" --nothing "$image"
+    told 2 "$folder/dump" "$image" 17 2/4/25:00
     told 2 "$folder/dump" "$folder/none.image"
     told 2 "$folder/dump" --dot "$folder/none.image"
     told 2 "$folder/dump" "$here"/expected | sed "s|$here/||"
