@@ -30,7 +30,7 @@ prove: need-rt ## proves CRATE (the trace program) and what it rests on, 8 minut
 	@.ci/prove $(CRATE)
 	@if [ '$(CRATE)' = trace ]; then echo 'target/bin/trace < $(SCRIPT)'; target/bin/trace < '$(SCRIPT)'; fi
 
-check: need-rt need-cc ## everything from nothing, 17 minutes: proofs, must-fail edits, programs, the example host
+check: need-rt need-cc ## everything from nothing, 18 minutes: proofs, must-fail edits, programs, the example host
 	@.ci/run
 
 archive: $(LIBRARY) ## proves and builds the library for C, 8 minutes
