@@ -13,7 +13,6 @@ pub mod Model
 pub mod Sound
 pub mod Context
 pub mod InTheWay
-pub mod Blocking
 pub mod Effect
 -- What is read of a state, and of a state after a change.
 pub mod Logic
@@ -70,6 +69,7 @@ pub mod Session
 pub mod Moves
 pub mod Safety
 -- Demand 2: waits, going forward, long locks, answers; what a step needs.
+pub mod Blocking
 pub mod Waits
 pub mod Conflicts
 pub mod Tidying

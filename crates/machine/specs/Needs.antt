@@ -1,7 +1,7 @@
 -- Demand 1, refusals 11 and 12: a step is refused 11 exactly if nobody is in its way and fewer records are free than it needs, and 12 exactly if it is a locate's last,
 -- nobody is in its way and the lent list is shorter than twice the number of memberships in the range, which comes back.
 use mathlib.Core.Path.{_≡_, refl, sym, _∙_, subst, ap}
-use mathlib.Core.Bool.{Bool, true, false, cond}
+use mathlib.Core.Bool.{Bool, true, false, cond, not, _&&_}
 use mathlib.Core.List.{List, [], _∷_}
 use mathlib.Core.Logic.{_↔_}
 use mathlib.Core.Option.{some}
@@ -14,30 +14,35 @@ use Rattle.serial.specs.Locks.{weak, strong}
 use Rattle.serial.specs.Model as R
 use Rattle.machine.specs.Logic.{eqb-is, leb-is, leb-not, leb-yes, either}
 use Rattle.machine.specs.Holders.{latch-word, elem}
-use Rattle.machine.specs.Tree.{pick}
+use Rattle.machine.specs.Tree.{Node, pick}
 use Rattle.machine.specs.State.{Desc, Tree, Stage, start, enter, change, take, Request, State, Answer, more, wait, done, refused, Outcome, no-desc, same, or-none, sessionOf, stored, lowest-from, gap-below, descOf, at, ok}
-use Rattle.machine.specs.Descent.{Sons, at-latch, lone}
-use Rattle.machine.specs.Steps.{ended, goes-on, finished, guarded, entry-blockers, group-blockers, read-step, write-step, entry-step, insert-step, remove-step, change-step, memberships, last-take, take-desc, take-step, passed-state, located-state, fills, root-left, root-blockers, root-need, root-splits, enter-step, level-blockers, level-step, son-at, pin-step, make-step, removable, tidied-state, tidy-step, lowest-step, stand-step, at-step, first-step, next-step, updating-state, inserted-state, removed-state, answer, is-empty}
+use Rattle.machine.specs.Descent.{Sons, node, sons-of, at-latch, lone, drop-lone}
+use Rattle.machine.specs.Steps.{ended, goes-on, finished, guarded, entry-blockers, group-blockers, read-step, write-step, entry-step, insert-step, remove-step, change-step, memberships, last-take, take-desc, take-step, passed-state, located-state, fills, root-blockers, root-need, root-splits, enter-step, level-blockers, level-step, son-at, pin-step, make-step, removable, tidied-state, tidy-step, lowest-step, stand-step, at-step, first-step, next-step, updating-state, inserted-state, removed-state, answer, is-empty}
 use Rattle.machine.specs.Model.{memberships-are, model}
 use Rattle.machine.specs.Sound.{Sound}
+use Rattle.machine.specs.Looks.{kept-stored}
 use Rattle.machine.specs.Nearest.{takes-of}
-use Rattle.machine.specs.InTheWay.{InTheWay}
+use Rattle.machine.specs.InTheWay.{LowestFrom, InTheWay}
 use Rattle.machine.specs.Conflicts.{nobody-in-the-way}
 use Rattle.machine.specs.Waits.{stand-blockers, step-blockers}
 use Rattle.machine.specs.Answers.{TooShort, req-locate, ordinary, first-plain, enter-plain, at-plain, change-plain}
 
--- ---- the records that the next step needs
+-- ---- the records that the next step needs; nothing here is read of the guards of the steps
 
--- "Lock the son, split it if full (1 record)"; "seize the descriptor, or make it (1 record)". "The housekeeper doesn't split", and tidy's last step makes nothing.
+-- A full node has 8 sons; "the housekeeper doesn't split".
+abbrev pub splits : ℕ → {A : Type 0} → Node ℕ A → Bool
+splits p t = not (eqb p 0) && eqb (sons-of t) 8
+
+-- "Lock the son, split it if full (1 record)"; "seize the descriptor, or make it (1 record)". Tidy's last step makes nothing.
 unfoldable pub stand-needs : ℕ → ℕ → (h : ℕ) → Tree (suc h) → ℕ
 stand-needs p x zero t = cond (eqb p 0) 0 (cond (eqb (pick x no-desc same (t .sons) .key) x) 0 1)
-stand-needs p x (suc h) t = cond (fills p h (son-at x h (t .sons))) 1 0
+stand-needs p x (suc h) t = cond (splits p (pick x (node 0 []) same (t .sons))) 1 0
 
 -- "A write takes 1 record"; "a full root is split four and four under a new root (2 records)", of which a root dropped in this step gives one, "its record counting as free";
 -- "adding takes 2 records; taking out reuses the membership's record, and 0-answers take none".
 unfoldable pub step-needs : ℕ → Request → State → Stage → ℕ
 step-needs p r s start = cond (eqb (r .code) 2) 1 0
-step-needs p r s (enter x) = cond (fills p (root-left s .height) (root-left s .node)) (cond (lone (s .root .height) (s .root .node)) 1 2) 0
+step-needs p r s (enter x) = cond (splits p (drop-lone (s .root .height) (s .root .node) .node)) (cond (lone (s .root .height) (s .root .node)) 1 2) 0
 step-needs p r s (at x) = at-latch (latch-word p) x 0 (stand-needs p x) (suc (s .root .height)) (s .root .node)
 step-needs p r s change = cond (eqb (r .code) 3) (cond (elem (r .entry) (descOf (r .first) s .members)) 0 2) 0
 step-needs p r s (take x) = 0
@@ -185,13 +190,13 @@ step-11 n p r s S e k = in-words (nobody-in-the-way S p r e) (step-lacks n p r s
 
 -- ---- 12
 
--- The step is a locate's last: the next descriptor that it takes is that of second.
+-- The step is a locate's last: the lowest stored key from its place on is second.
 abbrev pub AtSecond : Request → State → Stage → Type 0
 AtSecond r s start = ⊥
 AtSecond r s (enter x) = ⊥
 AtSecond r s (at x) = ⊥
 AtSecond r s change = ⊥
-AtSecond r s (take x) = or-none (lowest-from x (stored s)) .key ≡ r .second
+AtSecond r s (take x) = LowestFrom x s (r .second)
 
 -- Every other step answers ordinarily.
 abbrev Plain : Outcome → Type 0
@@ -246,13 +251,22 @@ module _ (n p : ℕ) (r : Request) (s : State) (S : Sound s) (e : sessionOf p s 
           (free-way (ltb (d .key) (r .second)) refl (leb (2 * length found) n) refl)
       go (c ∷ bs) = ((λ i. absurd (true≢false {b = true} refl (ap ordinary i))), λ f. absurd (true≢false (ap is-empty (f .1)) refl))
 
+  at-second : (x : ℕ) → r .stage ≡ take x → (or-none (lowest-from x (stored s)) .key ≡ r .second) ↔ LowestFrom x s (r .second)
+  at-second x q =
+      let d : Desc = or-none (lowest-from x (stored s)) in
+      let N = takes-of S p r x e q .next in
+      let here = kept-stored (d .key) s (N .K) in (
+        (λ i. subst (LowestFrom x s) i (record { is-stored = here; from = N .from; lowest = N .least })),
+        λ l. omega (arith, l .lowest (d .key) here (N .from), N .least (r .second) (l .is-stored) (l .from)),
+      )
+
   step-12-at : (g : Stage) (k : ℕ) → r .stage ≡ g → (next-step n p r s g .answer ≡ refused 12 k) ↔ (AtSecond r s g × (step-blockers p r s g ≡ []) × TooShort r s n k)
   unfolding next-step
   step-12-at start k q = never (step-blockers p r s start ≡ []) (TooShort r s n k) (first-step p r s) k (first-plain Plain p r s (λ a t h. h))
   step-12-at (enter x) k q = never (step-blockers p r s (enter x) ≡ []) (TooShort r s n k) (enter-step p r x s) k (enter-plain Plain p r s (λ a t h. h) x)
   step-12-at (at x) k q = never (step-blockers p r s (at x) ≡ []) (TooShort r s n k) (at-step p r x s) k (at-plain Plain p r s (λ a t h. h) x)
   step-12-at change k q = never (step-blockers p r s change ≡ []) (TooShort r s n k) (change-step p r s) k (change-plain Plain p r s (λ a t h. h))
-  step-12-at (take x) k q = take-12 x k q
+  step-12-at (take x) k q = let f = at-second x q in let h = take-12 x k q in ((λ i. let z = h .0 i in (f .0 (z .0), z .1, z .2)), λ z. h .1 (f .1 (z .0), z .1, z .2))
 
   -- Every step of every party, from every sound state.
   pub step-12 : (k : ℕ) → (next-step n p r s (r .stage) .answer ≡ refused 12 k) ↔ (AtSecond r s (r .stage) × ((q : ℕ) → ¬ InTheWay p r s (r .stage) q) × TooShort r s n k)

@@ -86,16 +86,25 @@ pub record Tidies (x : ℕ) (u : Tree 1) (s : State) (Done : List ℕ → Type 0
   pub stored-are : MayGo x (lvs s) → lvs t ≡ but-key x (lvs s)
   pub stays : ¬ MayGo x (lvs s) → Leaves u (u .sons) 0 s t
 
+-- From s to t the housekeeper's request has ended, and nothing else is another.
+pub record Rests (s t : State) : Type 0 where
+  pub tree-same : t .root ≡ s .root
+  pub free-same : t .free ≡ s .free
+  pub entries-same : t .entries ≡ s .entries
+  pub records-same : t .records ≡ s .records
+  pub hand-gone : sessionOf 0 t ≡ with-hand none (sessionOf 0 s)
+  pub others-same : (q : ℕ) → ¬ (0 ≡ q) → sessionOf q t ≡ sessionOf q s
+
 -- A step of the housekeeper's request r: 0 and 0 where no descriptor was chosen, the last step as above, and no other step is done.
 pub record Tidy (r : Request) (s : State) (Done : List ℕ → Type 0) (t : State) : Type 0 where
-  pub none-chosen : r .stage ≡ start → Done (0 ∷ 0 ∷ [])
+  pub none-chosen : r .stage ≡ start → Done (0 ∷ 0 ∷ []) × Rests s t
   pub last-step : (x : ℕ) → r .stage ≡ at x → (u : Tree 1) → At 0 x s 0 u → Tidies x u s Done t
   pub no-other : (ns : List ℕ) → Done ns → (r .stage ≡ start) ⊎ ((x : ℕ) × (r .stage ≡ at x) × ((u : Tree 1) × At 0 x s 0 u))
 
 -- The same of another way to say done.
 pub tidy-said : {r : Request} {s t : State} {D E : List ℕ → Type 0} → ((ns : List ℕ) → D ns ↔ E ns) → Tidy r s D t → Tidy r s E t
 tidy-said f T = record {
-  none-chosen = λ i. f (0 ∷ 0 ∷ []) .0 (T .none-chosen i);
+  none-chosen = λ i. let z = T .none-chosen i in (f (0 ∷ 0 ∷ []) .0 (z .0), z .1);
   last-step = λ x i u A. let L = T .last-step x i u A in record {
     removes = ((λ h. L .removes .0 (f (x ∷ 1 ∷ []) .1 h)), λ h. f (x ∷ 1 ∷ []) .0 (L .removes .1 h));
     declines = ((λ h. L .declines .0 (f (x ∷ 0 ∷ []) .1 h)), λ h. f (x ∷ 0 ∷ []) .0 (L .declines .1 h));
@@ -370,6 +379,21 @@ module _ (n : ℕ) (r : Request) (s : State) (S : Sound s) (e : sessionOf 0 s .h
   unfolding first-step finished
   first-done = rw (eqb-no (r .code) 1 (λ z. omega (arith, z, keeper-6)), eqb-no (r .code) 2 (λ z. omega (arith, z, keeper-6)), leb-no (r .code) 4 (omega (arith, keeper-6))) refl
 
+  first-rests : r .stage ≡ start → Rests s (first-step 0 r s .next)
+  unfolding first-step finished ended unpin pinned unlatch set-hand on-session
+  first-rests i =
+      let z : first-step 0 r s .next ≡ ended 0 r s =
+      rw (eqb-no (r .code) 1 (λ z. omega (arith, z, keeper-6)), eqb-no (r .code) 2 (λ z. omega (arith, z, keeper-6)), leb-no (r .code) 4 (omega (arith, keeper-6))) refl in
+      let w : ended 0 r s ≡ set-hand 0 none s = ap (λ g. set-hand 0 none (unpin (pinned r g) (unlatch 0 g s))) i in
+      subst (Rests s) (sym z) (record {
+        tree-same = ap (λ y. y .root) w;
+        free-same = ap (λ y. y .free) w;
+        entries-same = ap (λ y. y .entries) w;
+        records-same = ap (λ y. y .records) w;
+        hand-gone = ended-own 0 r s (hand-seat 0 r s e);
+        others-same = λ p n. ended-other 0 p r s n;
+      })
+
   abbrev Last : Stage → Type 0
   Last g = (g ≡ start) ⊎ ((x : ℕ) × (g ≡ at x) × ((u : Tree 1) × At 0 x s 0 u))
 
@@ -395,7 +419,7 @@ module _ (n : ℕ) (r : Request) (s : State) (S : Sound s) (e : sessionOf 0 s .h
   pub tidy : Tidy r s (λ ns. next-step n 0 r s (r .stage) .answer ≡ done ns) (next-step n 0 r s (r .stage) .next)
   unfolding next-step
   tidy = record {
-    none-chosen = λ i. ap (λ g. next-step n 0 r s g .answer) i ∙ first-done;
+    none-chosen = λ i. (ap (λ g. next-step n 0 r s g .answer) i ∙ first-done, subst (λ g. Rests s (next-step n 0 r s g .next)) (sym i) (first-rests i));
     last-step = λ x i u A. subst (λ g. Tidies x u s (λ ns. next-step n 0 r s g .answer ≡ done ns) (next-step n 0 r s g .next)) (sym i) (tidies n r x s S e i u A);
     no-other = λ ns h. done-only (r .stage) refl ns h;
   }

@@ -81,6 +81,10 @@ number-of (n ∷ ns) = n
 abbrev pub answer-of : ℕ → List ℕ → List ℕ → Ans
 answer-of code ns l = record { numbers = ns; words = cond (eqb code 5) (take (2 * number-of ns) l) [] }
 
+-- No number is left out: answers that are the same have the same numbers beside done.
+pub answer-whole : (c d : ℕ) (ns ms l m : List ℕ) → answer-of c ns l ≡ answer-of d ms m → ns ≡ ms
+answer-whole c d ns ms l m e = ap (λ a. a .numbers) e
+
 abbrev pub fed : ℕ → Option Req → Ans → Hist store → Hist store
 fed s none a h = h
 fed s (some r) a h = hstep store (S.finish s r a) h

@@ -272,7 +272,7 @@ module _ (u : Lending) (n : ¬ Sound-lent u) where
   unsound-call : (c : C.Call) → Calls c (u .store) (u .table) (C.refused 2 0) (list-of c) (u .store) (u .table)
   unsound-call c = record { answers = λ S. absurd (n S); refuses = λ _. record { answer = refl; list-same = refl; store-same = refl; table-same = refl } }
 
-  unsound-lends : (c : C.Call) → Looks c → length (u .table) ≡ parties → Lends u (turn c (Refused 2 0) (list-of c)) u
+  pub unsound-lends : (c : C.Call) → Looks c → length (u .table) ≡ parties → Lends u (turn c (Refused 2 0) (list-of c)) u
   unsound-lends (C.format m) w e = absurd w
   unsound-lends (C.begin p) w e = begins {a = Refused 2 0} (λ _. unsound-call (C.begin p), λ z. absurd (z e))
   unsound-lends (C.put p c i f g) w e =
@@ -287,6 +287,19 @@ pub slice-refused : (c : C.Call) → Looks c → {x z : Lending} {ks : List Turn
 slice-refused c w {x} before part behind e n S r =
     wrong {u = lending part (x .table)} {u′ = lending part (x .table)} refl (unsound-lends (lending part (x .table)) n c w (sound-long x S))
     (subst (λ s. Loan s part part s) (sym e) (slice before part part behind refl)) (whole (x .table) (x .table) refl) r
+
+-- A table that is not of 17 records can be lent with the store, by every call: it is refused 1, and the list goes on.
+pub misfit-lends : (u : Lending) → ¬ (length (u .table) ≡ parties) → (c : C.Call) → Lends u (turn c (Refused 1 0) (list-of c)) u
+misfit-lends u n (C.format m) = formats {a = Refused 1 0} ((λ e. absurd (n e)), λ _. (refl, refl, refl))
+misfit-lends u n (C.begin p) = begins {a = Refused 1 0} ((λ e. absurd (n e)), λ _. (refl, refl, refl))
+misfit-lends u n (C.put p c i f g) = puts {k = record { party = p; code = c; entry = i; first = f; second = g }} {a = Refused 1 0} ((λ e. absurd (n e)), λ _. (refl, refl, refl))
+misfit-lends u n (C.step p l) = steps {a = Refused 1 0} ((λ e. absurd (n e)), λ _. (refl, refl, refl, refl))
+misfit-lends u n (C.commit p) = commits {a = Refused 1 0} ((λ e. absurd (n e)), λ _. (refl, refl, refl))
+misfit-lends u n (C.abort p) = aborts {a = Refused 1 0} ((λ e. absurd (n e)), λ _. (refl, refl, refl))
+
+pub table-refused : (c : C.Call) {x z : Lending} {ks : List Turn} (t : List Session) → ¬ (length t ≡ parties) → Lendings x ks z → Lendings x (turn c (Refused 1 0) (list-of c) ∷ ks) z
+table-refused c {x} t n r =
+    wrong {u = lending (x .store) t} {u′ = lending (x .store) t} refl (misfit-lends (lending (x .store) t) n c) (whole (x .store) (x .store) refl) (elsewhere (x .table) t t refl) r
 
 -- ---- demand 3
 
