@@ -26,11 +26,20 @@ void must(int holds, const char *what);
 uint32_t vector_pass(const uint32_t *words, size_t len);
 uint32_t scalar_pass(const uint32_t *words, size_t len);
 
+// ---- the machine: machine.c
+
+// Its processors, and how many bits the pass in vector code works on at a time, in one line.
+void print_machine(void);
+
 // ---- the store, lent by a host that has one desk: host.c
 
 enum { MAX_RECORDS = ENTRY_STORE_MAX_RECORDS, MAX_WORDS = ENTRY_STORE_MAX_WORDS, MAX_PAIRS = MAX_RECORDS };
 
+// How whole requests are made: in one call each, or by a put and a call a step.
+enum way { BY_REQUEST, BY_STEP };
+
 struct host {
+    enum way way;
     uint32_t entries;
     uint32_t records;
     size_t len;
@@ -40,7 +49,8 @@ struct host {
     uint32_t list[2 * MAX_PAIRS];
 };
 
-// A fresh store of so many records, with an entry for every four of them: then the words grow as the records do.
+// A fresh store of so many records, with an entry for every four of them: then the words grow as the records do. Requests are then
+// made in one call each.
 void host_format(struct host *h, uint32_t records);
 void host_begin(struct host *h, uint32_t party);
 void host_commit(struct host *h, uint32_t party);
@@ -52,7 +62,7 @@ uint32_t host_free(const struct host *h);
 void host_put_read(struct host *h, uint32_t party);
 void host_step_read(struct host *h, uint32_t party);
 
-// Whole requests of session 1: a put, and steps until done. 1 or 0 as the store answers, or NO_ROOM where it has no free record.
+// Whole requests of session 1. 1 or 0 as the store answers, or NO_ROOM where it has no free record.
 enum { NO_ROOM = 2 };
 uint32_t host_insert(struct host *h, uint32_t key, uint32_t entry);
 uint32_t host_remove(struct host *h, uint32_t key, uint32_t entry);
@@ -60,6 +70,13 @@ uint32_t host_remove(struct host *h, uint32_t key, uint32_t entry);
 // The number of memberships, which stand in the list, or NO_PAIRS where the store has no free record.
 #define NO_PAIRS UINT32_MAX
 uint32_t host_locate(struct host *h, uint32_t first, uint32_t second);
+
+// A write, and a read's value. There is room.
+void host_write(struct host *h, uint32_t entry, uint32_t value);
+uint32_t host_read(struct host *h, uint32_t entry);
+
+// Asks of one batch, all of which must be made; their answers. The pairs of a locate stand in the list.
+void host_batch(struct host *h, const struct entry_store_ask *asks, size_t count, uint64_t *answers);
 
 // The housekeeper removes every descriptor that is in no use.
 void host_tidy_all(struct host *h);
@@ -92,7 +109,8 @@ void fill_and_empty(struct host *h, uint32_t records, const struct mix *mix);
 void print_growth(const char *file);
 void print_mixes(void);
 
-// The same work in the store and in SQLite: work.c.
+// Whole sessions of a desk and of a planner in the store and in SQLite: day.c. Single requests: work.c.
+void print_days(uint32_t records);
 void print_work(uint32_t records);
 
 // One side of that work. locate writes pairs of key and entry, rising by key then entry.
@@ -104,10 +122,15 @@ struct side {
     void (*commit)(void *self);
 };
 
-// SQLite, told once that it has one thread, and then an empty database in memory, at most one at a time: sqlite.c.
+// SQLite, told once that it has one thread, and then a database in memory that has so many entries of value 0 and no membership, at
+// most one at a time: sqlite.c.
 void sqlite_start(void);
-struct side sqlite_open(void);
+struct side sqlite_open(uint32_t entries);
 void sqlite_end(struct side side);
+
+// Entries' values, which are in a table of their own. find is locate and, in the same query, the value of each entry found.
+void sqlite_write(void *self, uint32_t entry, uint32_t value);
+uint32_t sqlite_find(void *self, uint32_t first, uint32_t second, uint32_t *pairs, uint32_t *values);
 const char *sqlite_version(void);
 
 #endif

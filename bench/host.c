@@ -14,6 +14,7 @@ static int is_word(uint64_t answer, enum entry_store_word word)
 
 void host_format(struct host *h, uint32_t records)
 {
+    h->way = BY_REQUEST;
     h->records = records;
     h->entries = records / 4;
     h->len = entry_store_words(h->entries, records);
@@ -55,33 +56,44 @@ void host_step_read(struct host *h, uint32_t party)
     must(is_word(step(h, party), ENTRY_STORE_DONE), "read");
 }
 
-// The length of the chain of free records (docs/STORE.md: word 5 of the header, word 0 of each record).
 uint32_t host_free(const struct host *h)
 {
-    uint32_t count = 0;
-    for (uint32_t i = h->words[5]; i != 0; i = h->words[entry_store_words(h->entries, i - 1)]) {
-        count += 1;
-    }
-    return count;
+    uint64_t answer = entry_store_free(h->words, h->len, h->table, ENTRY_STORE_PARTIES);
+    must(is_word(answer, ENTRY_STORE_DONE), "free");
+    return entry_store_value_of(answer);
 }
 
 // ---- whole requests
 
-// Steps until the answer is not more: done, or refused for want of a free record.
-static uint64_t finish(struct host *h, uint32_t party)
+static uint64_t by_request(struct host *h, uint32_t party, uint32_t code, uint32_t entry, uint32_t first, uint32_t second)
+{
+    h->calls += 1;
+    return entry_store_request(h->words, h->len, h->table, ENTRY_STORE_PARTIES, h->list, 2 * MAX_PAIRS, party, code, entry, first, second,
+                               ENTRY_STORE_MOST_STEPS);
+}
+
+// A put, and steps until the answer is not more.
+static uint64_t by_step(struct host *h, uint32_t party, uint32_t code, uint32_t entry, uint32_t first, uint32_t second)
 {
     uint64_t answer;
+    put(h, party, code, entry, first, second);
     do {
         answer = step(h, party);
     } while (is_word(answer, ENTRY_STORE_MORE));
-    must(is_word(answer, ENTRY_STORE_DONE) || entry_store_number_of(answer) == ENTRY_STORE_FULL, "step");
+    return answer;
+}
+
+// Done, or refused for want of a free record.
+static uint64_t request(struct host *h, uint32_t party, uint32_t code, uint32_t entry, uint32_t first, uint32_t second)
+{
+    uint64_t answer = (h->way == BY_REQUEST ? by_request : by_step)(h, party, code, entry, first, second);
+    must(is_word(answer, ENTRY_STORE_DONE) || entry_store_number_of(answer) == ENTRY_STORE_FULL, "a request");
     return answer;
 }
 
 static uint32_t change(struct host *h, uint32_t code, uint32_t key, uint32_t entry)
 {
-    put(h, DESK, code, entry, key, 0);
-    uint64_t answer = finish(h, DESK);
+    uint64_t answer = request(h, DESK, code, entry, key, 0);
     return is_word(answer, ENTRY_STORE_DONE) ? entry_store_value_of(answer) : NO_ROOM;
 }
 
@@ -97,16 +109,33 @@ uint32_t host_remove(struct host *h, uint32_t key, uint32_t entry)
 
 uint32_t host_locate(struct host *h, uint32_t first, uint32_t second)
 {
-    put(h, DESK, ENTRY_STORE_LOCATE, 0, first, second);
-    uint64_t answer = finish(h, DESK);
+    uint64_t answer = request(h, DESK, ENTRY_STORE_LOCATE, 0, first, second);
     return is_word(answer, ENTRY_STORE_DONE) ? entry_store_value_of(answer) : NO_PAIRS;
+}
+
+void host_write(struct host *h, uint32_t entry, uint32_t value)
+{
+    must(is_word(request(h, DESK, ENTRY_STORE_WRITE, entry, value, 0), ENTRY_STORE_DONE), "write");
+}
+
+uint32_t host_read(struct host *h, uint32_t entry)
+{
+    return entry_store_value_of(request(h, DESK, ENTRY_STORE_READ, entry, 0, 0));
+}
+
+void host_batch(struct host *h, const struct entry_store_ask *asks, size_t count, uint64_t *answers)
+{
+    h->calls += 1;
+    uint64_t answer = entry_store_batch(h->words, h->len, h->table, ENTRY_STORE_PARTIES, h->list, 2 * MAX_PAIRS, (const uint32_t *)asks,
+                                        ENTRY_STORE_ASK_WORDS * count, answers, count);
+    must(is_word(answer, ENTRY_STORE_DONE) && entry_store_value_of(answer) == count, "batch");
+    must(is_word(answers[count - 1], ENTRY_STORE_DONE) || is_word(answers[count - 1], ENTRY_STORE_OK), "the last ask of a batch");
 }
 
 void host_tidy_all(struct host *h)
 {
     uint32_t key = 0;
     do {
-        put(h, HOUSEKEEPER, ENTRY_STORE_TIDY, 0, key, 0);
-        key = entry_store_value_of(finish(h, HOUSEKEEPER));
+        key = entry_store_value_of(request(h, HOUSEKEEPER, ENTRY_STORE_TIDY, 0, key, 0));
     } while (key != 0);
 }

@@ -1,7 +1,7 @@
 // The same logical work in the store and in SQLite: inserts of memberships, range reads of several widths, sessions begun and committed.
 //
-// Both do the same list of requests, one after another, and must give the same answers and the same pairs. The time of a request is, in
-// the store, that of its put and of all its steps.
+// All do the same list of requests, one after another, and must give the same answers and the same pairs. In the store each request is one
+// call; and then, on a fresh store, a put and a call a step.
 #include <stdio.h>
 #include <stdlib.h>
 #include <string.h>
@@ -69,9 +69,8 @@ static uint32_t locate(void *self, uint32_t first, uint32_t second, const uint32
     return host_locate(h, first, second);
 }
 
-static struct side store_open(struct host *h, uint32_t records)
+static struct side store_side(struct host *h)
 {
-    host_format(h, records);
     return (struct side){h, begin, insert, locate, commit};
 }
 
@@ -197,30 +196,72 @@ static void print_name(int kind)
     printf("%-36s", name);
 }
 
-static void print_rows(const struct load *load, const struct run *store, const struct run *sqlite)
+// Microseconds each.
+static double each(const struct load *load, const struct run *runs, int kind)
+{
+    return median_time(runs, kind) / count_of(load, kind) / 1000;
+}
+
+// The runs of one size: in the store by both ways, and in SQLite.
+struct runs {
+    struct run store[2][RUNS];
+    struct run sqlite[RUNS];
+};
+
+static void print_rows(const struct load *load, const struct runs *runs)
 {
     for (int kind = 0; kind < KINDS && (kind < READ || fits(load, kind - READ)); kind++) {
-        double count = count_of(load, kind);
-        double ours = median_time(store, kind) / count / 1000, theirs = median_time(sqlite, kind) / count / 1000;
+        double request = each(load, runs->store[BY_REQUEST], kind), step = each(load, runs->store[BY_STEP], kind);
+        double sqlite = each(load, runs->sqlite, kind);
         print_name(kind);
-        printf(" %7.1f %10.2f %10.2f %8.1f\n", store[0].calls[kind] / count, ours, theirs, ours / theirs);
+        printf(" %10.2f %10.2f %8.1f %7.1f %10.2f %8.1f\n", request, sqlite, request / sqlite,
+               runs->store[BY_STEP][0].calls[kind] / count_of(load, kind), step, step / sqlite);
     }
+}
+
+// What one key more in a range takes, in nanoseconds, between two of the widths.
+static double a_key(const struct load *load, const struct run *runs, int narrow, int wide)
+{
+    return 1000 * (each(load, runs, READ + wide) - each(load, runs, READ + narrow)) / (widths[wide] - widths[narrow]);
+}
+
+// That a range read is linear in its keys: each key takes the same, however many there are.
+static void print_linear(const struct load *load, const struct run *request)
+{
+    int last = WIDTHS - 1;
+    if (fits(load, last)) {
+        printf("A key more in a request's range: %.0f ns from %u to %u keys, %.0f ns from %u to %u; %u keys take %.0f ns a key.\n",
+               a_key(load, request, last - 2, last - 1), widths[last - 2], widths[last - 1], a_key(load, request, last - 1, last),
+               widths[last - 1], widths[last], widths[last], 1000 * each(load, request, READ + last) / widths[last]);
+    }
+}
+
+// Both ways in the store, each on a fresh one, and SQLite.
+static void run_all(const struct load *load, uint32_t records, struct runs *runs, int k)
+{
+    struct side database = sqlite_open(records / 4), lent = store_side(load->host);
+    runs->sqlite[k] = do_work(load, database);
+    for (int way = BY_REQUEST; way <= BY_STEP; way++) {
+        host_format(load->host, records);
+        load->host->way = (enum way)way;
+        runs->store[way][k] = do_work(load, lent);
+        must(runs->store[way][k].answers == runs->sqlite[k].answers, "the store and SQLite answer differently");
+        compare(load, lent, database);
+    }
+    sqlite_end(database);
 }
 
 void print_work(uint32_t records)
 {
     static struct host host;
     static struct load load;
-    struct run store[RUNS], sqlite[RUNS];
+    static struct runs runs;
+    host_format(&host, records);
     make_load(&load, &host, records);
     for (int k = 0; k < RUNS; k++) {
-        struct side lent = store_open(&host, records), database = sqlite_open();
-        store[k] = do_work(&load, lent);
-        sqlite[k] = do_work(&load, database);
-        must(store[k].answers == sqlite[k].answers, "the store and SQLite answer differently");
-        compare(&load, lent, database);
-        sqlite_end(database);
+        run_all(&load, records, &runs, k);
     }
-    printf("R = %-32u %7s %10s %10s %8s\n", records, "calls", "store", "SQLite", "ratio");
-    print_rows(&load, store, sqlite);
+    printf("R = %-32u %10s %10s %8s %7s %10s %8s\n", records, "request", "SQLite", "ratio", "calls", "by step", "ratio");
+    print_rows(&load, &runs);
+    print_linear(&load, runs.store[BY_REQUEST]);
 }

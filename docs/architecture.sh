@@ -26,7 +26,7 @@ draw() {
 
         box("machine", 104, 198, 160, 96, "theory", "theory: machine", "each call, each step", "machine")
         box("calls", 304, 198, 270, 96, "store", "promises and calls", "six calls on words, demands 1 to 3", \
-            "refusals promises accepted stepping calls")
+            "refusals promises accepted stepping serving running asking batches calls looking")
         box("second", 814, 198, 160, 96, "beside", "second model", "plain arrays", "naive_tree naive_steps naive")
 
         box("meaning", 104, 334, 160, 116, "theory", "what words mean", "Sound, Holds, Becomes", "meaning layout")

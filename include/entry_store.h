@@ -3,18 +3,20 @@
  *
  * A store holds entries 1 to M, each with a value of one word (0: no value), and groups of entries by key. Up to 16
  * sessions (parties 1 to 16) read and change it under long locks, and a housekeeper (party 0) tidies it. A session
- * begins, puts one request after another, makes steps until each is done, and commits or aborts. No call blocks,
- * allocates or keeps a pointer: all memory is the caller's.
+ * begins, puts one request after another, makes steps until each is done, and commits or aborts. A whole request may be
+ * one call (entry_store_request), and so may a whole session (entry_store_batch). No call blocks, allocates or keeps a
+ * pointer: all memory is the caller's.
  *
  * The rules are in docs/RULES.md; "Rules, section 5" below is a section of it. docs/HOST.md is for whoever writes the
  * program around the store, docs/STORE.md has the store's words, and examples/hello.c is a whole program.
  *
- * What the functions promise is proved of their source (crates/entry_store) for any words at all in store, table and
- * list, and any numbers; the compiler's back end is trusted. They take as given what no test can tell, and the caller
+ * What the functions promise is proved of their source (crates/entry_store) for any words at all in what they are lent,
+ * and any numbers; the compiler's back end is trusted. They take as given what no test can tell, and the caller
  * answers for it at every call (Rules, section 12):
  *   - a pointer is not null and is aligned for its type, also where the length beside it is 0;
  *   - a length counts elements, not bytes: words of a store or list, records of a table; so many elements are there;
- *   - store, table and list do not overlap, and no other thread touches them during the call.
+ *   - what one call is lent (store, table, list, asks, answers) does not overlap, and no other thread touches it
+ *     during the call.
  * A call takes some 60 KiB of stack: leave it 128.
  *
  * One store and one table belong together. Copies of both, made between calls, may be kept and put back together.
@@ -34,9 +36,9 @@ extern "C" {
 
 /* Of this header and the archive beside it. */
 #define ENTRY_STORE_VERSION_MAJOR 0
-#define ENTRY_STORE_VERSION_MINOR 1
+#define ENTRY_STORE_VERSION_MINOR 2
 #define ENTRY_STORE_VERSION_PATCH 0
-#define ENTRY_STORE_VERSION "0.1.0"
+#define ENTRY_STORE_VERSION "0.2.0"
 
 /* ---- sizes: Rules, section 3 */
 
@@ -70,6 +72,11 @@ static inline size_t entry_store_words(uint32_t m, uint32_t r)
 /* The words of the largest store. */
 #define ENTRY_STORE_MAX_WORDS ENTRY_STORE_WORDS(ENTRY_STORE_MAX_ENTRIES, ENTRY_STORE_MAX_RECORDS)
 
+/* The words of an ask of a batch, the most asks of one batch, and the most steps of one run. */
+#define ENTRY_STORE_ASK_WORDS 7
+#define ENTRY_STORE_MOST_ASKS 65535
+#define ENTRY_STORE_MOST_STEPS 16383
+
 /* Keys that name a group (Rules, section 1). 0 and 4,294,967,295 are the two infinities. */
 #define ENTRY_STORE_MIN_KEY UINT32_C(1)
 #define ENTRY_STORE_MAX_KEY UINT32_C(4294967294)
@@ -101,28 +108,31 @@ typedef char entry_store_session_has_its_words
 /* ---- answers: Rules, sections 6 (a step's words) and 12 (the bits) */
 
 /*
- * Each of the six calls answers one uint64_t:
+ * Each call answers one uint64_t:
  *   bits  0 to 31   value
  *   bits 32 to 39   number
  *   bits 40 to 47   word
- *   bits 48 to 55   how many numbers the answer has: 0, 1 (value) or 2 (value and number); it tells a tidy's done
+ *   bits 48 and 49  how many numbers the answer has: 0, 1 (value) or 2 (value and number); it tells a tidy's done
  *                   from the others'
- *   bits 56 to 63   0
+ *   bits 50 to 63   run, request, and each answer that a batch writes: how many steps were made for it; 0 in all
+ *                   other answers
  *
- *   word       value                              number
- *   ok         0                                  0
- *   more       0                                  0
- *   wait       a party whose lock is in the way   0
- *   done       the request's answer               0
- *   done       a tidy's key, 0 for none           1 if its descriptor was removed, else 0
- *   refused    the count at 12, else 0            the refusal's number
+ *   word       value                                   number
+ *   ok         0                                       0
+ *   more       0                                       0
+ *   wait       a party whose lock is in the way        0
+ *   done       the request's answer                    0
+ *   done       a tidy's key, 0 for none                1 if its descriptor was removed, else 0
+ *   done       batch: how many asks were made; free,   0
+ *              holders: what is asked for
+ *   refused    the count at 12, else 0                 the refusal's number
  */
 enum entry_store_word {
     ENTRY_STORE_OK = 0,     /* format, begin, put, commit, abort: accepted */
     ENTRY_STORE_MORE = 1,   /* step: the request moved, and another step is due */
     ENTRY_STORE_WAIT = 2,   /* step: a party's lock is in the way; nothing changed; step again once that party has
                                moved on or ended */
-    ENTRY_STORE_DONE = 3,   /* step: the request is finished and no longer in hand */
+    ENTRY_STORE_DONE = 3,   /* step: the request is finished and no longer in hand; batch, free, holders: the answer */
     ENTRY_STORE_REFUSED = 4 /* any call: see enum entry_store_refusal */
 };
 
@@ -150,7 +160,13 @@ static inline uint32_t entry_store_word_of(uint64_t answer)
 /* How many numbers the answer has: 0, 1 or 2. */
 static inline uint32_t entry_store_count_of(uint64_t answer)
 {
-    return (uint32_t)(answer >> 48 & UINT64_C(0xff));
+    return (uint32_t)(answer >> 48 & UINT64_C(0x3));
+}
+
+/* How many steps a run, a request or an ask of a batch made, 0 to ENTRY_STORE_MOST_STEPS. */
+static inline uint32_t entry_store_steps_of(uint64_t answer)
+{
+    return (uint32_t)(answer >> 50);
 }
 
 static inline struct entry_store_answer entry_store_unpack(uint64_t answer)
@@ -167,7 +183,7 @@ static inline struct entry_store_answer entry_store_unpack(uint64_t answer)
 /*
  * A refusal changes no word of store, table or list, but that 11 and 12 also end the request in hand, its latch and its
  * pins; long locks of earlier steps stay. Where more than one applies the first in the order 1, 3 or 2, 4, 5, 7, 6, 8,
- * 9, 10 is answered.
+ * 9, 10 is answered; of a batch as a whole, 1, 2, 102. What a run, a request or a batch made before stays.
  */
 enum entry_store_refusal {
     /* The host program causes these: a fault of the caller's code or of its memory. */
@@ -186,15 +202,21 @@ enum entry_store_refusal {
     ENTRY_STORE_HAND = 7,    /* put or commit with a request in hand: make its steps, or abort; step with none in hand:
                                 put first */
     ENTRY_STORE_ENTRY = 8,   /* put, codes 1 to 4: entry outside 1 to M */
-    ENTRY_STORE_KEY = 9,     /* put, codes 3 to 5: a key 0 or 4,294,967,295 */
+    ENTRY_STORE_KEY = 9,     /* put, codes 3 to 5, and holders: a key 0 or 4,294,967,295 */
     ENTRY_STORE_RANGE = 10,  /* put, code 5: first above second */
     ENTRY_STORE_LIST = 12,   /* a locate's last step: the list has fewer than twice value words; lend more, and put the
                                 locate again */
 
     /* The sessions together cause this. */
-    ENTRY_STORE_FULL = 11    /* step: fewer free records than it needs; put the request again once a session has
+    ENTRY_STORE_FULL = 11,   /* step: fewer free records than it needs; put the request again once a session has
                                 committed or aborted, or a tidy removed a descriptor; where that never helps, the store
                                 is too small */
+
+    /* The host program causes these too, with a batch; the numbers are the archive's own. */
+    ENTRY_STORE_NO_ASK = 101, /* among a batch's answers: the ask is of no kind, or the words end within it; nothing of
+                                 it was made */
+    ENTRY_STORE_ANSWERS = 102 /* batch: room for fewer answers than there are asks, or more than ENTRY_STORE_MOST_ASKS
+                                 asks; none was made */
 };
 
 /* ---- requests: Rules, section 2 */
@@ -243,7 +265,76 @@ uint64_t entry_store_commit(uint32_t *store, size_t store_words, struct entry_st
 uint64_t entry_store_abort(uint32_t *store, size_t store_words, struct entry_store_session *table,
                            size_t table_records, uint32_t party);
 
+/* ---- several calls in one */
+
+/* Each of these makes some of the calls above for one test of store and table, and is proved to do exactly what they
+ * would do one after another: the same words, the same answers. They take the time of one call and a little for each
+ * step. Nobody else has a turn in between. Rules, section 12. */
+
+/* Steps of the request that the party has in hand, until one is not answered more: at least one, at most `most` of them
+ * (0 counts as 1), and never more than ENTRY_STORE_MOST_STEPS. Answers what the last step answers, with how many were
+ * made (entry_store_steps_of; 0 only at refusal 1): wait, done or a refusal of step's; or more, where the bound is used
+ * up. wait and more leave the request in hand: run again. Each step is lent this list. */
+uint64_t entry_store_run(uint32_t *store, size_t store_words, struct entry_store_session *table, size_t table_records,
+                         uint32_t *list, size_t list_words, uint32_t party, uint32_t most);
+
+/* A put and, if that is accepted, a run. Answers what the run answers, with how many steps were made; or the put's
+ * refusal and 0 steps. wait and more leave the request in hand: go on with entry_store_run. */
+uint64_t entry_store_request(uint32_t *store, size_t store_words, struct entry_store_session *table,
+                             size_t table_records, uint32_t *list, size_t list_words, uint32_t party, uint32_t code,
+                             uint32_t entry, uint32_t first, uint32_t second, uint32_t most);
+
+/* What an ask of a batch asks for, and which of its fields count. */
+enum entry_store_kind {
+    ENTRY_STORE_ASK_BEGIN = 1,  /* party */
+    ENTRY_STORE_ASK_PUT = 2,    /* party, code, entry, first, second */
+    ENTRY_STORE_ASK_STEP = 3,   /* party */
+    ENTRY_STORE_ASK_COMMIT = 4, /* party */
+    ENTRY_STORE_ASK_ABORT = 5,  /* party */
+    ENTRY_STORE_ASK_RUN = 6,    /* party, most */
+    ENTRY_STORE_ASK_REQUEST = 7 /* party, code, entry, first, second, most */
+};
+
+struct entry_store_ask {
+    uint32_t kind;  /* enum entry_store_kind */
+    uint32_t party; /* the rest as in the call of this kind; what the kind does not use is ignored */
+    uint32_t code;
+    uint32_t entry;
+    uint32_t first;
+    uint32_t second;
+    uint32_t most;
+};
+
+/* A list of asks is lent as words, so these stand one after the other too. */
+typedef char entry_store_ask_has_its_words
+    [sizeof(struct entry_store_ask) == ENTRY_STORE_ASK_WORDS * sizeof(uint32_t) ? 1 : -1];
+
+/* Asks of any parties, one after another, until one is answered wait, is refused, or, being a run or a request, is
+ * answered more; the asks behind that one are not made. Answers done with the number of asks that were made, the last
+ * one among them: answers[0] and so on are theirs, each as its own call answers it (a step's with 1 step), and later
+ * answers stay. asks has ask_words words, ENTRY_STORE_ASK_WORDS an ask; words that are no ask, by their kind or because
+ * they are too few, are answered refused 101, which ends the batch.
+ *
+ * Refuses 1, 2 or 102: answer_count is less than the number of asks, a short one at the end counting as one, or there
+ * are more asks than ENTRY_STORE_MOST_ASKS. Then no ask is made and answers is not written.
+ *
+ * The list is shared out in turn: the first locate that is done writes its pairs at the start of the list, the next one
+ * right behind them, and so on, by the counts in the answers. Each is lent what is left, and refused 12 where that is
+ * too short. */
+uint64_t entry_store_batch(uint32_t *store, size_t store_words, struct entry_store_session *table,
+                           size_t table_records, uint32_t *list, size_t list_words, const uint32_t *asks,
+                           size_t ask_words, uint64_t *answers, size_t answer_count);
+
 /* ---- reading */
+
+/* How many records are free: done with their number; refuses 1 or 2. It changes nothing. Rules, section 3. */
+uint64_t entry_store_free(const uint32_t *store, size_t store_words, const struct entry_store_session *table,
+                          size_t table_records);
+
+/* Who holds a key, stored or empty: done with a word whose bit s - 1 says that session s holds it in locate mode, and
+ * whose bit 16 + s - 1 that it does in update mode; refuses 1, 2 or 9. It changes nothing. Rules, section 5. */
+uint64_t entry_store_holders(const uint32_t *store, size_t store_words, const struct entry_store_session *table,
+                             size_t table_records, uint32_t key);
 
 /* How many sessions a holders word has: the number of its ones; session s is bit s - 1. Entry e's words stand from
  * store[entry_store_words(e - 1, 0)] on: its value, its share holders, its exclusive holders. Rules, sections 3 and
@@ -309,6 +400,8 @@ static inline const char *entry_store_refusal_text(uint32_t refusal)
     case ENTRY_STORE_RANGE: return "first is above second";
     case ENTRY_STORE_FULL: return "too few free records";
     case ENTRY_STORE_LIST: return "the list is too short";
+    case ENTRY_STORE_NO_ASK: return "no such ask";
+    case ENTRY_STORE_ANSWERS: return "fewer answers than asks, or too many asks";
     default: return "no such refusal";
     }
 }

@@ -3,14 +3,16 @@
 // Usage: fuzz SECONDS [SEED [RUN]]. Runs are numbered from 0; each has its own numbers, drawn from SEED and
 // its number, so that a run can be made again alone. With RUN only that one is made.
 //
-// A run lends a store, a table and a list. Each lies against a page that may not be touched, at its front or
-// at its end, so that any access outside on that side ends the program; the bytes on the other side have a
-// pattern, which must stay. Before each call all three are copied, and after it they are compared.
+// A run lends a store, a table and a list, and to a batch asks and answers too. Each lies against a page that
+// may not be touched, at its front or at its end, so that any access outside on that side ends the program;
+// the bytes on the other side have a pattern, which must stay. Before each call all are copied, and after it
+// they are compared.
 //
 // The facts (each is a function below, and prints its name where it fails):
 //   - the bits of an answer are those that the header names: word, number, value, how many numbers there are
 //   - which words each call may answer, and refusals 1 to 12 only
-//   - a call is refused exactly by the first check that fails, in the order of docs/RULES.md, section 8; 11 and
+//   - a call is refused exactly by the first check that fails, in the order of docs/RULES.md, section 8; 11
+//   and
 //     12 only in a step; and it is refused with 2 exactly if entry_store_fault names a part
 //   - a refusal but 11 and 12, and a wait, change nothing; 11 and 12 change the party's own record, and in
 //     the store at most one latch and the pins of two descriptors
@@ -19,6 +21,12 @@
 //     lie in its range and are as many as it says; nothing else writes the list
 //   - only the caller's record of the table changes; begin and put leave the store
 //   - after every accepted call store and table are sound, M and R and the words beyond the records as before
+//   - a run, a request and a batch answer and leave, in every word of store, table, list and answers, what
+//   the
+//     single calls that they stand for do, made one by one on copies
+//   - free counts the free records, holders are those of the key's descriptor or of the gap below it; both
+//   are
+//     refused as the calls are, and change nothing
 //
 // Prints every few seconds how far it is, then how often each call gave each answer, and then ok, or the fact
 // that failed and how to see it again.
@@ -79,6 +87,9 @@ enum {
     MAX_STORE = ENTRY_STORE_MAX_WORDS + 64,
     MAX_TABLE = ENTRY_STORE_PARTIES + 7,
     MAX_LIST = 4096,
+    MAX_ASKS = 64,
+    MAX_ASK_WORDS = MAX_ASKS * ENTRY_STORE_ASK_WORDS + ENTRY_STORE_ASK_WORDS - 1,
+    MAX_ANSWERS = MAX_ASKS + 4,
     PATTERN = 0xa5
 };
 
@@ -140,10 +151,11 @@ static int pattern_kept(const struct lent *l)
     return 1;
 }
 
-static struct lent store_room, table_room, list_room;
-static uint32_t *store, *list;
+static struct lent store_room, table_room, list_room, asks_room, answers_room;
+static uint32_t *store, *list, *asks;
+static uint64_t *answers;
 static struct entry_store_session *table;
-static size_t store_len, table_len, list_len;
+static size_t store_len, table_len, list_len, asks_len, answers_len;
 
 static void lend_store(size_t words)
 {
@@ -166,6 +178,32 @@ static void lend_list(size_t words)
     list = (uint32_t *)(void *)list_room.at;
 }
 
+// Asks and answers of a batch.
+static void lend_asks(size_t words, size_t places)
+{
+    asks_len = words;
+    lend(&asks_room, words * sizeof *asks);
+    asks = (uint32_t *)(void *)asks_room.at;
+    answers_len = places;
+    lend(&answers_room, places * sizeof *answers);
+    answers = (uint64_t *)(void *)answers_room.at;
+}
+
+static void keep_all(void)
+{
+    keep(&store_room);
+    keep(&table_room);
+    keep(&list_room);
+    keep(&asks_room);
+    keep(&answers_room);
+}
+
+static int all_patterns_kept(void)
+{
+    return pattern_kept(&store_room) && pattern_kept(&table_room) && pattern_kept(&list_room) &&
+           pattern_kept(&asks_room) && pattern_kept(&answers_room);
+}
+
 // What was there before the call.
 static const uint32_t *old_store(void)
 {
@@ -184,44 +222,74 @@ static const uint32_t *old_list(void)
 
 // ---- one call
 
-enum call { FORMAT, BEGIN, PUT, STEP, COMMIT, ABORT, CALLS };
+enum call { FORMAT, BEGIN, PUT, STEP, COMMIT, ABORT, RUN, REQUEST, BATCH, CALLS, ASKS = CALLS, ROWS };
+enum { SINGLE = ABORT + 1 };
 
-static const char *const call_names[CALLS] = {"format", "begin", "put", "step", "commit", "abort"};
+static const char *const call_names[ROWS] = {"format", "begin", "put",     "step",  "commit",
+                                             "abort",  "run",   "request", "batch", "its asks"};
 
 struct asked {
     enum call call;
-    uint32_t party, code, entry, first, second; // format: entry is M
+    uint32_t party, code, entry, first, second, most; // format: entry is M
 };
 
 static struct asked now;
 static uint64_t seed, run_number, call_number;
 
-static uint64_t make_call(const struct asked *a)
+// What a call is lent, with the lengths of what is lent now.
+struct loan {
+    uint32_t *store;
+    struct entry_store_session *table;
+    uint32_t *list;
+    size_t list_len;
+    uint64_t *answers;
+};
+
+static struct loan lent_now(void)
+{
+    struct loan l = {store, table, list, list_len, answers};
+    return l;
+}
+
+static uint64_t make_call(const struct asked *a, struct loan l)
 {
     switch (a->call) {
     case FORMAT:
-        return entry_store_format(store, store_len, table, table_len, a->entry);
+        return entry_store_format(l.store, store_len, l.table, table_len, a->entry);
     case BEGIN:
-        return entry_store_begin(store, store_len, table, table_len, a->party);
+        return entry_store_begin(l.store, store_len, l.table, table_len, a->party);
     case PUT:
-        return entry_store_put(store, store_len, table, table_len, a->party, a->code, a->entry, a->first,
+        return entry_store_put(l.store, store_len, l.table, table_len, a->party, a->code, a->entry, a->first,
                                a->second);
     case STEP:
-        return entry_store_step(store, store_len, table, table_len, list, list_len, a->party);
+        return entry_store_step(l.store, store_len, l.table, table_len, l.list, l.list_len, a->party);
     case COMMIT:
-        return entry_store_commit(store, store_len, table, table_len, a->party);
+        return entry_store_commit(l.store, store_len, l.table, table_len, a->party);
+    case ABORT:
+        return entry_store_abort(l.store, store_len, l.table, table_len, a->party);
+    case RUN:
+        return entry_store_run(l.store, store_len, l.table, table_len, l.list, l.list_len, a->party, a->most);
+    case REQUEST:
+        return entry_store_request(l.store, store_len, l.table, table_len, l.list, l.list_len, a->party,
+                                   a->code, a->entry, a->first, a->second, a->most);
     default:
-        return entry_store_abort(store, store_len, table, table_len, a->party);
+        return entry_store_batch(l.store, store_len, l.table, table_len, l.list, l.list_len, asks, asks_len,
+                                 l.answers, answers_len);
     }
 }
 
 static void print_place(void)
 {
-    printf("seed %llu, run %llu, call %llu: %s party %u code %u entry %u first %u second %u; lengths %zu %zu "
-           "%zu\n",
+    printf("seed %llu, run %llu, call %llu: %s party %u code %u entry %u first %u second %u most %u; "
+           "lengths %zu %zu %zu, asks %zu, answers %zu\n",
            (unsigned long long)seed, (unsigned long long)run_number, (unsigned long long)call_number,
-           call_names[now.call], now.party, now.code, now.entry, now.first, now.second, store_len, table_len,
-           list_len);
+           call_names[now.call], now.party, now.code, now.entry, now.first, now.second, now.most, store_len,
+           table_len, list_len, asks_len, answers_len);
+    for (size_t k = 0; now.call == BATCH && k < asks_len; k++) {
+        int first = k % ENTRY_STORE_ASK_WORDS == 0,
+            last = k % ENTRY_STORE_ASK_WORDS == ENTRY_STORE_ASK_WORDS - 1;
+        printf("%s%u%s", first ? "  ask " : " ", asks[k], last || k == asks_len - 1 ? "\n" : "");
+    }
     printf("again: fuzz 0 %llu %llu\n", (unsigned long long)seed, (unsigned long long)run_number);
 }
 
@@ -319,7 +387,7 @@ static uint32_t expected_refusal(const struct asked *a, uint32_t fault)
 static void facts_of_bits(uint64_t bits, struct entry_store_answer a)
 {
     uint32_t count = entry_store_count_of(bits);
-    fact(bits >> 56 == 0, "bits 56 to 63 are 0");
+    fact(bits >> 50 == 0, "bits 50 to 63 are 0 in the answer of a single call");
     fact(a.word <= ENTRY_STORE_REFUSED, "the word is one of five");
     switch (a.word) {
     case ENTRY_STORE_WAIT:
@@ -365,6 +433,7 @@ static void nothing_changed(void)
     fact(unchanged(&store_room), "the store is not changed");
     fact(unchanged(&table_room), "the table is not changed");
     fact(unchanged(&list_room), "the list is not changed");
+    fact(unchanged(&asks_room) && unchanged(&answers_room), "what is not lent is not changed");
 }
 
 // Only the caller's record, and the other records as before.
@@ -527,7 +596,9 @@ static int ends_request(struct entry_store_answer a)
     return a.number == ENTRY_STORE_FULL || a.number == ENTRY_STORE_LIST;
 }
 
-static uint64_t counts[CALLS][5 + 13];
+// By the word, and by the refusal: 1 to 12, 101 and 102.
+enum { COLUMNS = 5 + 14 };
+static uint64_t counts[ROWS][COLUMNS];
 static int waits[ENTRY_STORE_PARTIES]; // the party's last call answered wait
 
 // What the runs have reached.
@@ -536,11 +607,20 @@ static struct {
     uint64_t removed; // by tidies
     uint32_t levels;  // of the highest tree
     uint64_t damaged, still_sound;
+    uint32_t steps, asks; // the most of a run, and of a batch
 } reached;
+
+static uint32_t column(struct entry_store_answer a)
+{
+    if (a.word != ENTRY_STORE_REFUSED) {
+        return a.word;
+    }
+    return a.number > 100 ? a.number - 100 + 16 : a.number + 4;
+}
 
 static void count(struct entry_store_answer a)
 {
-    counts[now.call][a.word == ENTRY_STORE_REFUSED ? 4 + a.number : a.word] += 1;
+    counts[now.call][column(a)] += 1;
     if (now.party <= ENTRY_STORE_SESSIONS) {
         waits[now.party] = a.word == ENTRY_STORE_WAIT;
     }
@@ -555,14 +635,12 @@ static struct entry_store_answer call(struct asked asked)
 {
     now = asked;
     call_number += 1;
-    keep(&store_room);
-    keep(&table_room);
-    keep(&list_room);
+    keep_all();
     uint32_t fault = entry_store_fault(store, store_len, table, table_len);
     nothing_changed();
     fact(fault <= 11 && (fault == 11) == (table_len != ENTRY_STORE_PARTIES),
          "a part of soundness is 1 to 11, 11 for a wrong table");
-    uint64_t bits = make_call(&now);
+    uint64_t bits = make_call(&now, lent_now());
     struct entry_store_answer a = entry_store_unpack(bits);
     facts_of_bits(bits, a);
     facts_of_word(a);
@@ -574,10 +652,230 @@ static struct entry_store_answer call(struct asked asked)
     } else {
         facts_of_accepted(a, entry_store_count_of(bits));
     }
-    fact(pattern_kept(&store_room) && pattern_kept(&table_room) && pattern_kept(&list_room),
-         "bytes beside what is lent are not written");
+    fact(all_patterns_kept(), "bytes beside what is lent are not written");
     count(a);
     return a;
+}
+
+// ---- several calls in one, held against single calls on copies
+
+static uint32_t twin_store[MAX_STORE], twin_list[MAX_LIST];
+static struct entry_store_session twin_table[MAX_TABLE];
+static uint64_t twin_answers[MAX_ANSWERS];
+
+static struct loan copy_all(void)
+{
+    struct loan l = {twin_store, twin_table, twin_list, list_len, twin_answers};
+    memcpy(twin_store, store, store_room.bytes);
+    memcpy(twin_table, table, table_room.bytes);
+    memcpy(twin_list, list, list_room.bytes);
+    memcpy(twin_answers, answers, answers_room.bytes);
+    return l;
+}
+
+static int same_all(void)
+{
+    return memcmp(twin_store, store, store_room.bytes) == 0 &&
+           memcmp(twin_table, table, table_room.bytes) == 0 &&
+           memcmp(twin_list, list, list_room.bytes) == 0 &&
+           memcmp(twin_answers, answers, answers_room.bytes) == 0;
+}
+
+static int is_word(uint64_t answer, uint32_t word)
+{
+    return entry_store_word_of(answer) == word;
+}
+
+static uint64_t answered(uint32_t word, uint32_t numbers, uint32_t number, uint32_t value)
+{
+    return value | (uint64_t)number << 32 | (uint64_t)word << 40 | (uint64_t)numbers << 48;
+}
+
+static uint64_t refusal(uint32_t number)
+{
+    return answered(ENTRY_STORE_REFUSED, 2, number, 0);
+}
+
+static uint64_t done(uint32_t value)
+{
+    return answered(ENTRY_STORE_DONE, 1, 0, value);
+}
+
+// A step of a table that is wrong is none.
+static uint64_t steps_one_by_one(struct asked a, struct loan l)
+{
+    uint64_t answer, steps = 0;
+    a.call = STEP;
+    do {
+        answer = make_call(&a, l);
+        steps += 1;
+    } while (is_word(answer, ENTRY_STORE_MORE) && steps < a.most && steps < ENTRY_STORE_MOST_STEPS);
+    return table_len == ENTRY_STORE_PARTIES ? answer | steps << 50 : answer;
+}
+
+static uint64_t one_by_one(struct asked a, struct loan l)
+{
+    if (a.call == RUN) {
+        return steps_one_by_one(a, l);
+    }
+    if (a.call == STEP) {
+        return make_call(&a, l) | UINT64_C(1) << 50;
+    }
+    if (a.call != REQUEST) {
+        return make_call(&a, l);
+    }
+    a.call = PUT;
+    uint64_t answer = make_call(&a, l);
+    return is_word(answer, ENTRY_STORE_OK) ? steps_one_by_one(a, l) : answer;
+}
+
+// Ask k of the lent asks; CALLS for its call where it is none.
+static struct asked ask_at(size_t k)
+{
+    static const enum call kinds[] = {CALLS, BEGIN, PUT, STEP, COMMIT, ABORT, RUN, REQUEST};
+    const uint32_t *w = asks + ENTRY_STORE_ASK_WORDS * k;
+    struct asked a = {CALLS, 0, 0, 0, 0, 0, 0};
+    if (asks_len - ENTRY_STORE_ASK_WORDS * k >= ENTRY_STORE_ASK_WORDS && w[0] <= ENTRY_STORE_ASK_REQUEST) {
+        struct asked whole = {kinds[w[0]], w[1], w[2], w[3], w[4], w[5], w[6]};
+        a = whole;
+    }
+    return a;
+}
+
+// Whether an ask moves a locate: then its pairs are behind those of the locates before it.
+static int moves_locate(const struct asked *a, const struct loan *l)
+{
+    return a->call == REQUEST ? a->code == ENTRY_STORE_LOCATE
+                              : (a->call == STEP || a->call == RUN) && a->party <= ENTRY_STORE_SESSIONS &&
+                                    l->table[a->party].code == ENTRY_STORE_LOCATE;
+}
+
+static int ends_batch(const struct asked *a, uint64_t answer)
+{
+    return is_word(answer, ENTRY_STORE_WAIT) || is_word(answer, ENTRY_STORE_REFUSED) ||
+           (is_word(answer, ENTRY_STORE_MORE) && a->call != STEP);
+}
+
+static uint64_t asks_one_by_one(struct loan l)
+{
+    size_t count = (asks_len + ENTRY_STORE_ASK_WORDS - 1) / ENTRY_STORE_ASK_WORDS, made = 0;
+    for (int ended = 0; made < count && !ended; made++) {
+        struct asked a = ask_at(made);
+        int locates = moves_locate(&a, &l);
+        uint64_t answer = a.call == CALLS ? refusal(ENTRY_STORE_NO_ASK) : one_by_one(a, l);
+        l.answers[made] = answer;
+        counts[ASKS][column(entry_store_unpack(answer))] += 1;
+        ended = ends_batch(&a, answer);
+        if (locates && is_word(answer, ENTRY_STORE_DONE)) {
+            l.list += 2 * entry_store_value_of(answer);
+            l.list_len -= 2 * entry_store_value_of(answer);
+        }
+    }
+    reached.asks = made > reached.asks ? (uint32_t)made : reached.asks;
+    return done((uint32_t)made);
+}
+
+static uint64_t batch_one_by_one(struct loan l)
+{
+    if (table_len != ENTRY_STORE_PARTIES) {
+        return refusal(ENTRY_STORE_TABLE);
+    }
+    if (entry_store_fault(l.store, store_len, l.table, table_len) != 0) {
+        return refusal(ENTRY_STORE_UNSOUND);
+    }
+    int short_answers = ENTRY_STORE_ASK_WORDS * answers_len < asks_len;
+    return short_answers ? refusal(ENTRY_STORE_ANSWERS) : asks_one_by_one(l);
+}
+
+// The most asks that a batch may have, and one more. All are of no kind, so at most the first is answered.
+static void many_asks(void)
+{
+    enum { MANY = ENTRY_STORE_MOST_ASKS + 1 };
+    static uint32_t no_asks[ENTRY_STORE_ASK_WORDS * MANY];
+    static uint64_t places[MANY];
+    const size_t most = ENTRY_STORE_ASK_WORDS * (MANY - 1);
+    uint32_t fault = entry_store_fault(store, store_len, table, table_len);
+    uint64_t wrong =
+        fault == 0 ? 0 : refusal(table_len == ENTRY_STORE_PARTIES ? ENTRY_STORE_UNSOUND : ENTRY_STORE_TABLE);
+    keep_all();
+    places[0] = 0;
+    uint64_t above = entry_store_batch(store, store_len, table, table_len, list, list_len, no_asks, most + 1,
+                                       places, MANY);
+    fact(above == (wrong != 0 ? wrong : refusal(ENTRY_STORE_ANSWERS)) && places[0] == 0,
+         "too many asks are refused");
+    uint64_t all = entry_store_batch(store, store_len, table, table_len, list, list_len, no_asks, most,
+                                     places, MANY - 1);
+    fact(all == (wrong != 0 ? wrong : done(1)) && places[0] == (wrong != 0 ? 0 : refusal(ENTRY_STORE_NO_ASK)),
+         "the most asks are not too many");
+    nothing_changed();
+}
+
+// A run, a request or a batch.
+static void call_several(struct asked asked)
+{
+    now = asked;
+    call_number += 1;
+    keep_all();
+    struct loan twin = copy_all();
+    uint64_t bits = make_call(&now, lent_now());
+    uint64_t expected = now.call == BATCH ? batch_one_by_one(twin) : one_by_one(now, twin);
+    fact(bits == expected, "several calls in one answer what the single calls do");
+    fact(same_all(), "several calls in one leave what the single calls do");
+    fact(unchanged(&asks_room), "a batch leaves its asks");
+    fact(now.call == BATCH || unchanged(&answers_room), "only a batch writes the answers");
+    fact(all_patterns_kept(), "bytes beside what is lent are not written");
+    struct entry_store_answer a = entry_store_unpack(bits);
+    uint32_t steps = entry_store_steps_of(bits);
+    counts[now.call][column(a)] += 1;
+    reached.steps = steps > reached.steps ? steps : reached.steps;
+    if (now.call != BATCH && now.party <= ENTRY_STORE_SESSIONS) {
+        waits[now.party] = a.word == ENTRY_STORE_WAIT;
+    }
+}
+
+// ---- free records and holders
+
+static const uint32_t *record(uint32_t i)
+{
+    return store + entry_store_words(store[0], i - 1);
+}
+
+static uint64_t count_free(void)
+{
+    uint32_t count = 0;
+    for (uint32_t i = store[5]; i != 0; i = record(i)[0]) {
+        count += 1;
+    }
+    return done(count);
+}
+
+// The last descriptor up to the key is its own, or has the gap.
+static uint64_t find_holders(uint32_t key)
+{
+    if (infinite(key)) {
+        return refusal(ENTRY_STORE_KEY);
+    }
+    const uint32_t *d = record(store[4]);
+    while (d[0] != 0 && record(d[0])[1] <= key) {
+        d = record(d[0]);
+    }
+    return done(d[1] == key ? d[2] | d[3] << 16 : d[4]);
+}
+
+static void look(uint32_t key)
+{
+    uint64_t wrong = 0;
+    keep_all();
+    uint64_t free_records = entry_store_free(store, store_len, table, table_len);
+    uint64_t holders = entry_store_holders(store, store_len, table, table_len, key);
+    nothing_changed();
+    if (table_len != ENTRY_STORE_PARTIES) {
+        wrong = refusal(ENTRY_STORE_TABLE);
+    } else if (entry_store_fault(store, store_len, table, table_len) != 0) {
+        wrong = refusal(ENTRY_STORE_UNSOUND);
+    }
+    fact(free_records == (wrong != 0 ? wrong : count_free()), "free is the number of free records");
+    fact(holders == (wrong != 0 ? wrong : find_holders(key)), "holders are those of the key or its gap");
 }
 
 // ---- random calls
@@ -607,7 +905,7 @@ static uint32_t random_entry(void)
 static struct asked random_put(uint32_t party)
 {
     static const uint32_t likely[] = {1, 2, 3, 3, 3, 3, 4, 5, 5};
-    struct asked a = {PUT, party, 6, random_entry(), random_key(), random_key()};
+    struct asked a = {PUT, party, 6, random_entry(), random_key(), random_key(), 0};
     if (party != 0 || one_in(wild)) {
         a.code = one_in(wild) ? odd_word() : likely[below(sizeof likely / sizeof likely[0])];
     }
@@ -624,7 +922,7 @@ static struct asked random_put(uint32_t party)
 
 static struct asked plain(enum call c, uint32_t party)
 {
-    struct asked a = {c, party, 0, 0, 0, 0};
+    struct asked a = {c, party, 0, 0, 0, 0, 0};
     return a;
 }
 
@@ -651,7 +949,105 @@ static struct asked random_call(void)
         return sensible_call(party);
     }
     struct asked a = random_put(party);
-    a.call = BEGIN + (enum call)below(CALLS - 1);
+    a.call = BEGIN + (enum call)below(SINGLE - 1);
+    return a;
+}
+
+// How many steps at most.
+static uint32_t random_most(void)
+{
+    return one_in(8) ? odd_word() : one_in(3) ? below(6) : below(1001);
+}
+
+// What a session is thought to be like when an ask of it is made.
+struct guess {
+    int begun, in_hand;
+};
+
+// An ask that makes sense, for a batch.
+static struct asked sensible_ask(uint32_t party, struct guess *g)
+{
+    struct asked a = random_put(party);
+    a.most = one_in(4) ? random_most() : 1000;
+    if (party != 0 && !g->begun) {
+        a.call = BEGIN;
+        g->begun = 1;
+    } else if (g->in_hand) {
+        a.call = one_in(4) ? STEP : party != 0 && one_in(12) ? ABORT : RUN;
+        g->in_hand = a.call == STEP;
+        g->begun = a.call != ABORT;
+    } else if (party != 0 && one_in(10)) {
+        a.call = one_in(4) ? ABORT : COMMIT;
+        g->begun = 0;
+    } else {
+        a.call = one_in(8) ? PUT : REQUEST;
+        g->in_hand = a.call == PUT;
+    }
+    return a;
+}
+
+static void write_ask(uint32_t *w, const struct asked *a)
+{
+    static const uint32_t kinds[CALLS] = {0,
+                                          ENTRY_STORE_ASK_BEGIN,
+                                          ENTRY_STORE_ASK_PUT,
+                                          ENTRY_STORE_ASK_STEP,
+                                          ENTRY_STORE_ASK_COMMIT,
+                                          ENTRY_STORE_ASK_ABORT,
+                                          ENTRY_STORE_ASK_RUN,
+                                          ENTRY_STORE_ASK_REQUEST,
+                                          ENTRY_STORE_ASK_REQUEST + 1};
+    uint32_t words[ENTRY_STORE_ASK_WORDS] = {kinds[a->call], a->party,  a->code, a->entry,
+                                             a->first,       a->second, a->most};
+    memcpy(w, words, sizeof words);
+}
+
+// Asks of one party, or of some; a few are none, and the last may be too short.
+static void random_asks(uint32_t count, size_t rest)
+{
+    struct guess guesses[ENTRY_STORE_PARTIES];
+    uint32_t one = random_party(), mixed = one_in(3), strange = one_in(4) ? 10 : 400;
+    for (size_t p = 0; p < ENTRY_STORE_PARTIES; p++) {
+        guesses[p].begun = p < table_len && table[p].begun != 0;
+        guesses[p].in_hand = p < table_len && table[p].stage != 0;
+    }
+    for (uint32_t k = 0; k < count; k++) {
+        uint32_t party = mixed ? random_party() : one, *w = asks + ENTRY_STORE_ASK_WORDS * k;
+        struct guess none = {one_in(2), one_in(2)};
+        struct asked a = sensible_ask(party, party <= ENTRY_STORE_SESSIONS ? &guesses[party] : &none);
+        write_ask(w, &a);
+        if (one_in(strange)) {
+            w[0] = one_in(2) ? odd_word() : below(10);
+        }
+    }
+    for (size_t k = 0; k < rest; k++) {
+        asks[ENTRY_STORE_ASK_WORDS * count + k] = odd_word();
+    }
+}
+
+static struct asked random_batch(void)
+{
+    uint32_t count = one_in(4) ? below(4) : below(MAX_ASKS);
+    size_t rest = one_in(8) ? below(ENTRY_STORE_ASK_WORDS) : 0, places = count + (rest > 0);
+    lend_asks(ENTRY_STORE_ASK_WORDS * count + rest, one_in(10) ? below(count + 2) : places + below(4));
+    for (size_t k = 0; k < answers_len; k++) {
+        answers[k] = next_random();
+    }
+    random_asks(count, rest);
+    return plain(BATCH, 0);
+}
+
+// A run of what is in hand, a request where nothing is, or a batch.
+static struct asked random_several(void)
+{
+    uint32_t party = random_party();
+    if (one_in(3)) {
+        return random_batch();
+    }
+    struct asked a = random_put(party);
+    int in_hand = party < table_len && table[party].stage != 0;
+    a.call = in_hand != one_in(16) ? RUN : REQUEST;
+    a.most = random_most();
     return a;
 }
 
@@ -670,7 +1066,17 @@ static void random_calls(uint32_t count)
 {
     for (uint32_t k = 0; k < count; k++) {
         change_list();
-        call(random_call());
+        if (one_in(6)) {
+            call_several(random_several());
+        } else {
+            call(random_call());
+        }
+        if (one_in(6)) {
+            look(one_in(16) ? odd_word() : random_key());
+        }
+        if (one_in(1000)) {
+            many_asks();
+        }
     }
 }
 
@@ -699,7 +1105,7 @@ static void fresh_store(uint32_t m, uint32_t r, uint32_t beyond)
     lend_table(ENTRY_STORE_PARTIES);
     fill(&store_room, one_in(2));
     fill(&table_room, one_in(2));
-    struct asked format = {FORMAT, 0, 0, m, 0, 0};
+    struct asked format = {FORMAT, 0, 0, m, 0, 0, 0};
     fact(call(format).word == ENTRY_STORE_OK, "format accepts these sizes");
     fact(store[1] == r, "format sets R");
 }
@@ -720,7 +1126,7 @@ static void grow_tree(uint32_t inserts)
 {
     call(plain(BEGIN, 1));
     for (uint32_t k = 0; k < inserts; k++) {
-        struct asked insert = {PUT, 1, ENTRY_STORE_INSERT, 1 + below(store[0]), 1 + below(key_span), 0};
+        struct asked insert = {PUT, 1, ENTRY_STORE_INSERT, 1 + below(store[0]), 1 + below(key_span), 0, 0};
         call(insert);
         while (call(plain(STEP, 1)).word == ENTRY_STORE_MORE) {
         }
@@ -826,7 +1232,7 @@ static void garbage_run(void)
     for (uint32_t k = 0; k < 12; k++) {
         random_calls(2);
         if (one_in(3)) {
-            struct asked format = {FORMAT, 0, 0, one_in(2) ? 1 + below(12) : odd_word(), 0, 0};
+            struct asked format = {FORMAT, 0, 0, one_in(2) ? 1 + below(12) : odd_word(), 0, 0, 0};
             call(format);
         }
     }
@@ -839,7 +1245,7 @@ static void wrong_table_run(void)
     lend_table((ENTRY_STORE_PARTIES + 1 + below(MAX_TABLE - 2)) % (MAX_TABLE - 1));
     fill(&table_room, 1);
     random_calls(10);
-    struct asked format = {FORMAT, 0, 0, 1 + below(12), 0, 0};
+    struct asked format = {FORMAT, 0, 0, 1 + below(12), 0, 0, 0};
     call(format);
 }
 
@@ -860,6 +1266,7 @@ static void run(uint64_t number)
     memset(waits, 0, sizeof waits);
     choose_arguments();
     lend_list(below(200));
+    lend_asks(0, 0);
     lock_counts();
     if (one_in(40)) {
         tall_run();
@@ -896,13 +1303,13 @@ static void print_counts(uint64_t runs)
     for (int k = 0; k < 4; k++) {
         printf("%9s", words[k]);
     }
-    for (int k = 1; k <= 12; k++) {
-        printf(k < 10 ? "        %d" : "       %d", k);
+    for (int k = 1; k <= 14; k++) {
+        printf("%9d", k <= 12 ? k : k - 12 + 100);
     }
     printf("\n");
-    for (int c = 0; c < CALLS; c++) {
+    for (int c = 0; c < ROWS; c++) {
         printf("%-8s", call_names[c]);
-        for (int k = 0; k < 5 + 12; k++) {
+        for (int k = 0; k < COLUMNS; k++) {
             if (k != 4) {
                 printf("%9llu", (unsigned long long)counts[c][k]);
             }
@@ -916,6 +1323,7 @@ static void print_counts(uint64_t runs)
     }
     printf(" of these removed a descriptor %llu; the highest tree had %u levels\n",
            (unsigned long long)reached.removed, reached.levels);
+    printf("the longest run had %u steps, the longest batch %u asks\n", reached.steps, reached.asks);
     printf("%llu runs; words damaged %llu times, and still sound %llu times\n", (unsigned long long)runs,
            (unsigned long long)reached.damaged, (unsigned long long)reached.still_sound);
 }
@@ -1008,6 +1416,8 @@ int main(int argc, char **argv)
     make_room(&store_room, MAX_STORE * sizeof *store);
     make_room(&table_room, MAX_TABLE * sizeof *table);
     make_room(&list_room, MAX_LIST * sizeof *list);
+    make_room(&asks_room, MAX_ASK_WORDS * sizeof *asks);
+    make_room(&answers_room, MAX_ANSWERS * sizeof *answers);
     seed = argc > 2 ? strtoull(argv[2], NULL, 10) : 1;
     uint64_t runs = 1;
     if (argc > 3) {

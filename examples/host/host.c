@@ -7,7 +7,8 @@
 // The planner locates two days of a driver, reads the entries found, and looks for a rest. What it has
 // located, empty minutes too, nobody changes until it commits.
 //
-// Everybody makes one call a round, in turn. The host answers what the store can answer:
+// Everybody makes one call a round, in turn, so that all are seen to move; day.c has whole sessions in one
+// call. The host answers what the store can answer:
 //   wait        the party steps again in the next round; where two wait for each other, one is aborted and
 //               begins again once the other has ended
 //   refused 11  no free record: the housekeeper tidies, and the request is put again once it has removed
@@ -686,34 +687,44 @@ static int no_waiting(void *context, uint32_t party, uint32_t holder)
     return 0;
 }
 
-static uint32_t run(struct store_host *h, struct request r, struct pair_list *list)
-{
-    struct entry_store_answer a = host_run(h, AUDITOR, r, list, no_waiting, NULL);
-    must_be(a, ENTRY_STORE_DONE, "a request");
-    return a.value;
-}
-
 static uint32_t locate_all(struct store_host *h, struct pair_list *list)
 {
     struct request all = {ENTRY_STORE_LOCATE, 0, ENTRY_STORE_MIN_KEY, ENTRY_STORE_MAX_KEY};
-    return run(h, all, list);
+    struct entry_store_answer a = host_run(h, AUDITOR, all, list, no_waiting, NULL);
+    must_be(a, ENTRY_STORE_DONE, "a locate");
+    return a.value;
+}
+
+// The reads of all entries found, and the commit, in one call. Each stretch has an entry of its own, so there
+// are no more than ENTRIES.
+static void read_and_commit(struct store_host *h, const struct pair_list *list, uint32_t count,
+                            uint64_t *answers)
+{
+    struct entry_store_ask asks[ENTRIES + 1];
+    size_t made;
+    for (uint32_t k = 0; k < count; k++) {
+        struct request read = {ENTRY_STORE_READ, list->words[2 * k + 1], 0, 0};
+        asks[k] = ask_request(AUDITOR, read);
+    }
+    asks[count] = ask_call(ENTRY_STORE_ASK_COMMIT, AUDITOR);
+    must_be(host_session(h, asks, count + 1, answers, &made, no_waiting, NULL), ENTRY_STORE_OK,
+            "reads and a commit");
 }
 
 // A session of its own that lists every stretch.
 static void print_stretches(struct store_host *h)
 {
     struct pair_list list = {NULL, 0};
+    uint64_t values[ENTRIES + 1];
     must_be(host_begin(h, AUDITOR), ENTRY_STORE_OK, "begin");
     uint32_t count = locate_all(h, &list);
     printf("\nStored at the end, %u stretches:\n", count);
+    read_and_commit(h, &list, count, values);
     for (uint32_t k = 0; k < count; k++) {
         struct text when, what;
-        struct request read = {ENTRY_STORE_READ, list.words[2 * k + 1], 0, 0};
-        uint32_t value = run(h, read, &list);
-        printf("  entry %2u  %-20s  %s\n", read.entry, moment(&when, list.words[2 * k]),
-               value_text(&what, value));
+        printf("  entry %2u  %-20s  %s\n", list.words[2 * k + 1], moment(&when, list.words[2 * k]),
+               value_text(&what, entry_store_value_of(values[k])));
     }
-    must_be(host_commit(h, AUDITOR), ENTRY_STORE_OK, "commit");
     list_free(&list);
 }
 

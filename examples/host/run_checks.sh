@@ -1,8 +1,11 @@
 #!/bin/sh
 # Usage: run_checks.sh FOLDER compare|write
 #
-# Runs hello, host and dump of FOLDER. What they print is compared with the files in expected/, or written there.
+# Runs hello, day, host and dump of FOLDER, and ../desk.py over its shared object where python3 is there. What they print
+# is compared with the files in expected/, or written there.
 #   hello.txt      what ../hello.c prints
+#   day.txt        what day.c prints: sessions of one call, and a wait
+#   desk.txt       what ../desk.py prints
 #   timeline.txt   the host's rounds, from begin to end
 #   dump.txt       the image that it saves in the middle, and the holders of four keys
 #   middle.dot     the same image as a picture; docs/middle.svg is drawn from it
@@ -117,6 +120,14 @@ words() {
 
 "$folder/hello" >"$folder/said"
 hold hello.txt <"$folder/said"
+"$folder/day" >"$folder/said"
+hold day.txt <"$folder/said"
+if command -v python3 >/dev/null 2>&1; then
+    python3 "$here/../desk.py" "$folder/libentry_store.so" >"$folder/said"
+    hold desk.txt <"$folder/said"
+else
+    echo "skipped: desk.txt (python3 is missing; on Debian: apt install python3)"
+fi
 "$folder/host" "$image" >"$folder/timeline"
 hold timeline.txt <"$folder/timeline"
 "$folder/dump" "$image" 2/4/01:30 2/4/05:00 2/3/15:00 17 >"$folder/dumped"

@@ -45,15 +45,19 @@ struct entry_store_answer host_put(struct store_host *h, uint32_t party, struct 
                                               r.code, r.entry, r.first, r.second));
 }
 
+// What is lent for a list. A pointer to somewhere is asked for, also beside a length of 0.
+static struct pair_list lent(const struct pair_list *list)
+{
+    static uint32_t nothing[1];
+    struct pair_list none = {nothing, 0};
+    return list == NULL || list->words == NULL ? none : *list;
+}
+
 struct entry_store_answer host_step(struct store_host *h, uint32_t party, struct pair_list *list)
 {
-    // A pointer to somewhere is asked for, also beside a length of 0.
-    uint32_t nothing[1];
-    int empty = list == NULL || list->words == NULL;
-    uint32_t *words = empty ? nothing : list->words;
-    size_t length = empty ? 0 : list->length;
+    struct pair_list l = lent(list);
     return entry_store_unpack(
-        entry_store_step(h->words, h->length, h->table, ENTRY_STORE_PARTIES, words, length, party));
+        entry_store_step(h->words, h->length, h->table, ENTRY_STORE_PARTIES, l.words, l.length, party));
 }
 
 struct entry_store_answer host_commit(struct store_host *h, uint32_t party)
@@ -64,6 +68,58 @@ struct entry_store_answer host_commit(struct store_host *h, uint32_t party)
 struct entry_store_answer host_abort(struct store_host *h, uint32_t party)
 {
     return entry_store_unpack(entry_store_abort(h->words, h->length, h->table, ENTRY_STORE_PARTIES, party));
+}
+
+// ---- several calls in one
+
+struct entry_store_answer host_steps(struct store_host *h, uint32_t party, struct pair_list *list)
+{
+    struct pair_list l = lent(list);
+    return entry_store_unpack(entry_store_run(h->words, h->length, h->table, ENTRY_STORE_PARTIES, l.words,
+                                              l.length, party, ENTRY_STORE_MOST_STEPS));
+}
+
+struct entry_store_answer host_request(struct store_host *h, uint32_t party, struct request r,
+                                       struct pair_list *list)
+{
+    struct pair_list l = lent(list);
+    return entry_store_unpack(entry_store_request(h->words, h->length, h->table, ENTRY_STORE_PARTIES, l.words,
+                                                  l.length, party, r.code, r.entry, r.first, r.second,
+                                                  ENTRY_STORE_MOST_STEPS));
+}
+
+struct entry_store_answer host_batch(struct store_host *h, const struct entry_store_ask *asks, size_t count,
+                                     uint64_t *answers, struct pair_list *list)
+{
+    struct pair_list l = lent(list);
+    return entry_store_unpack(entry_store_batch(h->words, h->length, h->table, ENTRY_STORE_PARTIES, l.words,
+                                                l.length, (const uint32_t *)asks,
+                                                ENTRY_STORE_ASK_WORDS * count, answers, count));
+}
+
+struct entry_store_ask ask_call(uint32_t kind, uint32_t party)
+{
+    struct entry_store_ask a = {kind, party, 0, 0, 0, 0, ENTRY_STORE_MOST_STEPS};
+    return a;
+}
+
+struct entry_store_ask ask_request(uint32_t party, struct request r)
+{
+    struct entry_store_ask a = {ENTRY_STORE_ASK_REQUEST, party, r.code, r.entry, r.first, r.second,
+                                ENTRY_STORE_MOST_STEPS};
+    return a;
+}
+
+// ---- looking
+
+uint32_t host_free(const struct store_host *h)
+{
+    return entry_store_value_of(entry_store_free(h->words, h->length, h->table, ENTRY_STORE_PARTIES));
+}
+
+uint32_t host_holders(const struct store_host *h, uint32_t key)
+{
+    return entry_store_value_of(entry_store_holders(h->words, h->length, h->table, ENTRY_STORE_PARTIES, key));
 }
 
 uint32_t host_fault(const struct store_host *h)
@@ -106,33 +162,45 @@ void list_free(struct pair_list *list)
     list->length = 0;
 }
 
-// ---- a request from its put to its end
+// ---- a request and a session, each to its end
 
-// Steps until the answer is neither more nor a wait that is to be tried again.
-static struct entry_store_answer step_on(struct store_host *h, uint32_t party, struct pair_list *list,
-                                         wait_handler on_wait, void *context)
+// Whether a request in hand is to be run on: its bound was used up, or it waits and the handler says so.
+static int goes_on(struct entry_store_answer a, uint32_t party, wait_handler on_wait, void *context)
 {
-    for (;;) {
-        struct entry_store_answer a = host_step(h, party, list);
-        if (a.word == ENTRY_STORE_MORE) {
-            continue;
-        }
-        if (a.word != ENTRY_STORE_WAIT || !on_wait(context, party, a.value)) {
-            return a;
-        }
-    }
+    return a.word == ENTRY_STORE_MORE || (a.word == ENTRY_STORE_WAIT && on_wait(context, party, a.value));
 }
 
 struct entry_store_answer host_run(struct store_host *h, uint32_t party, struct request r,
                                    struct pair_list *list, wait_handler on_wait, void *context)
 {
     for (;;) {
-        struct entry_store_answer a = host_put(h, party, r);
-        if (a.word != ENTRY_STORE_OK) {
+        struct entry_store_answer a = host_request(h, party, r, list);
+        while (goes_on(a, party, on_wait, context)) {
+            a = host_steps(h, party, list);
+        }
+        if (!is_refused(a, ENTRY_STORE_LIST) || !list_grow(list, a.value)) {
             return a;
         }
-        a = step_on(h, party, list, on_wait, context);
-        if (!is_refused(a, ENTRY_STORE_LIST) || !list_grow(list, a.value)) {
+    }
+}
+
+struct entry_store_answer host_session(struct store_host *h, struct entry_store_ask *asks, size_t count,
+                                       uint64_t *answers, size_t *made, wait_handler on_wait, void *context)
+{
+    struct entry_store_ask *last = asks;
+    for (*made = 0;;) {
+        size_t at = (size_t)(last - asks);
+        struct entry_store_answer a = host_batch(h, last, count - at, answers + at, NULL);
+        if (a.word != ENTRY_STORE_DONE || a.value == 0) {
+            return a;
+        }
+        *made = at + a.value;
+        last = &asks[*made - 1];
+        a = entry_store_unpack(answers[*made - 1]);
+        if (a.word == ENTRY_STORE_WAIT || a.word == ENTRY_STORE_MORE) {
+            last->kind = ENTRY_STORE_ASK_RUN;
+        }
+        if (!goes_on(a, last->party, on_wait, context)) {
             return a;
         }
     }

@@ -1,6 +1,6 @@
 // What a host program wants around the calls of the entry store: the lent
-// words and the session table kept together, a request run to its end, lists
-// that grow.
+// words and the session table kept together, a request and a session run to
+// their ends, lists that grow.
 //
 // The store has no threads and no lock of its own: make one call at a time
 // (docs/HOST.md). Nothing here keeps state but what a caller hands in.
@@ -44,6 +44,23 @@ struct entry_store_answer host_step(struct store_host *h, uint32_t party, struct
 struct entry_store_answer host_commit(struct store_host *h, uint32_t party);
 struct entry_store_answer host_abort(struct store_host *h, uint32_t party);
 
+// Several calls in one: the steps of the request in hand until one is not answered more; a put and these
+// steps; asks of any kinds, whose answers go to answers, which has room for count.
+struct entry_store_answer host_steps(struct store_host *h, uint32_t party, struct pair_list *list);
+struct entry_store_answer host_request(struct store_host *h, uint32_t party, struct request r,
+                                       struct pair_list *list);
+struct entry_store_answer host_batch(struct store_host *h, const struct entry_store_ask *asks, size_t count,
+                                     uint64_t *answers, struct pair_list *list);
+
+// Asks for a batch: a call that takes the party alone (begin, commit, abort), and a whole request.
+struct entry_store_ask ask_call(uint32_t kind, uint32_t party);
+struct entry_store_ask ask_request(uint32_t party, struct request r);
+
+// How many records are free, and who holds a key: session s in locate mode is bit s - 1, in update mode bit
+// 16 + s - 1. The store is sound.
+uint32_t host_free(const struct store_host *h);
+uint32_t host_holders(const struct store_host *h, uint32_t key);
+
 // The first part of soundness that fails, 0 for none.
 uint32_t host_fault(const struct store_host *h);
 
@@ -67,6 +84,14 @@ typedef int (*wait_handler)(void *context, uint32_t party, uint32_t holder);
 // A list that is too short is made longer and the locate put again.
 struct entry_store_answer host_run(struct store_host *h, uint32_t party, struct request r,
                                    struct pair_list *list, wait_handler on_wait, void *context);
+
+// Makes the asks of a session in as few calls as its waits allow, and gives the last answer: that of the last
+// ask, a refusal, or a wait that the handler gave up. How many asks have their answers goes to made; one that
+// was waiting or refused is the last of them. The asks are used up: one that waits becomes a run of what is
+// in hand, so that the rest can be made later, from asks + made - 1 on. No ask is a locate: its pairs would
+// be written over.
+struct entry_store_answer host_session(struct store_host *h, struct entry_store_ask *asks, size_t count,
+                                       uint64_t *answers, size_t *made, wait_handler on_wait, void *context);
 
 // What a sound store has, for each part of soundness (enum entry_store_part; docs/RULES.md, section 4). A
 // seize count is a descriptor's pins, a short lock a latch, a walk a descent, a take-back an undo record.

@@ -1,42 +1,30 @@
-// Calls: the six calls on the words of a store and on the session table by value.
+// Calls: the six calls, a run, a request and a batch, on the words of a store and on the session table by value.
 //
-// Each tests store and table first (not format), then the refusals in document 01's order, then does its row. Each promises one relation of the crate
-// promises: refused 2 exactly if store or table is not sound, and then nothing is changed; else the answer is the machine's, and store and table mean
-// the machine's next state (Calls); of format, that an accepted one leaves a fresh store (Formats). Demands 1 to 3 over these promises stand there too. It
-// rests on soundness for the test, on refusals for the numbers, on accepted and, for a step, stepping for what a call does that nothing refuses.
+// Each tests store and table first (not format), once, and then serves. The six promise one relation of the crate promises: refused 2 exactly if store or table
+// is not sound, and then nothing is changed; else the answer is the machine's, and store and table mean the machine's next state (Calls); of format, that an
+// accepted one leaves a fresh store (Formats). A run, a request and a batch promise to be lists of ordinary calls (promises, specs/Runs; batches, specs/Batches).
+// Demands 1 to 3 over these promises stand there too. It rests on soundness for the test, on refusals and accepted for format, on serving, running and batches
+// for the rest.
 ghost use mathlib.Core.List.{[]};
 ghost use Rattle.serial.specs.Calls as C;
 ghost use Rattle.outcomes.specs.Said.{said};
-ghost use Rattle.meaning.specs.Sound.{Sound};
 ghost use Rattle.promises.specs.Relations.{Calls, Formats};
-ghost use Rattle.promises.specs.Ways.{Serves};
+ghost use Rattle.promises.specs.Runs.{Runs, Requests};
+ghost use Rattle.batches.specs.Batches.{Batches};
 use outcomes::Answer;
+use outcomes::Ran;
 use outcomes::Served;
 use sessions::PARTIES;
 use sessions::Session;
 
 // ---- begin
 
-fn begin_checked(store: &[u32], t: [Session; PARTIES], p: u32) -> Served
-    requires { ⌜ Sound (now store) t ⌝ }
-    ensures { λ r. ⌜ Serves (C.begin p) (now (store .entry)) t (said (r .answer)) [] (now (store .entry)) (r .table) ⌝ }
-{
-    let n = refusals::begin_refusal(t, p);
-    if n != 0 {
-        return Served {
-            table: t,
-            answer: Answer::Refused(n, 0),
-        };
-    }
-    accepted::begin(store, t, p)
-}
-
 pub fn begin(store: &[u32], t: [Session; PARTIES], p: u32) -> Served
     ensures { λ r. ⌜ Calls (C.begin p) (now (store .entry)) t (said (r .answer)) [] (now (store .entry)) (r .table) ⌝ }
 {
     let good = soundness::is_sound(store, t);
     if good {
-        return begin_checked(store, t, p);
+        return serving::begin(store, t, p);
     }
     Served {
         table: t,
@@ -45,29 +33,6 @@ pub fn begin(store: &[u32], t: [Session; PARTIES], p: u32) -> Served
 }
 
 // ---- put
-
-fn put_checked(
-    store: &[u32],
-    t: [Session; PARTIES],
-    p: u32,
-    code: u32,
-    entry: u32,
-    first: u32,
-    second: u32,
-) -> Served
-    requires { ⌜ Sound (now store) t ⌝ }
-    ensures { λ r. ⌜ Serves (C.put p code entry first second) (now (store .entry)) t (said (r .answer)) [] (now (store .entry)) (r .table) ⌝ }
-{
-    let m = words::entries(store);
-    let n = refusals::put_refusal(m, t, p, code, entry, first, second);
-    if n != 0 {
-        return Served {
-            table: t,
-            answer: Answer::Refused(n, 0),
-        };
-    }
-    accepted::put(store, t, p, code, entry, first, second)
-}
 
 pub fn put(
     store: &[u32],
@@ -82,7 +47,7 @@ pub fn put(
 {
     let good = soundness::is_sound(store, t);
     if good {
-        return put_checked(store, t, p, code, entry, first, second);
+        return serving::put(store, t, p, code, entry, first, second);
     }
     Served {
         table: t,
@@ -92,26 +57,12 @@ pub fn put(
 
 // ---- step
 
-fn step_checked(store: &mut [u32], list: &mut [u32], t: [Session; PARTIES], p: u32) -> Served
-    requires { ⌜ Sound (now store) t ⌝ }
-    ensures { λ r. ⌜ Serves (C.step p (now (list .entry))) (now (store .entry)) t (said (r .answer)) (now (list .exit)) (now (store .exit)) (r .table) ⌝ }
-{
-    let n = refusals::step_refusal(t, p);
-    if n != 0 {
-        return Served {
-            table: t,
-            answer: Answer::Refused(n, 0),
-        };
-    }
-    stepping::step(store, list, t, p)
-}
-
 pub fn step(store: &mut [u32], list: &mut [u32], t: [Session; PARTIES], p: u32) -> Served
     ensures { λ r. ⌜ Calls (C.step p (now (list .entry))) (now (store .entry)) t (said (r .answer)) (now (list .exit)) (now (store .exit)) (r .table) ⌝ }
 {
     let good = soundness::is_sound(store, t);
     if good {
-        return step_checked(store, list, t, p);
+        return serving::step(store, list, t, p);
     }
     Served {
         table: t,
@@ -121,26 +72,12 @@ pub fn step(store: &mut [u32], list: &mut [u32], t: [Session; PARTIES], p: u32) 
 
 // ---- commit
 
-fn commit_checked(store: &mut [u32], t: [Session; PARTIES], p: u32) -> Served
-    requires { ⌜ Sound (now store) t ⌝ }
-    ensures { λ r. ⌜ Serves (C.commit p) (now (store .entry)) t (said (r .answer)) [] (now (store .exit)) (r .table) ⌝ }
-{
-    let n = refusals::commit_refusal(t, p);
-    if n != 0 {
-        return Served {
-            table: t,
-            answer: Answer::Refused(n, 0),
-        };
-    }
-    accepted::commit(store, t, p)
-}
-
 pub fn commit(store: &mut [u32], t: [Session; PARTIES], p: u32) -> Served
     ensures { λ r. ⌜ Calls (C.commit p) (now (store .entry)) t (said (r .answer)) [] (now (store .exit)) (r .table) ⌝ }
 {
     let good = soundness::is_sound(store, t);
     if good {
-        return commit_checked(store, t, p);
+        return serving::commit(store, t, p);
     }
     Served {
         table: t,
@@ -150,26 +87,12 @@ pub fn commit(store: &mut [u32], t: [Session; PARTIES], p: u32) -> Served
 
 // ---- abort
 
-fn abort_checked(store: &mut [u32], t: [Session; PARTIES], p: u32) -> Served
-    requires { ⌜ Sound (now store) t ⌝ }
-    ensures { λ r. ⌜ Serves (C.abort p) (now (store .entry)) t (said (r .answer)) [] (now (store .exit)) (r .table) ⌝ }
-{
-    let n = refusals::abort_refusal(t, p);
-    if n != 0 {
-        return Served {
-            table: t,
-            answer: Answer::Refused(n, 0),
-        };
-    }
-    accepted::abort(store, t, p)
-}
-
 pub fn abort(store: &mut [u32], t: [Session; PARTIES], p: u32) -> Served
     ensures { λ r. ⌜ Calls (C.abort p) (now (store .entry)) t (said (r .answer)) [] (now (store .exit)) (r .table) ⌝ }
 {
     let good = soundness::is_sound(store, t);
     if good {
-        return abort_checked(store, t, p);
+        return serving::abort(store, t, p);
     }
     Served {
         table: t,
@@ -190,4 +113,73 @@ pub fn format(store: &mut [u32], t: [Session; PARTIES], m: u32) -> Served
         };
     }
     accepted::format(store, t, m)
+}
+
+// ---- several calls for one test
+
+// Steps of party p until one is not answered more, at least one and at most so many.
+pub fn run(store: &mut [u32], list: &mut [u32], t: [Session; PARTIES], p: u32, bound: u32) -> Ran
+    ensures { λ r. ⌜ Runs p bound (now (store .entry)) t (now (list .entry)) (said (r .answer)) (r .steps) (now (list .exit)) (now (store .exit)) (r .table) ⌝ }
+{
+    let good = soundness::is_sound(store, t);
+    if good {
+        return running::run(store, list, t, p, bound);
+    }
+    Ran {
+        table: t,
+        answer: Answer::Refused(2, 0),
+        steps: 1,
+    }
+}
+
+// A put, and if it is accepted a run.
+pub fn request(
+    store: &mut [u32],
+    list: &mut [u32],
+    t: [Session; PARTIES],
+    p: u32,
+    code: u32,
+    entry: u32,
+    first: u32,
+    second: u32,
+    bound: u32,
+) -> Ran
+    ensures { λ r. ⌜ Requests p code entry first second bound (now (store .entry)) t (now (list .entry)) (said (r .answer)) (r .steps) (now (list .exit)) (now (store .exit)) (r .table) ⌝ }
+{
+    let good = soundness::is_sound(store, t);
+    if good {
+        return batches::request(store, list, t, p, code, entry, first, second, bound);
+    }
+    Ran {
+        table: t,
+        answer: Answer::Refused(2, 0),
+        steps: 0,
+    }
+}
+
+// A list of asks, one after another, and their answers.
+pub fn batch(
+    store: &mut [u32],
+    list: &mut [u32],
+    t: [Session; PARTIES],
+    asks: &[u32],
+    answers: &mut [u64],
+) -> Served
+    ensures { λ r. ⌜ Batches (now (asks .entry)) (now (store .entry)) t (now (list .entry)) (now (answers .entry)) (said (r .answer)) (now (answers .exit)) (now (list .exit)) (now (store .exit)) (r .table) ⌝ }
+{
+    let good = soundness::is_sound(store, t);
+    if !good {
+        return Served {
+            table: t,
+            answer: Answer::Refused(2, 0),
+        };
+    }
+    let fit = batches::fits(asks.len(), answers.len());
+    if fit {
+        return batches::batch(store, list, t, asks, answers);
+    }
+    Served {
+        table: t,
+        answer: Answer::Refused(102, 0),
+    }
 }

@@ -1,4 +1,5 @@
-// Serve: a call made on the store.
+// Serve: a call made on the store; every second one as a batch of one ask, a step as a run of one, with the answer read off its number.
+use books::book::CALL;
 use books::call::BEGIN;
 use books::call::COMMIT;
 use books::call::Call;
@@ -19,6 +20,7 @@ use outcomes::Answer;
 use outcomes::Served;
 use schedules::book::Book;
 use schedules::book::LISTS;
+use schedules::book::get;
 use schedules::side::Side;
 use schedules::side::TABLE;
 use schedules::words::wide;
@@ -39,12 +41,95 @@ fn served(store: &mut [u32], list: &mut [u32], t: [Session; PARTIES], c: Call) -
     }
 }
 
-// No such call: the sizes are wrong.
-fn unserved(t: [Session; PARTIES]) -> Served {
-    Served {
-        table: t,
-        answer: Answer::Refused(0, 0),
+// What a call leaves of the table, and its answer.
+struct Reply {
+    table: [Session; PARTIES],
+    said: Said,
+}
+
+fn alone(store: &mut [u32], list: &mut [u32], t: [Session; PARTIES], c: Call) -> Reply {
+    let x = served(store, list, t, c);
+    let after = x.table;
+    let answer = x.answer;
+    Reply {
+        table: after,
+        said: said(answer),
     }
+}
+
+// The kind of the ask that a call is.
+fn ask_kind(kind: u32) -> u32 {
+    match kind {
+        BEGIN => 1,
+        PUT => 2,
+        STEP => 6,
+        COMMIT => 4,
+        _ => 5,
+    }
+}
+
+// An answer's number: its word, and the numbers beside it.
+fn read(number: u64) -> Said {
+    let value = (number % 4294967296) as u32;
+    let beside = (number / 4294967296 % 256) as u32;
+    let word = (number / 1099511627776 % 256) as u32;
+    match word {
+        0 => say(OK, 0, 0),
+        1 => say(MORE, 0, 0),
+        2 => say(WAIT, value, 0),
+        3 => say(DONE, value, beside),
+        _ => say(REFUSED, beside, value),
+    }
+}
+
+fn read_batch(own: Answer, number: u64) -> Said {
+    match own {
+        Answer::Refused(n, beside) => say(REFUSED, n, beside),
+        _ => read(number),
+    }
+}
+
+fn in_batch(store: &mut [u32], list: &mut [u32], t: [Session; PARTIES], c: Call) -> Reply {
+    let asks = [
+        ask_kind(c.kind),
+        c.party,
+        c.code,
+        c.entry,
+        c.first,
+        c.second,
+        1,
+    ];
+    let mut answers = [0u64; 1];
+    let x = calls::batch(store, list, t, &asks, &mut answers);
+    let after = x.table;
+    let own = x.answer;
+    Reply {
+        table: after,
+        said: read_batch(own, answers[0]),
+    }
+}
+
+// No such call: the sizes are wrong.
+fn unserved(t: [Session; PARTIES]) -> Reply {
+    Reply {
+        table: t,
+        said: say(REFUSED, 0, 0),
+    }
+}
+
+fn make(
+    store: &mut [u32],
+    list: &mut [u32],
+    t: [Session; PARTIES],
+    c: Call,
+    is_batch: bool,
+) -> Reply {
+    if is_batch {
+        if c.kind != FORMAT {
+            return in_batch(store, list, t, c);
+        }
+    }
+    alone(store, list, t, c)
 }
 
 // The call on the store of a side, lent so many words of it, and of the list in the book as many as the call names.
@@ -54,12 +139,19 @@ fn with_store(
     t: [Session; PARTIES],
     c: Call,
     words: u32,
-) -> Served {
+    is_batch: bool,
+) -> Reply {
     let end = TABLE + wide(words);
     let list_end = LISTS + listed(c.first);
     if end <= side.len() {
         if list_end <= book.len() {
-            return served(&mut side[TABLE..end], &mut book[LISTS..list_end], t, c);
+            return make(
+                &mut side[TABLE..end],
+                &mut book[LISTS..list_end],
+                t,
+                c,
+                is_batch,
+            );
         }
     }
     unserved(t)
@@ -79,9 +171,9 @@ fn said(a: Answer) -> Said {
 // The call on the store, whose words are so many.
 pub fn on_store(s: &mut Side, b: &mut Book, words: u32, c: Call) -> Said {
     let t = table(s);
-    let x = with_store(s, b, t, c, words);
+    let is_batch = get(b, CALL) % 2 == 1;
+    let x = with_store(s, b, t, c, words, is_batch);
     let after = x.table;
-    let answer = x.answer;
     set_table(s, after);
-    said(answer)
+    x.said
 }

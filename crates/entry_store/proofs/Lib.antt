@@ -1,2 +1,4 @@
+pub mod Batching
 pub mod Callees
+pub mod Look
 pub mod Wrap

@@ -1,11 +1,11 @@
--- What the exported calls promise: what the store's call of that name promises (store, specs/Lent), of an answer whose packing is returned.
+-- What the exported calls promise: what the store's call of that name promises (store, specs/Lent, specs/Listed), of an answer whose packing is returned.
 use mathlib.Core.Path.{_≡_, refl, sym, ap, subst, _∙_}
 use mathlib.Core.Bool.{cond}
 use mathlib.Core.List.{List}
 use mathlib.Core.Logic.{_↔_}
 use Prim.Native.Nat.{ℕ, _<_}
 use native.Mathlib.Omega.{arith}
-use lib.Dec.{eqb}
+use lib.Dec.{eqb, lit<}
 use lib.ListN.{length}
 use Rattle.sessions.specs.declared.Session.{Session}
 use Rattle.sessions.specs.Sessions.{parties}
@@ -16,10 +16,14 @@ use Rattle.sound.specs.Sound.{firstFault}
 use Rattle.soundness.specs.Parts.{Table, table-fault, Part}
 use Rattle.soundness.specs.Named.{fault-broken, fault-first}
 use Rattle.soundness.specs.Exactly.{sound-parts, fault-none}
+use Rattle.serial.specs.Calls as C
 use Rattle.outcomes.specs.declared.Answer.{Answer}
+use Rattle.outcomes.specs.declared.Answer.the-variants.{Refused}
 use Rattle.outcomes.specs.Said.{said}
 use Rattle.store.specs.Lent.{Effect, OnTable, SteppedOnTable}
-use Rattle.packing.specs.Packed.{Packs}
+use Rattle.store.specs.Listed.{Listed, ListedOnTable}
+use Rattle.store.specs.Batched.{BatchEffect, BatchedOnTable}
+use Rattle.packing.specs.Packed.{Packs, PacksMade}
 
 -- Store and table as they were, the argument, the number that is returned, store and table as they are left.
 pub record Told {D : Type 0} (E : Effect D) (s : List ℕ) (t : List Session) (k : D) (r : ℕ) (s′ : List ℕ) (t′ : List Session) : Type 0 where
@@ -34,6 +38,43 @@ pub record Stepped (s : List ℕ) (t : List Session) (l : List ℕ) (p : ℕ) (r
   pub packs : Packs (said answer) r
   pub table-long : length t′ ≡ length t
   pub does : SteppedOnTable s t l p answer s′ t′ l′
+
+-- A run and a request tell with the answer how many steps were made.
+pub record ToldMade {D : Type 0} (E : Listed D) (s : List ℕ) (t : List Session) (l : List ℕ) (k : D) (r : ℕ) (s′ : List ℕ) (t′ : List Session) (l′ : List ℕ) : Type 0 where
+  pub answer : Answer
+  pub steps : ℕ
+  pub packs : PacksMade steps (said answer) r
+  pub table-long : length t′ ≡ length t
+  pub does : ListedOnTable E s t l k answer steps s′ t′ l′
+
+-- A batch has lent asks w and lent answers v too. The number that is returned is the packing of the batch's own answer.
+pub record ToldBatch (E : BatchEffect) (w s : List ℕ) (t : List Session) (l v : List ℕ) (r : ℕ) (v′ l′ s′ : List ℕ) (t′ : List Session) : Type 0 where
+  pub answer : Answer
+  pub packs : Packs (said answer) r
+  pub table-long : length t′ ≡ length t
+  pub does : BatchedOnTable E w s t l v answer v′ l′ s′ t′
+
+-- ---- what only reads
+
+-- Of store and table, and the answer as it is told.
+abbrev pub Look : Type 1
+Look = List ℕ → List Session → C.Answer → Type 0
+
+-- Over a table of any length, of the number that is returned.
+pub record Looked (E : Look) (s : List ℕ) (t : List Session) (r : ℕ) : Type 0 where
+  pub answer : Answer
+  pub packs : Packs (said answer) r
+  pub does : (length t ≡ parties → E s t (said answer)) × (¬ (length t ≡ parties) → answer ≡ Refused 1 0)
+
+-- Refused 1, as it crosses to C.
+abbrev pub wrong-table : ℕ
+wrong-table = 567352294899712
+
+pub looked-length : (E : Look) (s : List ℕ) (t : List Session) → ¬ (length t ≡ parties) → Looked E s t wrong-table
+looked-length E s t n = record { answer = Refused 1 0; packs = record { is = refl; words = lit< tt }; does = (λ e. absurd (n e), λ _. refl) }
+
+pub looked-table : (E : Look) (s : List ℕ) (t : List Session) (a : Answer) {r : ℕ} → Table t → Packs (said a) r → E s t (said a) → Looked E s t r
+looked-table E s t a T p e = record { answer = a; packs = p; does = (λ _. e, λ n. absurd (n (T .seats))) }
 
 -- The first part of soundness that store and table break (soundness, specs/Parts), 0 for none; the table's length stands before the others.
 abbrev pub fault-of : List ℕ → List Session → ℕ

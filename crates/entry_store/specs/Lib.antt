@@ -1,5 +1,7 @@
 pub mod Brief
 pub mod Exported
+pub mod Looks
 pub mod Made
+pub mod Servings
 pub mod Turns
 pub mod Worded

@@ -18,9 +18,10 @@ use Rattle.meaning.specs.Reading.{meaning}
 use Rattle.meaning.specs.Sound.{Sound}
 use Rattle.promises.specs.Relations.{list-of}
 use Rattle.promises.specs.Demands.{Lending, Returns}
+use Rattle.promises.specs.Runs.{lending}
 use Rattle.promises.specs.Words.{formatted-new}
 use Rattle.store.specs.Lent.{Formatted}
-use Rattle.store.specs.Turns.{lending, turn, Lends, formats, begins, puts, steps, commits, aborts, Sound-lent, sound-long, lends-return, lends-sound, functions, Loan, elsewhere, whole, slice, TurnedAway, Looks, unsound-lends, misfit-lends, accepted-format}
+use Rattle.store.specs.Turns.{turn, Lends, formats, begins, puts, steps, commits, aborts, Sound-lent, sound-long, lends-return, lends-sound, functions, Loan, elsewhere, whole, slice, TurnedAway, Looks, unsound-lends, misfit-lends, accepted-format}
 use Rattle.store.specs.Turns as L
 use Rattle.store.specs.Demand3.{functions-return, functions-laws, start-known}
 use Rattle.packing.specs.Packed.{packed, unpacked-packed, Worded}

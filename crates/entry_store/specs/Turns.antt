@@ -38,7 +38,7 @@ use Rattle.entry_store.specs.Exported.{Told, Stepped}
 below : (n : ℕ) → ltb n 256 ≡ true → n < 256
 below n e = ltb→lt n 256 (subst T (sym e) tt)
 
-small-of : (a : C.Answer) → Worded a → brief a ≡ true → Small a
+pub small-of : (a : C.Answer) → Worded a → brief a ≡ true → Small a
 small-of C.ok w e = tt
 small-of C.more w e = tt
 small-of (C.wait p) w e = w
@@ -123,7 +123,7 @@ module _ (x y : Lending) (r : ℕ) where
   fits-call : (c : C.Call) (a : Answer) (l : List ℕ) → (length t ≡ parties → Calls c s t (said a) l s′ t′) → (¬ (length t ≡ parties) → a ≡ Refused 1 0) → brief (said a) ≡ true
   fits-call c a l f g = fits a (λ n. calls-brief c s t (said a) l s′ t′ (f n)) g
 
-  lends : (c : C.Call) (l : List ℕ) → Exported x c r l y → Lends x (record { call = c; answer = unpacked r; list = list-told c l }) y
+  pub lends : (c : C.Call) (l : List ℕ) → Exported x c r l y → Lends x (record { call = c; answer = unpacked r; list = list-told c l }) y
   lends (C.format m) l h =
       let a = h .answer in
       read-off (C.format m) a [] (h .packs) (fits a (λ n. formats-brief m s t (said a) s′ t′ (h .does .0 n)) (λ z. h .does .1 z .0)) (formats {a = a} (h .does))

@@ -1,18 +1,24 @@
-// Entry store: the six calls, the lock count and the test of soundness, exported for C. include/entry_store.h declares and describes them.
+// Entry store: the six calls, a run, a request and a batch; and what is read without one, the lock count, the test of soundness, free records and holders;
+// exported for C. include/entry_store.h declares and describes them.
 //
 // A store and a list cross as a pointer and how many words, a session table as a pointer and how many records, each of 13 words in the order of the
 // fields. An answer crosses in one number, which loses nothing (crate packing). Each call promises what the store's call of its name promises, of the answer
 // whose packing it returns (specs/Exported); so any list of calls from C, with the answers read off the numbers, keeps demand 3 (specs/Turns), and every list
 // of calls has such numbers (specs/Made). Nothing is asked of the caller but what C's types leave to it. It rests on store for the calls, on packing for the
-// answers, on locks for the count, on tables and sound for the test.
+// answers, on locks for the count, on tables and sound for the test, on looking for free records and holders.
 ghost use mathlib.Core.Path.{_≡_};
 ghost use lib.ListN.{length};
 ghost use Rattle.locks.specs.Holders.{holders, word-bits};
 ghost use Rattle.store.specs.Lent.{Formatted, Begun, Put, Committed, Aborted};
-ghost use Rattle.entry_store.specs.Exported.{Told, Stepped, Names};
+ghost use Rattle.store.specs.Listed.{RanBy, AskedBy};
+ghost use Rattle.store.specs.Batched.{Batched};
+ghost use Rattle.entry_store.specs.Exported.{Told, Stepped, ToldMade, ToldBatch, Names, Looked};
+ghost use Rattle.looking.specs.Told.{FreeTold, HoldersTold};
 use sessions::PARTIES;
 use sessions::Session;
 use store::Ask;
+use store::Go;
+use store::Wish;
 
 // ---- the six calls
 
@@ -90,6 +96,69 @@ pub extern "C" fn entry_store_abort(store: &mut [u32], table: &mut [Session], pa
     packing::pack(a)
 }
 
+// ---- several calls at once
+
+// Steps of the request that the party has in hand until one is not answered more, at least one and at most so many; a locate's last step writes the list.
+#[no_mangle]
+pub extern "C" fn entry_store_run(
+    store: &mut [u32],
+    table: &mut [Session],
+    list: &mut [u32],
+    party: u32,
+    most: u32,
+) -> u64
+    ensures { λ r. ⌜ ToldMade RanBy (now (store .entry)) (now (table .entry)) (now (list .entry)) (record { party = party; most = most }) r (now (store .exit)) (now (table .exit)) (now (list .exit)) ⌝ }
+{
+    let k = Go {
+        party: party,
+        most: most,
+    };
+    let m = store::run(store, table, list, k);
+    packing::pack_made(m)
+}
+
+// A party's request, and if it is accepted a run.
+#[no_mangle]
+pub extern "C" fn entry_store_request(
+    store: &mut [u32],
+    table: &mut [Session],
+    list: &mut [u32],
+    party: u32,
+    code: u32,
+    entry: u32,
+    first: u32,
+    second: u32,
+    most: u32,
+) -> u64
+    ensures { λ r. ⌜ ToldMade AskedBy (now (store .entry)) (now (table .entry)) (now (list .entry)) (record { party = party; code = code; entry = entry; first = first; second = second; most = most }) r (now (store .exit)) (now (table .exit)) (now (list .exit)) ⌝ }
+{
+    let k = Wish {
+        party: party,
+        code: code,
+        entry: entry,
+        first: first,
+        second: second,
+        most: most,
+    };
+    let m = store::request(store, table, list, k);
+    packing::pack_made(m)
+}
+
+// Asks, made one after another after one test; their answers go into the lent answers.
+#[no_mangle]
+pub extern "C" fn entry_store_batch(
+    store: &mut [u32],
+    table: &mut [Session],
+    list: &mut [u32],
+    asks: &[u32],
+    answers: &mut [u64],
+) -> u64
+    ensures { λ r. ⌜ ToldBatch Batched (now (asks .entry)) (now (store .entry)) (now (table .entry)) (now (list .entry)) (now (answers .entry)) r (now (answers .exit)) (now (list .exit)) (now (store .exit)) (now (table .exit)) ⌝ }
+{
+    let a = store::batch(store, table, list, asks, answers);
+    packing::pack(a)
+}
+
 // ---- reading
 
 // The source's lock count: how many sessions a holders word has.
@@ -120,4 +189,45 @@ pub extern "C" fn entry_store_fault(store: &[u32], table: &[Session]) -> u32
     }
     let t = tables::load_all(table);
     fault_by_value(store, t)
+}
+
+// Refused 1, packed: the answer to a table that is not of 17 records.
+const WRONG_TABLE: u64 = 567352294899712;
+
+fn free_by_value(store: &[u32], t: [Session; PARTIES]) -> u64
+    ensures { λ r. ⌜ Looked FreeTold (now (store .entry)) t r ⌝ }
+{
+    let a = looking::free(store, t);
+    packing::pack(a)
+}
+
+// How many records are free.
+#[no_mangle]
+pub extern "C" fn entry_store_free(store: &[u32], table: &[Session]) -> u64
+    ensures { λ r. ⌜ Looked FreeTold (now (store .entry)) (now (table .entry)) r ⌝ }
+{
+    if table.len() != PARTIES {
+        return WRONG_TABLE;
+    }
+    let t = tables::load_all(table);
+    free_by_value(store, t)
+}
+
+fn holders_by_value(store: &[u32], t: [Session; PARTIES], key: u32) -> u64
+    ensures { λ r. ⌜ Looked (HoldersTold key) (now (store .entry)) t r ⌝ }
+{
+    let a = looking::holders(store, t, key);
+    packing::pack(a)
+}
+
+// Who holds a key, stored or not, in which mode.
+#[no_mangle]
+pub extern "C" fn entry_store_holders(store: &[u32], table: &[Session], key: u32) -> u64
+    ensures { λ r. ⌜ Looked (HoldersTold key) (now (store .entry)) (now (table .entry)) r ⌝ }
+{
+    if table.len() != PARTIES {
+        return WRONG_TABLE;
+    }
+    let t = tables::load_all(table);
+    holders_by_value(store, t, key)
 }

@@ -4,13 +4,12 @@
 // The groups are walked in the order of their keys: each descriptor's own words, and with the crate lists its members and undo records. The
 // crate holders has the test of holders words, the crate passing whose locates must hold a key and its gap. Each function's result, and what
 // it leaves, EQUAL a definition of specs/Holdings, which looks at each key by itself. It rests on the crates groups, sessions, marks,
-// undo_chains, lists, holders and passing.
+// lists, holders and passing.
 ghost use mathlib.Core.Path.{_≡_};
 ghost use Prim.Native.Nat.{_≤_, _<_};
 ghost use lib.ListN.{length};
 ghost use Rattle.marks.specs.Marks.{HasRecords};
 ghost use Rattle.marks.specs.Trail.{Ends};
-ghost use Rattle.undo_chains.specs.UndoChains.{Filing};
 ghost use Rattle.lists.specs.Lists.{Listing};
 ghost use Rattle.holdings.specs.Holdings.{groupOk, descriptorOk, keyOf, keyAt, groupOne, allGroups};
 use groups::Descriptor;
@@ -107,7 +106,7 @@ fn group_one(
     d: usize,
     left: usize,
 ) -> Chain
-    requires { ⌜ HasRecords (now store) m r × (r < length (now seen)) × (r < length (now tally)) × Filing (now files) × Listing (now lists) ⌝ }
+    requires { ⌜ HasRecords (now store) m r × (r < length (now seen)) × (r < length (now tally)) × Listing (now lists) ⌝ }
     ensures { λ w. ⌜ Ends _ (groupOne (now (store .entry)) (now (tally .entry)) (now (files .entry)) m r begun asked (now (seen .entry)) (now (lists .entry)) d left) w (now (seen .exit)) (now (lists .exit)) ⌝ }
 {
     if !descriptor_ok(store, tally, m, r, begun, asked, d) {
@@ -134,7 +133,7 @@ pub fn walk_groups(
     count: usize,
     left: usize,
 ) -> Chain
-    requires { ⌜ HasRecords (now store) m r × (r < length (now seen)) × (r < length (now tally)) × Filing (now files) × Listing (now lists) × (count ≤ length (now order)) ⌝ }
+    requires { ⌜ HasRecords (now store) m r × (r < length (now seen)) × (r < length (now tally)) × Listing (now lists) × (count ≤ length (now order)) ⌝ }
     ensures { λ w. ⌜ Ends _ (allGroups (now (store .entry)) (now (order .entry)) (now (tally .entry)) (now (files .entry)) m r begun t count (now (seen .entry)) (now (lists .entry)) left) w (now (seen .exit)) (now (lists .exit)) ⌝ }
 {
     let mut so = passing::passed_at(t, 0);

@@ -53,11 +53,14 @@ module _ {whole : Turn (List ℕ)} {s f : List ℕ} {m r d : ℕ} {l : List ℕ}
   undo-bad {more} g ne nm h t o =
       turned ((simp (ne-eqb i 0 ne, le-leb i r h, turned-as t o) at (ap (undoFrom s f m r d l i) (sym (one-less more nm)))) ∙ g .is)
 
-  pub undo-more : {more : ℕ} {b : Bool} {l′ : List ℕ} → Undoing whole s f m r d l i more → (i ≡ 0 → ⊥) → (more ≡ 0 → ⊥) → i ≤ r
-      → Turned (undoOne s l m d i) b l′ → b ≡ true → Undoing whole s f m r d l′ (getD f (8194 + i) 0) (more - 1)
+  pub undo-more : {more j : ℕ} {b : Bool} {l′ : List ℕ} → Undoing whole s f m r d l i more → (i ≡ 0 → ⊥) → (more ≡ 0 → ⊥) → i ≤ r
+      → Turned (undoOne s l m d i) b l′ → b ≡ true → j ≡ getD f (8194 + i) 0 → Undoing whole s f m r d l′ j (more - 1)
   unfolding undoFrom
-  undo-more {more} g ne nm h t o =
-      record { is = (simp (ne-eqb i 0 ne, le-leb i r h, turned-as t o) at (ap (undoFrom s f m r d l i) (sym (one-less more nm)))) ∙ g .is }
+  undo-more {more} {j} {b} {l′} g ne nm h t o e =
+      record {
+        is = ap (λ (x : ℕ). undoFrom s f m r d l′ x (more - 1)) e
+            ∙ ((simp (ne-eqb i 0 ne, le-leb i r h, turned-as t o) at (ap (undoFrom s f m r d l i) (sym (one-less more nm)))) ∙ g .is);
+      }
 
 -- ---- a group
 
@@ -67,7 +70,7 @@ module _ (s f : List ℕ) (m r d : ℕ) (seen₀ l₀ : List ℕ) (left : ℕ) {
   unfolding groupLists afterMembers
   lists-stop e k o = rw (← e, sym (k .ok) ∙ o) (record { ok = o; left = k .left; marks = k .marks; held = k .list })
 
-  pub lists-run : {b : Bool} {l′ : List ℕ} → first ≡ descriptorAt s m d .first → Listed (membersFrom s m r d seen₀ l₀ first left) w seen l → w .ok ≡ true
-      → Turned (undoFrom s f m r d l (getD f (4097 + d) 0) r) b l′ → Ends _ (groupLists s f m r seen₀ l₀ d left) (record { ok = b; left = w .left }) seen l′
+  pub lists-run : {b : Bool} {l′ : List ℕ} {undo : ℕ} → first ≡ descriptorAt s m d .first → Listed (membersFrom s m r d seen₀ l₀ first left) w seen l → w .ok ≡ true
+      → undo ≡ getD f (4097 + d) 0 → Turned (undoFrom s f m r d l undo r) b l′ → Ends _ (groupLists s f m r seen₀ l₀ d left) (record { ok = b; left = w .left }) seen l′
   unfolding groupLists afterMembers
-  lists-run e k o t = rw (← e, sym (k .ok) ∙ o, sym (k .list)) (record { ok = t .ok; left = k .left; marks = k .marks; held = t .held })
+  lists-run e k o q t = rw (← e, sym (k .ok) ∙ o, sym (k .list), ← q) (record { ok = t .ok; left = k .left; marks = k .marks; held = t .held })

@@ -2,16 +2,15 @@
 //
 // A scratch list says for each entry which group listed it last and by which record: a group is walked once, so an entry is in the
 // group at hand exactly where it names it. After the members, the group's undo records, as the crate undo_chains filed them, are undone on
-// that list. An entry has one exclusive holder, so the order between the records of different sessions does not matter. Each
-// function's result, and what it leaves, EQUAL a definition of specs/Lists. It rests on the crates words, groups, undos, marks and
-// undo_chains.
+// that list. An entry has one exclusive holder, so the order between the records of different sessions does not matter. Nothing is filed
+// past the end of what was filed, so files may be as short as there is need. Each function's result, and what it leaves, EQUAL a definition
+// of specs/Lists. It rests on the crates words, groups, undos, marks and undo_chains.
 ghost use mathlib.Core.Path.{_≡_};
 ghost use Prim.Native.Nat.{_≤_, _<_};
-ghost use lib.ListN.{length};
+ghost use lib.ListN.{length, getD};
 ghost use Rattle.words.specs.Store.{HasRecord};
 ghost use Rattle.marks.specs.Marks.{HasRecords};
 ghost use Rattle.marks.specs.Trail.{Turned, Ends};
-ghost use Rattle.undo_chains.specs.UndoChains.{Filing};
 ghost use Rattle.lists.specs.Lists.{Listing, Listed, listEntry, unlistEntry, memberOne, membersFrom, undoOne, undoFrom, groupLists};
 use marks::Chain;
 
@@ -124,6 +123,16 @@ fn undo_one(store: &[u32], lists: &mut [u16], m: usize, d: usize, i: usize) -> b
     list_entry(lists, d, e, i)
 }
 
+// What is filed at a place; 0 past the end.
+fn filed(files: &[u16], at: usize) -> usize
+    ensures { λ i. ⌜ i ≡ getD (now (files .entry)) at 0 ⌝ }
+{
+    if files.len() <= at {
+        return 0;
+    }
+    files[at] as usize
+}
+
 // The undo records of group d as they are filed, from record first on.
 fn undo_group(
     store: &[u32],
@@ -134,7 +143,7 @@ fn undo_group(
     d: usize,
     first: usize,
 ) -> bool
-    requires { ⌜ HasRecords (now store) m r × Filing (now files) × Listing (now lists) × (d ≤ 4096) ⌝ }
+    requires { ⌜ HasRecords (now store) m r × Listing (now lists) × (d ≤ 4096) ⌝ }
     ensures { λ b. ⌜ Turned (undoFrom (now (store .entry)) (now (files .entry)) m r d (now (lists .entry)) first r) b (now (lists .exit)) ⌝ }
 {
     let mut i = first;
@@ -150,7 +159,7 @@ fn undo_group(
             return false;
         }
         let link = undo_chains::LINKS + i;
-        i = files[link] as usize;
+        i = filed(files, link);
         more -= 1;
     }
     true
@@ -167,7 +176,7 @@ pub fn walk_lists(
     d: usize,
     left: usize,
 ) -> Chain
-    requires { ⌜ HasRecords (now store) m r × (r < length (now seen)) × Filing (now files) × Listing (now lists) × (1 ≤ d) × (d ≤ r) ⌝ }
+    requires { ⌜ HasRecords (now store) m r × (r < length (now seen)) × Listing (now lists) × (1 ≤ d) × (d ≤ r) ⌝ }
     ensures { λ w. ⌜ Ends _ (groupLists (now (store .entry)) (now (files .entry)) m r (now (seen .entry)) (now (lists .entry)) d left) w (now (seen .exit)) (now (lists .exit)) ⌝ }
 {
     let first = groups::descriptor_first(store, m, d) as usize;
@@ -176,7 +185,7 @@ pub fn walk_lists(
         return c;
     }
     let head = undo_chains::FIRSTS + d;
-    let undo = files[head] as usize;
+    let undo = filed(files, head);
     let fine = undo_group(store, files, lists, m, r, d, undo);
     Chain {
         ok: fine,

@@ -28,3 +28,16 @@ pub struct Served {
     pub table: [Session; PARTIES],
     pub answer: Answer,
 }
+
+// What a run of calls leaves of the table, the answer of the last one, and how many steps were made.
+pub struct Ran {
+    pub table: [Session; PARTIES],
+    pub answer: Answer,
+    pub steps: u32,
+}
+
+// An answer, and how many steps were made for it.
+pub struct Made {
+    pub answer: Answer,
+    pub steps: u32,
+}

@@ -2,8 +2,9 @@
 use mathlib.Core.Path.{_≡_, sym, ap, _∙_}
 use mathlib.Core.Bool.{cond}
 use mathlib.Core.List.{List, [], _∷_}
-use Prim.Native.Nat.{ℕ, _+_, _*_, _/_, _%_, _<_}
-use native.Mathlib.Nat.{mod-eq-of-lt}
+use Prim.Native.Nat.{ℕ, _+_, _*_, _/_, _%_, _≤_, _<_}
+use native.Mathlib.Omega.{arith}
+use native.Mathlib.Nat.{mod-lt, mod-eq-of-lt}
 use lib.Arith.{digits-div, digits-mod}
 use lib.Dec.{eqb, lit<}
 use Rattle.serial.specs.Calls as C
@@ -37,6 +38,12 @@ Worded (C.refused n k) = k < 4294967296
 pub record Packs (a : C.Answer) (r : ℕ) : Type 0 where
   pub is : r ≡ packed a
   pub words : Worded a
+
+-- Above them 14 bits for how many steps were made. 1,125,899,906,842,624 is 2 to the 50.
+pub record PacksMade (n : ℕ) (a : C.Answer) (r : ℕ) : Type 0 where
+  pub is : r ≡ n * 1125899906842624 + packed a
+  pub words : Worded a
+  pub few : n ≤ 16383
 
 -- ---- and back
 
@@ -94,3 +101,29 @@ unpacked-packed (C.refused n k) h = opened 2 4 n k (lit< tt) (h .0) (h .1)
 
 pub packed-once : (a b : C.Answer) → Small a → Small b → packed a ≡ packed b → a ≡ b
 packed-once a b ha hb e = sym (unpacked-packed a ha) ∙ ap unpacked e ∙ unpacked-packed b hb
+
+-- ---- with the steps
+
+-- A packed answer leaves the 14 bits above it.
+boxed-below : (c w n v : ℕ) → c ≤ 2 → w ≤ 4 → v < 4294967296 → box c w n v < 1125899906842624
+boxed-below c w n v hc hw hv = let h : n % 256 < 256 = mod-lt n (lit< tt) in omega (arith, hc, hw, hv, h)
+
+pub packed-below : (a : C.Answer) → Worded a → packed a < 1125899906842624
+packed-below C.ok h = lit< tt
+packed-below C.more h = lit< tt
+packed-below (C.wait p) h = boxed-below 1 2 0 p (omega arith) (omega arith) h
+packed-below (C.done []) h = lit< tt
+packed-below (C.done (n ∷ [])) h = boxed-below 1 3 0 n (omega arith) (omega arith) h
+packed-below (C.done (k ∷ b ∷ ns)) h = boxed-below 2 3 b k (omega arith) (omega arith) h
+packed-below (C.refused n k) h = boxed-below 2 4 n k (omega arith) (omega arith) h
+
+-- So both together are a number of 64 bits.
+pub made-fits : (n : ℕ) (a : C.Answer) {w low : ℕ} → n ≤ 16383 → w ≡ n → Packs a low → w * 1125899906842624 + low < 18446744073709551616
+made-fits n a h e P = omega (arith, h, e, P .is, packed-below a (P .words))
+
+-- The steps and the answer are read back.
+pub made-steps : (n : ℕ) (a : C.Answer) (r : ℕ) → PacksMade n a r → r / 1125899906842624 ≡ n
+made-steps n a r h = ap (λ (k : ℕ). k / 1125899906842624) (h .is) ∙ digits-div n (packed-below a (h .words))
+
+pub made-answer : (n : ℕ) (a : C.Answer) (r : ℕ) → PacksMade n a r → Small a → unpacked (r % 1125899906842624) ≡ a
+made-answer n a r h s = ap (λ (k : ℕ). unpacked (k % 1125899906842624)) (h .is) ∙ ap unpacked (digits-mod n (packed-below a (h .words))) ∙ unpacked-packed a s

@@ -1,12 +1,13 @@
 // Packing: an answer in one number of 64 bits, as it crosses to C.
 //
-// It promises that the number is the packing of the answer, which loses nothing: the answer is read back from it (specs/Packed). It rests on outcomes for
-// answers, on serial for answers as they are told.
+// It promises that the number is the packing of the answer, and of how many steps were made for it, which loses nothing: both are read back from it
+// (specs/Packed). It rests on outcomes for answers, on serial for answers as they are told.
 ghost use mathlib.Core.Path.{_≡_};
-ghost use Prim.Native.Nat.{_<_};
+ghost use Prim.Native.Nat.{_<_, _≤_};
 ghost use Rattle.outcomes.specs.Said.{said};
-ghost use Rattle.packing.specs.Packed.{box, Packs};
+ghost use Rattle.packing.specs.Packed.{box, Packs, PacksMade};
 use outcomes::Answer;
+use outcomes::Made;
 
 fn wide(n: u32) -> u64
     ensures { λ r. ⌜ r ≡ n ⌝ }
@@ -36,4 +37,14 @@ pub fn pack(a: Answer) -> u64
         Answer::Tidied(k, b) => boxed(2, 3, b, k),
         Answer::Refused(n, k) => boxed(2, 4, n, k),
     }
+}
+
+// The answer and how many steps were made for it, in one number.
+pub fn pack_made(m: Made) -> u64
+    requires { ⌜ m .steps ≤ 16383 ⌝ }
+    ensures { λ r. ⌜ PacksMade (m .steps) (said (m .answer)) r ⌝ }
+{
+    let a = m.answer;
+    let low = pack(a);
+    wide(m.steps) * 1125899906842624 + low
 }

@@ -1,17 +1,18 @@
 -- The turns of the loops over the session table.
 use mathlib.Core.Path.{_≡_, refl, sym, ap, _∙_}
 use mathlib.Core.List.{List}
-use mathlib.Core.Bool.{Bool, true, false, cond}
-use Prim.Native.Nat.{ℕ, suc, _+_, _-_, _≤_, _<_}
+use mathlib.Core.Bool.{Bool, true, false, cond, not, _||_, true≢false}
+use Prim.Native.Nat.{ℕ, zero, suc, _+_, _-_, _≤_, _<_}
 use native.Mathlib.Omega.{arith}
 use lib.Dec.{eqb}
+use borrow.Author.Tests.{eq-eqb, ne-eqb, eqb-true}
 use Rattle.sessions.specs.declared.Session.{Session}
 use Rattle.sessions.specs.Sessions.{session-at}
 use Rattle.marks.specs.declared.Chain.{Chain}
-use Rattle.marks.specs.Trail.{Turn, Trail, Ends, Turned, turned, turned-as, trail-as, ended-as}
+use Rattle.marks.specs.Trail.{Turn, Trail, ends, Ends, Turned, turned, turned-as, trail-as, ended-as, go-end}
 use Rattle.undo_chains.specs.UndoChains.{undosFrom}
 use Rattle.standing.specs.Standing.{partyOk}
-use Rattle.parties.specs.Parties.{partiesFrom, oneAtNode, standingFrom, undosOf}
+use Rattle.parties.specs.Parties.{partiesFrom, oneAtNode, standingFrom, someUndo, hasUndos, undosOf, allUndos}
 
 one-less : (k : ℕ) → 0 < k → k ≡ suc (k - 1)
 one-less k h = omega arith
@@ -68,6 +69,28 @@ module _ {whole : ℕ} {t : List Session} {n p rest : ℕ} where
   unfolding standingFrom
   count-end g e = let q : standingFrom t p rest ≡ 0 = ap (standingFrom t p) e in let w = g .is in omega arith
 
+-- ---- whether some session has an undo record
+
+-- what is left of the table says what the whole says
+pub record Seeking (whole : Bool) (t : List Session) (p rest : ℕ) : Type 0 where
+  pub is : someUndo t p rest ≡ whole
+
+module _ {whole : Bool} {t : List Session} {p rest : ℕ} (g : Seeking whole t p rest) where
+  pub seek-found : 0 < rest → (session-at t p .undo ≡ 0 → ⊥) → true ≡ whole
+  unfolding someUndo
+  seek-found h n = (simp (ne-eqb (session-at t p .undo) 0 n) at (ap (someUndo t p) (sym (one-less rest h)))) ∙ g .is
+
+  pub seek-more : {rest′ : ℕ} → 0 < rest → session-at t p .undo ≡ 0 → rest′ ≡ rest - 1 → Seeking whole t (p + 1) rest′
+  unfolding someUndo
+  seek-more h e z =
+      record {
+        is = ap (someUndo t (p + 1)) z ∙ ((simp (eq-eqb (session-at t p .undo) 0 e) at (ap (someUndo t p) (sym (one-less rest h)))) ∙ g .is);
+      }
+
+  pub seek-end : rest ≡ 0 → false ≡ whole
+  unfolding someUndo
+  seek-end e = ap (someUndo t p) (sym e) ∙ g .is
+
 -- ---- the chains of undo records
 
 -- what is left of the chains, done, gives the whole
@@ -93,3 +116,24 @@ module _ {whole : Trail (List ℕ)} {s : List ℕ} {m r : ℕ} {t : List Session
   pub take-end : {rest : ℕ} → Taking whole s m r t seen f left p rest → rest ≡ 0 → Ends _ whole (record { ok = true; left = left }) seen f
   unfolding undosOf
   take-end {rest} g e = ended-as (ap (undosOf s m r t seen f left p) (sym e) ∙ g .is) refl
+
+-- ---- no session has one
+
+module _ (s : List ℕ) (m r : ℕ) (t : List Session) (seen f : List ℕ) (left : ℕ) where
+  chain-none : (p : ℕ) → session-at t p .undo ≡ 0 → undosFrom s m r p seen f (session-at t p .undo) left ≡ ends true left seen f
+  unfolding undosFrom
+  chain-none p e = trail-as (go-end (record { is = refl }) e) refl
+
+  chains-none : (n p : ℕ) → someUndo t p n ≡ false → undosOf s m r t seen f left p n ≡ ends true left seen f
+  unfolding someUndo undosOf
+  chains-none zero p e = refl
+  chains-none (suc n) p e = go (eqb (session-at t p .undo) 0) refl e (chains-none n (p + 1))
+    where
+      go : (b : Bool) → eqb (session-at t p .undo) 0 ≡ b → not b || someUndo t (p + 1) n ≡ false
+          → (someUndo t (p + 1) n ≡ false → undosOf s m r t seen f left (p + 1) n ≡ ends true left seen f) → undosOf s m r t seen f left p (suc n) ≡ ends true left seen f
+      go true q e k = simp (chain-none p (eqb-true (session-at t p .undo) 0 q)) (k e)
+      go false q e k = absurd (true≢false e)
+
+  pub undos-none : hasUndos t ≡ false → allUndos s m r t seen f left ≡ ends true left seen f
+  unfolding hasUndos allUndos
+  undos-none e = chains-none _ 1 e

@@ -1,6 +1,6 @@
 -- The whole session table: every party stands right, how many are at a node, and every chain of undo records is in order.
 use mathlib.Core.List.{List}
-use mathlib.Core.Bool.{true, cond}
+use mathlib.Core.Bool.{Bool, true, false, cond, not, _||_}
 use Prim.Native.Nat.{ℕ, zero, suc, _+_, _-_}
 use lib.Dec.{eqb}
 use Rattle.sessions.specs.declared.Session.{Session}
@@ -29,6 +29,14 @@ standingFrom t p (suc n) = oneAtNode (session-at t p) + standingFrom t (p + 1) n
 
 unfoldable pub standingAtNodes : List Session → ℕ
 standingAtNodes t = standingFrom t 0 parties
+
+-- some session from p on, of n of them, has an undo record
+unfoldable pub someUndo : List Session → ℕ → ℕ → Bool
+someUndo t p zero = false
+someUndo t p (suc n) = not (eqb (session-at t p .undo) 0) || someUndo t (p + 1) n
+
+unfoldable pub hasUndos : List Session → Bool
+hasUndos t = someUndo t 1 (parties - 1)
 
 -- the chains of the sessions from p on, n of them
 unfoldable pub undosOf : List ℕ → ℕ → ℕ → List Session → List ℕ → List ℕ → ℕ → ℕ → ℕ → Trail (List ℕ)

@@ -1,5 +1,5 @@
 // Parties: the whole session table. Every party stands right, as many are at a node as are counted, and every session's chain of undo
-// records is in order.
+// records, if any has one, is in order.
 //
 // These are the loops over the table's records. Each function's result, and what it leaves, EQUAL a definition of specs/Parties. It
 // rests on the crates sessions, marks, undo_chains and standing.
@@ -9,7 +9,7 @@ ghost use lib.ListN.{length};
 ghost use Rattle.marks.specs.Marks.{HasRecords};
 ghost use Rattle.marks.specs.Trail.{Turned, Ends};
 ghost use Rattle.undo_chains.specs.UndoChains.{Filing};
-ghost use Rattle.parties.specs.Parties.{partiesOk, oneAtNode, standingAtNodes, allUndos};
+ghost use Rattle.parties.specs.Parties.{partiesOk, oneAtNode, standingAtNodes, hasUndos, allUndos};
 use marks::Chain;
 use sessions::PARTIES;
 use sessions::Session;
@@ -59,6 +59,21 @@ pub fn standing_at_nodes(t: [Session; PARTIES]) -> usize
         p += 1;
     }
     n
+}
+
+// Some session has an undo record.
+pub fn has_undos(t: [Session; PARTIES]) -> bool
+    ensures { λ b. ⌜ b ≡ hasUndos t ⌝ }
+{
+    let mut p: usize = 1;
+    while p < PARTIES {
+        let s = t[p];
+        if s.undo != 0 {
+            return true;
+        }
+        p += 1;
+    }
+    false
 }
 
 // All sessions' chains of undo records.

@@ -99,7 +99,7 @@ tidy-chosen e f g s t l′ s′ t′ P S =
 
 -- ---- a step
 
-told-more : (z : Answer) → Tells z C.more → z ≡ more
+pub told-more : (z : Answer) → Tells z C.more → z ≡ more
 told-more ok e = cc
 told-more more e = refl
 told-more (wait ps) e = let q = e .2 in cc

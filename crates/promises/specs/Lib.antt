@@ -1,5 +1,6 @@
 pub mod Relations
 pub mod Demands
+pub mod Runs
 pub mod Assembling
 pub mod Ways
 pub mod Seats
@@ -9,4 +10,5 @@ pub mod Words
 pub mod Promised
 pub mod Demand1
 pub mod Demand2
+pub mod Making
 pub mod Holding

@@ -1,10 +1,13 @@
-// Seats: what a call over a lent table keeps of the call by value, the record of its party with the answer; and the answer where no such call is made.
+// Seats: what a call over a lent table keeps of the call by value, the record of its party with the answer, and of a run how many steps were made; and the
+// answer where no such call is made.
 //
 // It promises the record as the table has it, an idle one for a number that is no party's. It rests on sessions for the record, on outcomes for
 // answers, on refusals for a party's record.
 ghost use mathlib.Core.Path.{_≡_};
 ghost use Rattle.sessions.specs.Sessions.{session-at};
 use outcomes::Answer;
+use outcomes::Made;
+use outcomes::Ran;
 use outcomes::Served;
 use sessions::Session;
 
@@ -29,9 +32,45 @@ pub fn seat_of(served: Served, p: u32) -> Seat
     }
 }
 
+// What a run leaves: its party, the party's record, the last answer and how many steps were made.
+pub struct Stint {
+    pub party: u32,
+    pub session: Session,
+    pub made: Made,
+}
+
+// The record of party p out of what a run gave back, with its answer and its steps.
+pub fn stint_of(ran: Ran, p: u32) -> Stint
+    ensures { λ r. ⌜ r ≡ record { party = p; session = session-at (ran .table) p; made = record { answer = ran .answer; steps = ran .steps } } ⌝ }
+{
+    let u = ran.table;
+    let answer = ran.answer;
+    let session = refusals::seat(u, p);
+    let made = Made {
+        answer: answer,
+        steps: ran.steps,
+    };
+    Stint {
+        party: p,
+        session: session,
+        made: made,
+    }
+}
+
 // The answer to a table that is not of 17 records.
 pub fn wrong_table() -> Answer
     ensures { λ r. ⌜ r ≡ Answer.Refused 1 0 ⌝ }
 {
     Answer::Refused(1, 0)
+}
+
+// The same where steps are told with it: none.
+pub fn wrong_table_made() -> Made
+    ensures { λ r. ⌜ r ≡ record { answer = Answer.Refused 1 0; steps = 0 } ⌝ }
+{
+    let answer = wrong_table();
+    Made {
+        answer: answer,
+        steps: 0,
+    }
 }

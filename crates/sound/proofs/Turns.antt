@@ -1,19 +1,22 @@
 -- The ways through the passes, each from the tests that lead to it.
-use mathlib.Core.Path.{_≡_, refl, sym, _∙_}
+use mathlib.Core.Path.{_≡_, refl, sym, ap, subst, _∙_}
 use mathlib.Core.List.{List}
-use mathlib.Core.Bool.{Bool, true, false}
-use Prim.Native.Nat.{ℕ, _≤_, _<_}
-use lib.ListN.{replicate}
+use mathlib.Core.Bool.{Bool, true, false, cond}
+use Prim.Native.Nat.{ℕ, zero, suc, _≤_, _<_}
+use lib.Dec.{leb}
+use lib.ListN.{getD, replicate}
 use borrow.Author.Tests.{eq-eqb, ne-eqb, le-leb, lt-leb}
 use Rattle.words.specs.Header.{headerWord, freePlace}
 use Rattle.sessions.specs.declared.Session.{Session}
 use Rattle.marks.specs.declared.Chain.{Chain}
-use Rattle.marks.specs.Trail.{Turned, turned-as, turn, Ends, trail-as}
-use Rattle.parties.specs.Parties.{partiesOk, standingAtNodes, allUndos}
+use Rattle.marks.specs.Trail.{Going, Turn, Turned, turned-as, turn, Trail, Ends, trail-as}
+use Rattle.parties.specs.Parties.{partiesOk, standingAtNodes, hasUndos, allUndos}
+use Rattle.parties.proofs.Turns.{undos-none}
 use Rattle.tree_walk.specs.declared.Walk.{Walk}
 use Rattle.tree_walk.specs.TreeWalk.{tour, Toured, rootTour}
 use Rattle.holders.specs.Holders.{begunMask, entriesFrom}
 use Rattle.holdings.specs.Holdings.{allGroups}
+use Rattle.holdings.proofs.SameFiles.{groups-same}
 use Rattle.sound.specs.declared.Checked.{Checked}
 use Rattle.sound.specs.Faults.{entries-fault, zero-fault, tree-fault, requests-fault, latches-fault, undos-fault, groups-fault, free-fault, unreached-fault}
 use Rattle.sound.specs.Sound.{failed, lowestOk, freeTurn, freeFrom, ending, finishOf, afterGroups, groupsThen, afterUndos, undosThen, afterParties, partiesThen, afterTree, faultIn}
@@ -23,6 +26,11 @@ use Rattle.sound.specs.Sound.{failed, lowestOk, freeTurn, freeFrom, endi
 pub free-turned : (seen : List ℕ) (a i : ℕ) → freeTurn seen a i ≡ turn true a
 unfolding freeTurn
 free-turned seen a i = refl
+
+-- The record behind, where the chain goes to it.
+pub at-ahead : {whole : Trail ℕ} {next : ℕ → ℕ} {r kind : ℕ} {f : List ℕ → ℕ → ℕ → Turn ℕ} {seen : List ℕ} {a i j left : ℕ} → i ≡ j → Going ℕ whole next r kind f seen a i left
+    → Going ℕ whole next r kind f seen a j left
+at-ahead {whole} {next} {r} {kind} {f} {seen} {a} {i} {j} {left} e g = subst (λ z. Going ℕ whole next r kind f seen a z left) e g
 
 module _ (s : List ℕ) (m r : ℕ) (seen : List ℕ) (left : ℕ) {first : ℕ} {w : Chain} {seen′ : List ℕ} (ef : first ≡ headerWord s freePlace) (k : Ends ℕ (freeFrom s m r seen first left) w seen′ 0) where
   free-as : {b : Bool} → w .ok ≡ b → finishOf s m r seen left ≡ ending left (record { ok = b; left = w .left; seen = seen′; held = 0 })
@@ -67,6 +75,28 @@ module _ (s order tally : List ℕ) (m r begun : ℕ) (t : List Session) (count 
   pub undos-go : w .ok ≡ true → c ≡ groupsThen s order tally f m r begun t count seen′ (w .left) → c ≡ undosThen s order tally m r begun t count seen left
   unfolding undosThen afterUndos
   undos-go o e = simp (trail-as k o) e
+
+-- where no session has one, nothing is filed: room that is all zeros reads as no room
+abbrev room : ℕ → List ℕ
+room n = replicate n 0
+
+zeros : (n k : ℕ) → getD (room n) k 0 ≡ 0
+zeros zero k = refl
+zeros (suc n) zero = refl
+zeros (suc n) (suc k) = zeros n k
+
+none-filed : (n i k : ℕ) → getD (room n) k 0 ≡ getD (room i) k 0
+none-filed n i k = zeros n k ∙ sym (zeros i k)
+
+module _ (s order tally : List ℕ) (m r begun : ℕ) (t : List Session) (count : ℕ) (seen : List ℕ) (left : ℕ) {c : Checked} where
+  pub undos-without : hasUndos t ≡ false → c ≡ groupsThen s order tally (room 1) m r begun t count seen left → c ≡ undosThen s order tally m r begun t count seen left
+  unfolding undosThen afterUndos groupsThen
+  undos-without h e =
+      e
+      ∙ ap
+      (λ (g : Trail (List ℕ)). cond (leb count 4097) (afterGroups s m r g) (failed groups-fault))
+      (sym (groups-same (room 12291) (room 1) (none-filed 12291 1) s order tally m r begun t count seen (replicate 2050 0) left))
+      ∙ ap (afterUndos s order tally m r begun t count) (sym (undos-none s m r t seen (room 12291) left h))
 
 -- ---- the parties
 

@@ -10,7 +10,6 @@ ghost use Prim.Native.Nat.{_+_, _*_, _≤_, _<_};
 ghost use lib.ListN.{length};
 ghost use Rattle.marks.specs.Marks.{HasRecords};
 ghost use Rattle.marks.specs.Trail.{Ends};
-ghost use Rattle.undo_chains.specs.UndoChains.{Filing};
 ghost use Rattle.sound.specs.Sizes.{sizesOk};
 ghost use Rattle.sound.specs.Sound.{failed, lowestOk, freeFrom, finishOf, groupsThen, undosThen, partiesThen, faultIn, firstFault, isSound};
 use marks::Chain;
@@ -96,7 +95,8 @@ fn sizes_ok(store: &[u32]) -> bool
 
 // ---- the passes, from the last to the first: each goes on with those behind it
 
-// The free chain, from record first on.
+// The free chain, from record first on. Mostly it goes to the record behind; that one is then met at its place and not by way of the link, so that
+// the machine need not wait for one word before it looks at the next.
 fn walk_free(store: &[u32], seen: &mut [u8], m: usize, r: usize, first: usize, left: usize) -> Chain
     requires { ⌜ HasRecords (now store) m r × (r < length (now seen)) ⌝ }
     ensures { λ w. ⌜ Ends _ (freeFrom (now (store .entry)) m r (now (seen .entry)) first left) w (now (seen .exit)) 0 ⌝ }
@@ -108,8 +108,17 @@ fn walk_free(store: &[u32], seen: &mut [u8], m: usize, r: usize, first: usize, l
         if !v.ok {
             return v;
         }
+        let ahead = i + 1;
         i = words::word(store, m, i, 0) as usize;
         more = v.left;
+        if i == ahead {
+            let w = marks::meet(seen, r, ahead, more, marks::FREE);
+            if !w.ok {
+                return w;
+            }
+            i = words::word(store, m, ahead, 0) as usize;
+            more = w.left;
+        }
     }
     Chain {
         ok: true,
@@ -136,7 +145,7 @@ fn finish(store: &[u32], seen: &mut [u8], m: usize, r: usize, left: usize) -> Ch
     }
 }
 
-// The groups, and then the rest.
+// The groups, with the undo records that are filed, and then the rest.
 fn groups_then(
     store: &[u32],
     seen: &mut [u8],
@@ -150,7 +159,7 @@ fn groups_then(
     count: usize,
     left: usize,
 ) -> Checked
-    requires { ⌜ HasRecords (now store) m r × (r < length (now seen)) × (r < length (now tally)) × Filing (now files) × (length (now order) ≡ 4097) ⌝ }
+    requires { ⌜ HasRecords (now store) m r × (r < length (now seen)) × (r < length (now tally)) × (length (now order) ≡ 4097) ⌝ }
     ensures { λ c. ⌜ c ≡ groupsThen (now (store .entry)) (now (order .entry)) (now (tally .entry)) (now (files .entry)) m r begun t count (now (seen .entry)) left ⌝ }
 {
     if 4097 < count {
@@ -178,7 +187,7 @@ fn groups_then(
 }
 
 // The chains of undo records, and then the rest.
-fn undos_then(
+fn chains_then(
     store: &[u32],
     seen: &mut [u8],
     order: &[u16],
@@ -200,6 +209,29 @@ fn undos_then(
     }
     let more = b.left;
     groups_then(store, seen, order, tally, &f, m, r, begun, t, count, more)
+}
+
+// The same, with nothing filed where no session has an undo record: only chains need the room for them.
+fn undos_then(
+    store: &[u32],
+    seen: &mut [u8],
+    order: &[u16],
+    tally: &[u8],
+    m: usize,
+    r: usize,
+    begun: u32,
+    t: [Session; PARTIES],
+    count: usize,
+    left: usize,
+) -> Checked
+    requires { ⌜ HasRecords (now store) m r × (r < length (now seen)) × (r < length (now tally)) × (length (now order) ≡ 4097) ⌝ }
+    ensures { λ c. ⌜ c ≡ undosThen (now (store .entry)) (now (order .entry)) (now (tally .entry)) m r begun t count (now (seen .entry)) left ⌝ }
+{
+    if parties::has_undos(t) {
+        return chains_then(store, seen, order, tally, m, r, begun, t, count, left);
+    }
+    let f = [0u16; 1];
+    groups_then(store, seen, order, tally, &f, m, r, begun, t, count, left)
 }
 
 // The requests in hand, as many latches as parties at a node, and then the rest.

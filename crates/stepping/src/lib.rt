@@ -2,8 +2,9 @@
 //
 // The caller has tested that store and table are sound and that no check of a step refuses. The stage of the party's request picks the row (node_step,
 // early_step and stage_step equal definitions of promises/specs/Stepping); step promises what the crate promises says of a call on sound words (Serves):
-// the answer is the machine's, store and table mean the machine's next state, and the list is written as the machine says. It rests on refusals for the
-// party's record, on starting, root_entry, walking, arriving, changing and taking for the rows.
+// the answer is the machine's, store and table mean the machine's next state, and the list is written as the machine says. early_step is public for a run, which
+// has its party's record in hand and makes the steps of a scan itself (running). It rests on refusals for the party's record, on starting, root_entry, walking,
+// arriving, changing and taking for the rows.
 ghost use mathlib.Core.Path.{_≡_};
 ghost use lib.ListN.{length};
 ghost use Rattle.serial.specs.Calls as C;
@@ -30,7 +31,7 @@ fn node_step(store: &mut [u32], m: usize, r: usize, p: u32, x: Session) -> Moved
 }
 
 // Stages 1 to 4.
-fn early_step(store: &mut [u32], m: usize, r: usize, p: u32, x: Session) -> Moved
+pub fn early_step(store: &mut [u32], m: usize, r: usize, p: u32, x: Session) -> Moved
     requires { ⌜ EarlyReady (now store) m r p x ⌝ }
     ensures { λ z. ⌜ Leaves (now (store .exit)) z (earlyStep (now (store .entry)) m r p x) ⌝ }
 {

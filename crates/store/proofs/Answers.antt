@@ -1,4 +1,4 @@
--- What a call is passed and what it answers: the rows of an `Answer`, of a `Served` and of a `Seat`, their laws, and how a value's one machine value is spelled.
+-- What a call is passed and what it answers: the rows of an `Answer`, of a `Served`, of a `Seat`, of a `Made` and of a `Stint`, their laws, and how a value's one machine value is spelled.
 use mathlib.Core.Path.{_≡_, refl, sym, subst, _∙_}
 use Prim.Native.Nat.{_<_, _^_}
 use mathlib.Core.List.{List, [], _∷_, map}
@@ -23,9 +23,15 @@ use Rattle.outcomes.proofs.Answer.Laws as An′
 use Rattle.outcomes.specs.declared.Served.{Served}
 use Rattle.outcomes.proofs.Served as Se
 use Rattle.outcomes.proofs.Served.Laws as Se′
+use Rattle.outcomes.specs.declared.Made.{Made}
+use Rattle.outcomes.proofs.Made as Ma
+use Rattle.outcomes.proofs.Made.Laws as Ma′
 use Rattle.seats.specs.declared.Seat.{Seat}
 use Rattle.seats.proofs.Seat as Sa
 use Rattle.seats.proofs.Seat.Laws as Sa′
+use Rattle.seats.specs.declared.Stint.{Stint}
+use Rattle.seats.proofs.Stint as St
+use Rattle.seats.proofs.Stint.Laws as St′
 use Rattle.tables.proofs.Row.{R, valsOf, tell, Rows, valsOfRows, spelled-rows}
 
 abbrev pub AnswerR : RattleType
@@ -93,3 +99,39 @@ seat-session d v g = let f = LL.owed Sa.the-type Sa′.the-laws d (v ∷ []) g .
 
 pub seat-answer : (d : Seat) (v : Val) → Is SeatR d (v ∷ []) → Is AnswerR (d .answer) (answerVal (d .answer) ∷ [])
 seat-answer d v g = let f = LL.owed Sa.the-type Sa′.the-laws d (v ∷ []) g .1 .1 .0 in subst (Is AnswerR (d .answer)) (answer-tell (d .answer) _ f) f
+
+-- ---- an answer, with how many steps were made for it
+abbrev pub MadeR : RattleType
+MadeR = Ma.the-row
+
+abbrev pub madeVal : Made → Val
+madeVal = Ma′.lowered
+
+pub made-tell : Tells MadeR (Is MadeR) (λ m. madeVal m ∷ [])
+made-tell = Ma′.lowers .val-is
+
+module _ {M : Type 1} (𝓤 : URA M) (H : Heap 𝓤) (A : Atoms 𝓤) where
+  abbrev pub made-make : Makes 𝓤 H A MadeR (Is MadeR)
+  made-make = LL.makes Ma.the-type Ma′.the-plain 𝓤 H A
+
+  pub made-typed : Given 𝓤 H A → (m : Made) (v : Val) → Is MadeR m (v ∷ []) → T (hasTy Ma′.mir v) × WT v
+  made-typed W m v g = LL.lawful Ma.the-type Ma′.the-laws 𝓤 H A W .typed m (v ∷ []) g .0
+
+-- ---- what is kept of a run: its party, that party's record, and the answer with the steps
+abbrev pub StintR : RattleType
+StintR = St.the-row
+
+pub stint-tell : Tells StintR (Is StintR) (λ d. St′.lowered d ∷ [])
+stint-tell = St′.lowers .val-is
+
+pub stint-typed : {M : Type 1} (𝓤 : URA M) (H : Heap 𝓤) (A : Atoms 𝓤) → Given 𝓤 H A → (d : Stint) (v : Val) → Is StintR d (v ∷ []) → T (hasTy St′.mir v) × WT v
+stint-typed 𝓤 H A W d v g = LL.lawful St.the-type St′.the-laws 𝓤 H A W .typed d (v ∷ []) g .0
+
+pub stint-party : (d : Stint) (v : Val) → Is StintR d (v ∷ []) → d .party < 2 ^ 32
+stint-party d v g = LL.owed St.the-type St′.the-laws d (v ∷ []) g .0 .1
+
+pub stint-session : (d : Stint) (v : Val) → Is StintR d (v ∷ []) → Is R (d .session) (valsOf (d .session))
+stint-session d v g = let f = LL.owed St.the-type St′.the-laws d (v ∷ []) g .1 .0 in subst (Is R (d .session)) (tell (d .session) _ f) f
+
+pub stint-made : (d : Stint) (v : Val) → Is StintR d (v ∷ []) → Is MadeR (d .made) (madeVal (d .made) ∷ [])
+stint-made d v g = let f = LL.owed St.the-type St′.the-laws d (v ∷ []) g .1 .1 .0 in subst (Is MadeR (d .made)) (made-tell (d .made) _ f) f

@@ -1,4 +1,4 @@
--- The types of plain data that a thin function takes beside the store and the table, each with its laws: a u32, and an `Ask`.
+-- The types of plain data that a thin function takes beside the store and the table, each with its laws: a u32, an `Ask`, a `Go` and a `Wish`.
 use mir.Syntax.{Ty, w32, tyInt}
 use mir.Val.{vint}
 use denote.RattleType.{RattleType}
@@ -8,6 +8,10 @@ use denote.Struct.Laws as LL
 use Rattle.store.proofs.Thin.{PlainLaws}
 use Rattle.store.proofs.Ask as Ak
 use Rattle.store.proofs.Ask.Laws as Ak′
+use Rattle.store.proofs.Go as Go
+use Rattle.store.proofs.Go.Laws as Go′
+use Rattle.store.proofs.Wish as Wish
+use Rattle.store.proofs.Wish.Laws as Wish′
 
 abbrev pub Word : RattleType
 Word = u32
@@ -26,3 +30,15 @@ askTy = Ak′.mir
 
 abbrev pub askLaws : PlainLaws (AskR .Denot) askTy (AskR .written) (AskR .reaches) (AskR .own) (AskR .coded)
 askLaws = record { val = LL.val Ak.the-type Ak′.the-laws; tell = LL.tells Ak.the-type Ak′.the-laws; lawful = λ 𝓤 H A W. LL.lawful Ak.the-type Ak′.the-laws 𝓤 H A W; make = λ 𝓤 H A W. LL.makes Ak.the-type Ak′.the-plain 𝓤 H A }
+
+abbrev pub GoR : RattleType
+GoR = Go.the-row
+
+abbrev pub goLaws : PlainLaws (GoR .Denot) Go′.mir (GoR .written) (GoR .reaches) (GoR .own) (GoR .coded)
+goLaws = record { val = LL.val Go.the-type Go′.the-laws; tell = LL.tells Go.the-type Go′.the-laws; lawful = λ 𝓤 H A W. LL.lawful Go.the-type Go′.the-laws 𝓤 H A W; make = λ 𝓤 H A W. LL.makes Go.the-type Go′.the-plain 𝓤 H A }
+
+abbrev pub WishR : RattleType
+WishR = Wish.the-row
+
+abbrev pub wishLaws : PlainLaws (WishR .Denot) Wish′.mir (WishR .written) (WishR .reaches) (WishR .own) (WishR .coded)
+wishLaws = record { val = LL.val Wish.the-type Wish′.the-laws; tell = LL.tells Wish.the-type Wish′.the-laws; lawful = λ 𝓤 H A W. LL.lawful Wish.the-type Wish′.the-laws 𝓤 H A W; make = λ 𝓤 H A W. LL.makes Wish.the-type Wish′.the-plain 𝓤 H A }

@@ -12,9 +12,10 @@ use Rattle.serial.specs.Calls as C
 use Rattle.outcomes.specs.declared.Answer.{Answer}
 use Rattle.outcomes.specs.Said.{said}
 use Rattle.promises.specs.Demands.{Lending, words}
+use Rattle.promises.specs.Runs.{lending}
 use Rattle.promises.specs.Words.{Can, can, words-meet, formatted-known, formatted-new}
 use Rattle.store.specs.Lent.{Formatted, OnTable}
-use Rattle.store.specs.Turns.{lending, turn, Lends, formats, begins, puts, steps, commits, aborts, Sound-lent, sound-long, lends-return, functions, Lendings, own, own-run, own-told, accepted-format}
+use Rattle.store.specs.Turns.{turn, Lends, formats, begins, puts, steps, commits, aborts, Sound-lent, sound-long, lends-return, functions, Lendings, own, own-run, own-told, accepted-format}
 
 -- ---- the laws
 

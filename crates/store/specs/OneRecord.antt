@@ -41,21 +41,25 @@ apart-set p t u n h = ext-getD idle-session (set t p x) u (long ∙ sym n) (λ i
     at i (yes e) l = ap (session-at (set t p x)) e ∙ getD-set-same t p x idle-session (subst (λ k. k < length t) e l) ∙ sym (ap (session-at u) e)
     at i (no z) l = getD-set-other t p i x idle-session z ∙ sym (h i z)
 
--- The table that a call gives is the one it took with party p's record stored into it. Whether store and table are sound is told by the test.
+-- The table that was given back is the one that was taken with party p's record stored into it: where store and table are sound no other record differs, and
+-- else nothing does. Whether they are sound is told by the test.
+pub one-set : (p : ℕ) (s : List ℕ) (t : List Session) (s′ : List ℕ) (u : List Session) → Table t → (Sound s t → Sound s′ u × Apart p t u) → (¬ Sound s t → u ≡ t) → set t p (session-at u p) ≡ u
+one-set p s t s′ u T sound unsound = go (isSound s t) refl
+  where
+    not-sound : isSound s t ≡ false → Sound s t → ⊥
+    not-sound e A = true≢false {b = isSound s t} (sound-test s t T A) e
+
+    go : (b : Bool) → isSound s t ≡ b → set t p (session-at u p) ≡ u
+    go true e =
+        let h = sound (test-sound s t T e) in
+        apart-set p t u (table-many s′ u (h .0 .state) ∙ sym (T .seats)) (h .1)
+    go false e =
+        let same = unsound (not-sound e) in
+        ap (λ v. set t p (session-at v p)) same ∙ set-getD t p idle-session ∙ sym same
+
 module _ (c : C.Call) (p : ℕ) (s : List ℕ) (t : List Session) (a : C.Answer) (l s′ : List ℕ) (u : List Session) (T : Table t) (apart : Others c t u → Apart p t u) where
   pub one-record : Calls c s t a l s′ u → set t p (session-at u p) ≡ u
-  one-record k = go (isSound s t) refl
-    where
-      unsound : isSound s t ≡ false → Sound s t → ⊥
-      unsound e A = true≢false {b = isSound s t} (sound-test s t T A) e
-
-      go : (b : Bool) → isSound s t ≡ b → set t p (session-at u p) ≡ u
-      go true e =
-          let A = k .answers (test-sound s t T e) .0 in
-          apart-set p t u (table-many s′ u (A .sound .state) ∙ sym (T .seats)) (apart (A .others))
-      go false e =
-          let same = k .refuses (unsound e) .table-same in
-          ap (λ v. set t p (session-at v p)) same ∙ set-getD t p idle-session ∙ sym same
+  one-record k = one-set p s t s′ u T (λ S. let A = k .answers S .0 in (A .sound, apart (A .others))) (λ n. k .refuses n .table-same)
 
 -- A call keeps its promise where only its party's record is stored back.
 pub seat-kept : (c : C.Call) (p : ℕ) (s : List ℕ) (t : List Session) (a : Answer) (l s′ : List ℕ) (u : List Session) (r : Seat) → Table t → (Others c t u → Apart p t u) → r ≡ record { party = p; session = session-at u p; answer = a }

@@ -23,12 +23,10 @@ use Rattle.promises.specs.Relations.{stays, Calls, Formats, list-of}
 use Rattle.promises.specs.Demand1.{calls-not-1, format-not-1}
 use Rattle.promises.specs.Demands.{Lending, Returns, words}
 use Rattle.promises.specs.Promised.{calls-return, formats-return}
+use Rattle.promises.specs.Runs.{lending}
 use Rattle.promises.specs.Words.{formatted-calls}
 use Rattle.store.specs.declared.Ask.{Ask}
 use Rattle.store.specs.Lent.{Formatted, Begun, Put, Committed, Aborted, OnTable, SteppedOnTable}
-
-abbrev pub lending : List ℕ → List Session → Lending
-lending s t = record { store = s; table = t }
 
 -- A call, its answer as document 01 says it, and the words of the lent list when it returned.
 abbrev pub turn : C.Call → Answer → List ℕ → Turn
@@ -123,7 +121,7 @@ module _ {A : Type 0} where
   }
 
   -- A part left as it was leaves what the host has.
-  loan-same : {own part part′ own′ : List A} → part′ ≡ part → Loan own part part′ own′ → own′ ≡ own
+  pub loan-same : {own part part′ own′ : List A} → part′ ≡ part → Loan own part part′ own′ → own′ ≡ own
   loan-same {own} e L = L .left ∙ ap (λ z. take (length own) (drop (L .from) (L .before ++ z ++ L .behind))) e ∙ sym (L .lies)
 
 -- Refused by a number that ends no request: any but 11 and 12. For what was lent: 1 and 2, and 3 of a format.
@@ -143,7 +141,7 @@ quiet (C.step p l) n e t = ap (λ b. cond b (C.take-in-hand p none t) t) e
 quiet (C.commit p) n e t = refl
 quiet (C.abort p) n e t = refl
 
-away-quiet : (c : C.Call) (a : C.Answer) (l : List ℕ) → TurnedAway a → (t : Told) → C.tell-answer c a l t ≡ t
+pub away-quiet : (c : C.Call) (a : C.Answer) (l : List ℕ) → TurnedAway a → (t : Told) → C.tell-answer c a l t ≡ t
 away-quiet c C.ok l v t = absurd v
 away-quiet c C.more l v t = absurd v
 away-quiet c (C.wait p) l v t = absurd v
@@ -158,7 +156,7 @@ away-stays (C.wait p) v = absurd v
 away-stays (C.done ns) v = absurd v
 away-stays (C.refused n k) v = ap not v
 
-abbrev Same : Lending → Lending → Type 0
+abbrev pub Same : Lending → Lending → Type 0
 Same x y = (y .store ≡ x .store) × (y .table ≡ x .table)
 
 numbers-of : Session → List ℕ
@@ -194,7 +192,7 @@ same-lent : (x y : Lending) → Dec (Same x y)
 same-lent x y = both (List-discrete ℕ-discrete (y .store) (x .store)) (List-discrete same-session (y .table) (x .table))
 
 -- The same whether a fact holds or not.
-same-either : {x y : Lending} {D : Type 0} → (D → Same x y) → (¬ D → Same x y) → Same x y
+pub same-either : {x y : Lending} {D : Type 0} → (D → Same x y) → (¬ D → Same x y) → Same x y
 same-either {x} {y} {D} f g = go (same-lent x y)
   where
     go : Dec (Same x y) → Same x y
@@ -204,7 +202,7 @@ same-either {x} {y} {D} f g = go (same-lent x y)
 calls-stay : (c : C.Call) (x : Lending) (a : C.Answer) (l′ : List ℕ) (y : Lending) → TurnedAway a → Calls c (x .store) (x .table) a l′ (y .store) (y .table) → Same x y
 calls-stay c x a l′ y v P = same-either {D = Sound-lent x} (λ S. P .answers S .0 .still (away-stays a v)) (λ n. (P .refuses n .store-same, P .refuses n .table-same))
 
-away-same : {x y : Lending} {k : Turn} → TurnedAway (k .answer) → Lends x k y → Same x y
+pub away-same : {x y : Lending} {k : Turn} → TurnedAway (k .answer) → Lends x k y → Same x y
 away-same v (formats {x} {y} {m} {a} h) = same-either {D = length (x .table) ≡ parties} (λ n. h .0 n .refuses (away-stays (said a) v)) (λ z. (h .1 z .1, h .1 z .2))
 away-same v (begins {x} {y} {p} {a} h) = same-either {D = length (x .table) ≡ parties} (λ n. calls-stay (C.begin p) x (said a) [] y v (h .0 n)) (λ z. (h .1 z .1, h .1 z .2))
 away-same v (puts {x} {y} {k} {a} h) =

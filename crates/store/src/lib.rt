@@ -1,16 +1,21 @@
-// Store: the six calls over a lent store, a lent session table and, for step, a lent list.
+// Store: the six calls over a lent store, a lent session table and, for step, a lent list; and a run, a request and a batch, which are several calls at once.
 //
 // Each refuses a table that is not of 17 records (refusal 1), and then changes nothing. Else it loads the records, as the test of soundness reads them all,
 // and makes the call on them by value. Of the table that the call gives back begin, put, step, commit and abort store ONE record, their party's: the call
-// leaves the others as they were (specs/OneRecord). Format clears the table and stores all 17. Each promises what the call by value promises, over words,
-// table and list at entry and at exit (specs/Lent); so any list of calls after an accepted format keeps demand 3 (specs/Turns, specs/Demand3), has the holders
-// that its calls were granted (specs/Holding), and every list of calls has a run. Nothing is asked of the caller. It rests on tables for the lent table, on
-// calls for the calls by value, on seats for what is kept of them.
+// leaves the others as they were (specs/OneRecord), and so do a run and a request (specs/Stints). Format and a batch store all 17. Each promises what the call
+// by value promises, over words, table and list at entry and at exit (specs/Lent, specs/Listed, specs/Batched); so any list of calls after an accepted
+// format keeps demand 3 (specs/Turns, specs/Demand3), has the holders that its calls were granted (specs/Holding), and every list of calls has a run.
+// Nothing is asked of the caller. It rests on tables for the lent table, on calls for the calls by value, on seats for what is kept of them.
 ghost use mathlib.Core.Path.{_≡_};
 ghost use Rattle.store.specs.Lent.{Formatted, Begun, Put, Stepped, Committed, Aborted, OnTable, SteppedOnTable};
+ghost use Rattle.store.specs.Listed.{RanBy, AskedBy, ListedOnTable};
+ghost use Rattle.store.specs.Batched.{Batched, BatchedOnTable};
 ghost use Rattle.store.specs.OneRecord.{seated};
+ghost use Rattle.store.specs.Stints.{stinted};
 use outcomes::Answer;
+use outcomes::Made;
 use seats::Seat;
+use seats::Stint;
 use sessions::PARTIES;
 use sessions::Session;
 
@@ -21,6 +26,22 @@ pub struct Ask {
     pub entry: u32,
     pub first: u32,
     pub second: u32,
+}
+
+// Whose request goes on, and how many steps at most.
+pub struct Go {
+    pub party: u32,
+    pub most: u32,
+}
+
+// The arguments of a put, and how many steps at most.
+pub struct Wish {
+    pub party: u32,
+    pub code: u32,
+    pub entry: u32,
+    pub first: u32,
+    pub second: u32,
+    pub most: u32,
 }
 
 // ---- the calls by value, of whose table only the record of the call's party is kept
@@ -58,6 +79,30 @@ fn abort_by_value(store: &mut [u32], t: [Session; PARTIES], p: u32) -> Seat
 {
     let served = calls::abort(store, t, p);
     seats::seat_of(served, p)
+}
+
+fn run_by_value(store: &mut [u32], list: &mut [u32], t: [Session; PARTIES], k: Go) -> Stint
+    ensures { λ r. ⌜ RanBy (now (store .entry)) t (now (list .entry)) k (r .made .answer) (r .made .steps) (now (store .exit)) (stinted t r) (now (list .exit)) ⌝ }
+{
+    let ran = calls::run(store, list, t, k.party, k.most);
+    seats::stint_of(ran, k.party)
+}
+
+fn request_by_value(store: &mut [u32], list: &mut [u32], t: [Session; PARTIES], k: Wish) -> Stint
+    ensures { λ r. ⌜ AskedBy (now (store .entry)) t (now (list .entry)) k (r .made .answer) (r .made .steps) (now (store .exit)) (stinted t r) (now (list .exit)) ⌝ }
+{
+    let ran = calls::request(
+        store,
+        list,
+        t,
+        k.party,
+        k.code,
+        k.entry,
+        k.first,
+        k.second,
+        k.most,
+    );
+    seats::stint_of(ran, k.party)
 }
 
 // ---- the six calls
@@ -144,4 +189,54 @@ pub fn abort(store: &mut [u32], table: &mut [Session], p: u32) -> Answer
     let x = seat.session;
     tables::store_session(table, seat.party, x);
     seat.answer
+}
+
+// ---- several calls at once
+
+// Steps of the request that party k.party has in hand until one is not answered more: at least one, at most k.most. A locate's last step writes the list.
+pub fn run(store: &mut [u32], table: &mut [Session], list: &mut [u32], k: Go) -> Made
+    ensures { λ r. ⌜ ListedOnTable RanBy (now (store .entry)) (now (table .entry)) (now (list .entry)) k (r .answer) (r .steps) (now (store .exit)) (now (table .exit)) (now (list .exit)) ⌝ }
+{
+    if table.len() != PARTIES {
+        return seats::wrong_table_made();
+    }
+    let t = tables::load_all(table);
+    let stint = run_by_value(store, list, t, k);
+    let x = stint.session;
+    tables::store_session(table, stint.party, x);
+    stint.made
+}
+
+// A party's request, and if it is accepted a run.
+pub fn request(store: &mut [u32], table: &mut [Session], list: &mut [u32], k: Wish) -> Made
+    ensures { λ r. ⌜ ListedOnTable AskedBy (now (store .entry)) (now (table .entry)) (now (list .entry)) k (r .answer) (r .steps) (now (store .exit)) (now (table .exit)) (now (list .exit)) ⌝ }
+{
+    if table.len() != PARTIES {
+        return seats::wrong_table_made();
+    }
+    let t = tables::load_all(table);
+    let stint = request_by_value(store, list, t, k);
+    let x = stint.session;
+    tables::store_session(table, stint.party, x);
+    stint.made
+}
+
+// Asks, made one after another after one test; their answers go into the lent answers.
+pub fn batch(
+    store: &mut [u32],
+    table: &mut [Session],
+    list: &mut [u32],
+    asks: &[u32],
+    answers: &mut [u64],
+) -> Answer
+    ensures { λ r. ⌜ BatchedOnTable Batched (now (asks .entry)) (now (store .entry)) (now (table .entry)) (now (list .entry)) (now (answers .entry)) r (now (answers .exit)) (now (list .exit)) (now (store .exit)) (now (table .exit)) ⌝ }
+{
+    if table.len() != PARTIES {
+        return seats::wrong_table();
+    }
+    let t = tables::load_all(table);
+    let served = calls::batch(store, list, t, asks, answers);
+    let after = served.table;
+    tables::save_all(table, after);
+    served.answer
 }

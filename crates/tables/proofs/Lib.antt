@@ -1,4 +1,5 @@
 pub mod Again
 pub mod Callees
+pub mod Local
 pub mod Mixed
 pub mod Row

@@ -40,29 +40,20 @@ fn pick(t: [Session; PARTIES], i: usize) -> Session
     t[i]
 }
 
-fn put_at(t: [Session; PARTIES], i: usize, x: Session) -> [Session; PARTIES]
-    requires { ⌜ i < parties ⌝ }
-    ensures { λ r. ⌜ r ≡ set t i x ⌝ }
-{
-    let mut after = t;
-    after[i] = x;
-    after
-}
-
 // ---- the lent table
 
-// The 17 records of a lent table, by value.
+// The 17 records of a lent table, by value. Each is copied once.
 pub fn load_all(table: &[Session]) -> [Session; PARTIES]
     requires { ⌜ length (now table) ≡ parties ⌝ }
     ensures { λ r. ⌜ r ≡ now (table .entry) ⌝ }
 {
-    let mut t = no_table();
+    let mut loaded = no_table();
     let mut i: usize = 0;
     while i < PARTIES {
-        t = put_at(t, i, table[i]);
+        loaded[i] = table[i];
         i += 1;
     }
-    t
+    loaded
 }
 
 // The 17 records go into a lent table.

@@ -7,5 +7,6 @@ pub mod Last
 pub mod Blocked
 pub mod Taking
 pub mod Moves
+pub mod On
 pub mod Ready
 pub mod Runs

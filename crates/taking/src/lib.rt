@@ -6,7 +6,9 @@
 //
 // It promises that the words a step leaves, its party's session record, the answer and the list EQUAL definitions of specs/Taking. specs/Moves
 // says that this is the machine's step, and the list the machine's pairs, where the words hold a layout of a sound state; specs/Ready that
-// such words have what the code asks for. It rests on scans for the walks, on members for the locks, on finishing for the request's end.
+// such words have what the code asks for; specs/On that after a step below second the descriptor behind the one taken is next, so that whoever makes
+// the next step too need not walk there (next_taken, take_at). It rests on scans for the walks, on members for the locks, on finishing for the
+// request's end.
 ghost use mathlib.Core.Path.{_≡_};
 ghost use lib.ListN.{length};
 ghost use Rattle.members.specs.Members.{Holdable};
@@ -20,7 +22,7 @@ use outcomes::Moved;
 use sessions::Session;
 
 // The record of the descriptor that is next.
-fn next_taken(store: &[u32], m: usize, r: usize, x: Session) -> usize
+pub fn next_taken(store: &[u32], m: usize, r: usize, x: Session) -> usize
     requires { ⌜ CanFind (now store) m r x ⌝ }
     ensures { λ d. ⌜ d ≡ nextTaken (now (store .entry)) m r x ⌝ }
 {
@@ -132,7 +134,31 @@ fn free_step(
     last_step(store, list, m, r, d, p, x)
 }
 
-// The next step of a scan of party p, whose session record is x; r is how many records the store has.
+// The next step of a scan of party p, whose session record is x, for a caller who knows the record d that is next; r is how many records the
+// store has.
+pub fn take_at(
+    store: &mut [u32],
+    list: &mut [u32],
+    m: usize,
+    r: usize,
+    p: u32,
+    x: Session,
+    d: usize,
+) -> Moved
+    requires { ⌜ TakeReady (now store) m r p x × (d ≡ nextTaken (now store) m r x) ⌝ }
+    ensures { λ z. ⌜ (now (store .exit) ≡ takeStep (now (store .entry)) m r (length (now (list .entry))) p x .words) × (z ≡ moved (takeStep (now (store .entry)) m r (length (now (list .entry))) p x)) × (now (list .exit) ≡ over (takeWritten (now (store .entry)) m r (length (now (list .entry))) p x) (now (list .entry))) ⌝ }
+{
+    let b = in_way_of(store, m, d, p);
+    if b != 0 {
+        return Moved {
+            answer: Answer::Wait(b),
+            session: x,
+        };
+    }
+    free_step(store, list, m, r, d, p, x)
+}
+
+// The same for a caller who does not.
 pub fn take_step(
     store: &mut [u32],
     list: &mut [u32],
@@ -145,12 +171,5 @@ pub fn take_step(
     ensures { λ z. ⌜ (now (store .exit) ≡ takeStep (now (store .entry)) m r (length (now (list .entry))) p x .words) × (z ≡ moved (takeStep (now (store .entry)) m r (length (now (list .entry))) p x)) × (now (list .exit) ≡ over (takeWritten (now (store .entry)) m r (length (now (list .entry))) p x) (now (list .entry))) ⌝ }
 {
     let d = next_taken(store, m, r, x);
-    let b = in_way_of(store, m, d, p);
-    if b != 0 {
-        return Moved {
-            answer: Answer::Wait(b),
-            session: x,
-        };
-    }
-    free_step(store, list, m, r, d, p, x)
+    take_at(store, list, m, r, p, x, d)
 }

@@ -7,14 +7,14 @@ use Rattle.calls.proofs.abort.Tie as tie
 is-sound-requires : tie.Need-is-sound-requires
 is-sound-requires c κs = search needs
 
-abort-checked-requires : tie.Need-abort-checked-requires
-abort-checked-requires c κs = c .before .before .is-sound .ensures (table-of _ _ (c .before .before .before .before .before .good .1 .0)) .0 (c .before .if1 .taken)
+abort-requires : tie.Need-abort-requires
+abort-requires c κs = c .before .before .is-sound .ensures (table-of _ _ (c .before .before .before .before .before .good .1 .0)) .0 (c .before .if1 .taken)
 
 same-length : tie.Need-same-length
 same-length c = search needs
 
 returns : tie.Need-returns
-returns c = way-sound _ _ _ _ _ _ _ _ (c .before .before .before .before .before .is-sound .ensures (table-of _ _ (c .before .before .before .before .before .before .before .before .good .1 .0))) (c .before .before .before .before .if1 .taken) (λ A. c .before .before .abort-checked .ensures)
+returns c = way-sound _ _ _ _ _ _ _ _ (c .before .before .before .before .before .is-sound .ensures (table-of _ _ (c .before .before .before .before .before .before .before .before .good .1 .0))) (c .before .before .before .before .if1 .taken) (λ A. c .before .before .abort .ensures)
 
 same-length-2 : tie.Need-same-length-2
 same-length-2 c = search needs
@@ -27,7 +27,7 @@ abort-spec =
     tie.close
     (tie.spec
     is-sound-requires
-    abort-checked-requires
+    abort-requires
     same-length
     returns
     same-length-2

@@ -7,14 +7,14 @@ use Rattle.calls.proofs.put.Tie as tie
 is-sound-requires : tie.Need-is-sound-requires
 is-sound-requires c κs = search needs
 
-put-checked-requires : tie.Need-put-checked-requires
-put-checked-requires c κs = c .before .is-sound .ensures (table-of _ _ (c .before .before .before .good .1 .0)) .0 (c .if1 .taken)
+put-requires : tie.Need-put-requires
+put-requires c κs = c .before .is-sound .ensures (table-of _ _ (c .before .before .before .good .1 .0)) .0 (c .if1 .taken)
 
 returns : tie.Need-returns
-returns c = way-sound _ _ _ _ _ _ _ _ (c .before .before .is-sound .ensures (table-of _ _ (c .before .before .before .before .good .1 .0))) (c .before .if1 .taken) (λ A. c .put-checked .ensures)
+returns c = way-sound _ _ _ _ _ _ _ _ (c .before .before .is-sound .ensures (table-of _ _ (c .before .before .before .before .good .1 .0))) (c .before .if1 .taken) (λ A. c .put .ensures)
 
 returns-2 : tie.Need-returns-2
 returns-2 c = way-unsound _ _ _ _ (c .before .is-sound .ensures (table-of _ _ (c .before .before .before .good .1 .0))) (c .if1 .left)
 
 pub put-spec : {M : Type 1} → statement M
-put-spec = tie.close (tie.spec is-sound-requires put-checked-requires returns returns-2)
+put-spec = tie.close (tie.spec is-sound-requires put-requires returns returns-2)

@@ -7,8 +7,8 @@ use Rattle.calls.proofs.step.Tie as tie
 is-sound-requires : tie.Need-is-sound-requires
 is-sound-requires c κs = search needs
 
-step-checked-requires : tie.Need-step-checked-requires
-step-checked-requires c κs = c .before .before .before .is-sound .ensures (table-of _ _ (c .before .before .before .before .before .before .before .good .1 .1 .0)) .0 (c .before .before .if1 .taken)
+step-requires : tie.Need-step-requires
+step-requires c κs = c .before .before .before .is-sound .ensures (table-of _ _ (c .before .before .before .before .before .before .before .good .1 .1 .0)) .0 (c .before .before .if1 .taken)
 
 same-length : tie.Need-same-length
 same-length c = search needs
@@ -17,7 +17,7 @@ same-length-2 : tie.Need-same-length-2
 same-length-2 c = search needs
 
 returns : tie.Need-returns
-returns c = way-sound _ _ _ _ _ _ _ _ (c .before .before .before .before .before .before .before .before .is-sound .ensures (table-of _ _ (c .before .before .before .before .before .before .before .before .before .before .before .before .good .1 .1 .0))) (c .before .before .before .before .before .before .before .if1 .taken) (λ A. c .before .before .before .before .step-checked .ensures)
+returns c = way-sound _ _ _ _ _ _ _ _ (c .before .before .before .before .before .before .before .before .is-sound .ensures (table-of _ _ (c .before .before .before .before .before .before .before .before .before .before .before .before .good .1 .1 .0))) (c .before .before .before .before .before .before .before .if1 .taken) (λ A. c .before .before .before .before .step .ensures)
 
 same-length-3 : tie.Need-same-length-3
 same-length-3 c = search needs
@@ -30,7 +30,7 @@ step-spec =
     tie.close
     (tie.spec
     is-sound-requires
-    step-checked-requires
+    step-requires
     same-length
     same-length-2
     returns

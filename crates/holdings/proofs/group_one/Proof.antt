@@ -17,7 +17,7 @@ unfolding groupOne
 returns c = ended-as {b = false} (simp (sym (c .before .descriptor-ok .ensures) ∙ not-true _ (c .if1 .taken))) refl
 
 walk-lists-requires : tie.Need-walk-lists-requires
-walk-lists-requires c κs = let k = descriptor-in _ _ _ _ _ _ _ (sym (c .before .before .before .descriptor-ok .ensures) ∙ not-false _ (c .before .before .if1 .left)) in (c .before .before .before .before .before .before .before .before .before .pre .0, c .before .before .before .before .before .before .before .before .before .pre .1, c .before .before .before .before .before .before .before .before .before .pre .3, c .before .before .before .before .before .before .before .before .before .pre .4, k .0, k .1)
+walk-lists-requires c κs = let k = descriptor-in _ _ _ _ _ _ _ (sym (c .before .before .before .descriptor-ok .ensures) ∙ not-false _ (c .before .before .if1 .left)) in (c .before .before .before .before .before .before .before .before .before .pre .0, c .before .before .before .before .before .before .before .before .before .pre .1, c .before .before .before .before .before .before .before .before .before .pre .3, k .0, k .1)
 
 same-length : tie.Need-same-length
 same-length c = search needs

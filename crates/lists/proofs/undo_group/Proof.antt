@@ -1,6 +1,6 @@
 -- The proof of `undo_group`.
 use mathlib.Core.Path.{_≡_, refl}
-use Prim.Native.Nat.{_+_, _≤_}
+use Prim.Native.Nat.{_≤_}
 use native.Mathlib.Omega.{arith}
 use lib.ListN.{length}
 use borrow.Author.Tests.{not-true, not-false}
@@ -33,7 +33,7 @@ returns-2 : tie.Need-returns-2 Inv-loop μ-loop
 returns-2 c = undo-past (c .before .before .before .loop .inv .2) (c .before .before .loop-test .taken) (c .before .if1 .left) (c .if2 .taken)
 
 undo-one-requires : tie.Need-undo-one-requires Inv-loop μ-loop
-undo-one-requires c κs = let z = c .before .before .before .loop-test .taken in let h = c .before .if2 .left in (has-one (c .before .before .before .before .before .before .before .before .pre .0) (omega arith, h), search needs, c .before .before .before .before .before .before .before .before .pre .3)
+undo-one-requires c κs = let z = c .before .before .before .loop-test .taken in let h = c .before .if2 .left in (has-one (c .before .before .before .before .before .before .before .before .pre .0) (omega arith, h), search needs, c .before .before .before .before .before .before .before .before .pre .2)
 
 same-length-3 : tie.Need-same-length-3 Inv-loop μ-loop
 same-length-3 c = search needs
@@ -44,14 +44,8 @@ returns-3 c = undo-bad (c .before .before .before .before .before .before .befor
 add-link : tie.Need-add-link Inv-loop μ-loop
 add-link c = search needs
 
-mul-i : tie.Need-mul-i Inv-loop μ-loop
-mul-i c = search needs
-
-shared-slice-read-i : tie.Need-shared-slice-read-i Inv-loop μ-loop
-shared-slice-read-i c = search needs
-
-cast-i : tie.Need-cast-i Inv-loop μ-loop
-cast-i c = omega (arith, c .shared-slice-known3 .given (8194 + c .before .before .before .before .before .before .before .before .before .loop .i))
+filed-requires : tie.Need-filed-requires Inv-loop μ-loop
+filed-requires c κs = search needs
 
 sub-more : tie.Need-sub-more Inv-loop μ-loop
 sub-more c = search needs
@@ -60,7 +54,7 @@ loop-less : tie.Need-loop-less Inv-loop μ-loop
 loop-less c = search needs
 
 loop-again : tie.Need-loop-again Inv-loop μ-loop
-loop-again c = (search needs, omega arith, undo-more (c .before .before .before .before .before .before .before .before .before .loop .inv .2) (c .before .before .before .before .before .before .before .before .loop-test .taken) (c .before .before .before .before .before .before .before .if1 .left) (c .before .before .before .before .before .before .if2 .left) (c .before .before .before .before .undo-one .ensures) (not-false _ (c .before .if3 .left)))
+loop-again c = (search needs, omega arith, undo-more (c .before .before .before .before .before .before .before .before .before .loop .inv .2) (c .before .before .before .before .before .before .before .before .loop-test .taken) (c .before .before .before .before .before .before .before .if1 .left) (c .before .before .before .before .before .before .if2 .left) (c .before .before .before .before .undo-one .ensures) (not-false _ (c .before .if3 .left)) (c .filed .ensures))
 
 same-length-4 : tie.Need-same-length-4 Inv-loop μ-loop
 same-length-4 c = search needs
@@ -83,9 +77,7 @@ undo-group-spec =
     same-length-3
     returns-3
     add-link
-    mul-i
-    shared-slice-read-i
-    cast-i
+    filed-requires
     sub-more
     loop-less
     loop-again

@@ -1,6 +1,4 @@
 -- The proof of `walk_lists`.
-use Prim.Native.Nat.{_+_}
-use native.Mathlib.Omega.{arith}
 use borrow.Author.Tests.{not-true, not-false}
 use borrow.Author.Needs.{needs}
 use Rattle.lists.proofs.Turns.{lists-stop, lists-run}
@@ -28,14 +26,8 @@ returns c = lists-stop _ _ _ _ _ _ _ _ (c .before .before .before .before .befor
 add-head : tie.Need-add-head
 add-head c = search needs
 
-mul-undo : tie.Need-mul-undo
-mul-undo c = search needs
-
-shared-slice-read-undo : tie.Need-shared-slice-read-undo
-shared-slice-read-undo c = search needs
-
-cast-undo : tie.Need-cast-undo
-cast-undo c = omega (arith, c .shared-slice-known3 .given (4097 + c .before .before .before .before .before .before .before .before .before .before .before .before .before .before .before .args .d))
+filed-requires : tie.Need-filed-requires
+filed-requires c κs = search needs
 
 undo-group-requires : tie.Need-undo-group-requires
 undo-group-requires c κs = search needs
@@ -47,7 +39,7 @@ same-length-4 : tie.Need-same-length-4
 same-length-4 c = search needs
 
 returns-2 : tie.Need-returns-2
-returns-2 c = lists-run _ _ _ _ _ _ _ _ (c .before .before .before .before .before .before .before .before .before .before .before .before .before .before .descriptor-first .ensures) (c .before .before .before .before .before .before .before .before .before .before .before .walk-members .ensures) (not-false _ (c .before .before .before .before .before .if1 .left)) (c .before .before .undo-group .ensures)
+returns-2 c = lists-run _ _ _ _ _ _ _ _ (c .before .before .before .before .before .before .before .before .before .before .before .before .before .before .descriptor-first .ensures) (c .before .before .before .before .before .before .before .before .before .before .before .walk-members .ensures) (not-false _ (c .before .before .before .before .before .if1 .left)) (c .before .before .before .before .filed .ensures) (c .before .before .undo-group .ensures)
 
 pub walk-lists-spec : {M : Type 1} → statement M
 walk-lists-spec =
@@ -60,9 +52,7 @@ walk-lists-spec =
     same-length-2
     returns
     add-head
-    mul-undo
-    shared-slice-read-undo
-    cast-undo
+    filed-requires
     undo-group-requires
     same-length-3
     same-length-4

@@ -1,24 +1,21 @@
 -- The proof of `undos_then`.
-use borrow.Author.Tests.{not-true, not-false}
+use mathlib.Core.Path.{sym, _∙_}
 use borrow.Author.Needs.{needs}
-use Rattle.sound.proofs.Turns.{undos-bad, undos-go}
+use Rattle.sound.proofs.Turns.{undos-without}
 use Rattle.sound.proofs.undos_then.Statement.{statement}
 use Rattle.sound.proofs.undos_then.Tie as tie
 
-slice-aggregate-all-undos : tie.Need-slice-aggregate-all-undos
-slice-aggregate-all-undos c = search needs
+has-undos-requires : tie.Need-has-undos-requires
+has-undos-requires c κs = search needs
 
-all-undos-requires : tie.Need-all-undos-requires
-all-undos-requires c κs = search needs
-
-broken-requires : tie.Need-broken-requires
-broken-requires c κs = search needs
+chains-then-requires : tie.Need-chains-then-requires
+chains-then-requires c κs = search needs
 
 same-length : tie.Need-same-length
 same-length c = search needs
 
 returns : tie.Need-returns
-returns c = undos-bad _ _ _ _ _ _ _ _ _ _ (c .before .before .before .before .before .before .all-undos .ensures) (not-true _ (c .before .if1 .taken)) (c .broken .ensures)
+returns c = c .before .before .chains-then .ensures
 
 slice-aggregate-groups-then : tie.Need-slice-aggregate-groups-then
 slice-aggregate-groups-then c = search needs
@@ -30,15 +27,14 @@ same-length-2 : tie.Need-same-length-2
 same-length-2 c = search needs
 
 returns-2 : tie.Need-returns-2
-returns-2 c = undos-go _ _ _ _ _ _ _ _ _ _ (c .before .before .before .before .before .before .before .before .before .before .all-undos .ensures) (not-false _ (c .before .before .before .before .before .if1 .left)) (c .before .before .groups-then .ensures)
+returns-2 c = undos-without _ _ _ _ _ _ _ _ _ _ (sym (c .before .before .before .before .before .before .has-undos .ensures) ∙ c .before .before .before .before .before .if1 .left) (c .before .before .groups-then .ensures)
 
 pub undos-then-spec : {M : Type 1} → statement M
 undos-then-spec =
     tie.close
     (tie.spec
-    slice-aggregate-all-undos
-    all-undos-requires
-    broken-requires
+    has-undos-requires
+    chains-then-requires
     same-length
     returns
     slice-aggregate-groups-then

@@ -10,7 +10,7 @@ use Rattle.marks.specs.Trail.{Going, go-end, go-stop, go-more}
 use Rattle.marks.specs.Marks.{free-mark}
 use Rattle.words.specs.Store.{wordOf}
 use Rattle.sound.specs.Sound.{freeFrom, freeTurn}
-use Rattle.sound.proofs.Turns.{free-turned}
+use Rattle.sound.proofs.Turns.{free-turned, at-ahead}
 use Rattle.sound.proofs.walk_free.Statement.{statement}
 use Rattle.sound.proofs.walk_free.Tie as tie
 
@@ -33,23 +33,47 @@ same-length c = search needs
 returns : tie.Need-returns Inv-loop μ-loop
 returns c = go-stop (c .before .before .before .before .before .before .before .loop .inv .1) (c .before .before .before .before .before .before .loop-test .taken) (c .before .before .before .before .meet .ensures) (not-true _ (c .if1 .taken))
 
+add-ahead : tie.Need-add-ahead Inv-loop μ-loop
+add-ahead c = record { fits = omega (arith, c .before .before .before .before .meet .ensures .inside (not-false _ (c .if1 .left)), c .before .before .before .before .before .before .before .before .before .before .pre .1, c .before .before .before .before .before .before .before .before .before .before .good .1 .0 .0) }
+
 word-requires : tie.Need-word-requires Inv-loop μ-loop
 word-requires c κs = (has-one (c .before .before .before .before .before .before .before .before .before .before .pre .0) (c .before .before .before .before .meet .ensures .inside (not-false _ (c .if1 .left))), search needs)
 
 cast-i : tie.Need-cast-i Inv-loop μ-loop
 cast-i c = search needs
 
-loop-less : tie.Need-loop-less Inv-loop μ-loop
-loop-less c = omega (arith, c .before .before .before .before .before .meet .ensures .one (not-false _ (c .before .if1 .left)))
-
-loop-again : tie.Need-loop-again Inv-loop μ-loop
-loop-again c = (search needs, go-more (c .before .before .before .before .before .before .before .before .loop .inv .1) (c .before .before .before .before .before .before .before .loop-test .taken) (c .before .before .before .before .before .meet .ensures) (not-false _ (c .before .if1 .left)) (free-turned _ _ _) (c .word .ensures))
+meet-requires-2 : tie.Need-meet-requires-2 Inv-loop μ-loop
+meet-requires-2 c κs = search needs
 
 same-length-2 : tie.Need-same-length-2 Inv-loop μ-loop
 same-length-2 c = search needs
 
 returns-2 : tie.Need-returns-2 Inv-loop μ-loop
-returns-2 c = go-end (c .before .loop .inv .1) (c .loop-test .left)
+returns-2 c = go-stop (at-ahead (c .before .before .before .before .before .before .if2 .taken) (go-more (c .before .before .before .before .before .before .before .before .before .before .before .before .before .before .before .loop .inv .1) (c .before .before .before .before .before .before .before .before .before .before .before .before .before .before .loop-test .taken) (c .before .before .before .before .before .before .before .before .before .before .before .before .meet .ensures) (not-false _ (c .before .before .before .before .before .before .before .before .if1 .left)) (free-turned _ _ _) (c .before .before .before .before .before .before .before .word .ensures))) (λ e. absurd (omega (arith, e))) (c .before .before .before .before .meet2 .ensures) (not-true _ (c .if3 .taken))
+
+word-requires-2 : tie.Need-word-requires-2 Inv-loop μ-loop
+word-requires-2 c κs = (has-one (c .before .before .before .before .before .before .before .before .before .before .before .before .before .before .before .before .before .before .pre .0) (c .before .before .before .before .meet2 .ensures .inside (not-false _ (c .if3 .left))), search needs)
+
+cast-i-2 : tie.Need-cast-i-2 Inv-loop μ-loop
+cast-i-2 c = search needs
+
+loop-less : tie.Need-loop-less Inv-loop μ-loop
+loop-less c = omega (arith, c .before .before .before .before .before .meet2 .ensures .one (not-false _ (c .before .if3 .left)), c .before .before .before .before .before .before .before .before .before .before .before .before .before .meet .ensures .one (not-false _ (c .before .before .before .before .before .before .before .before .before .if1 .left)))
+
+loop-again : tie.Need-loop-again Inv-loop μ-loop
+loop-again c = (search needs, go-more (at-ahead (c .before .before .before .before .before .before .before .if2 .taken) (go-more (c .before .before .before .before .before .before .before .before .before .before .before .before .before .before .before .before .loop .inv .1) (c .before .before .before .before .before .before .before .before .before .before .before .before .before .before .before .loop-test .taken) (c .before .before .before .before .before .before .before .before .before .before .before .before .before .meet .ensures) (not-false _ (c .before .before .before .before .before .before .before .before .before .if1 .left)) (free-turned _ _ _) (c .before .before .before .before .before .before .before .before .word .ensures))) (λ e. absurd (omega (arith, e))) (c .before .before .before .before .before .meet2 .ensures) (not-false _ (c .before .if3 .left)) (free-turned _ _ _) (c .word2 .ensures))
+
+loop-less-2 : tie.Need-loop-less-2 Inv-loop μ-loop
+loop-less-2 c = omega (arith, c .before .before .before .before .before .before .meet .ensures .one (not-false _ (c .before .before .if1 .left)))
+
+loop-again-2 : tie.Need-loop-again-2 Inv-loop μ-loop
+loop-again-2 c = (search needs, go-more (c .before .before .before .before .before .before .before .before .before .loop .inv .1) (c .before .before .before .before .before .before .before .before .loop-test .taken) (c .before .before .before .before .before .before .meet .ensures) (not-false _ (c .before .before .if1 .left)) (free-turned _ _ _) (c .before .word .ensures))
+
+same-length-3 : tie.Need-same-length-3 Inv-loop μ-loop
+same-length-3 c = search needs
+
+returns-3 : tie.Need-returns-3 Inv-loop μ-loop
+returns-3 c = go-end (c .before .loop .inv .1) (c .loop-test .left)
 
 pub walk-free-spec : {M : Type 1} → statement M
 walk-free-spec =
@@ -61,9 +85,17 @@ walk-free-spec =
     meet-requires
     same-length
     returns
+    add-ahead
     word-requires
     cast-i
+    meet-requires-2
+    same-length-2
+    returns-2
+    word-requires-2
+    cast-i-2
     loop-less
     loop-again
-    same-length-2
-    returns-2)
+    loop-less-2
+    loop-again-2
+    same-length-3
+    returns-3)

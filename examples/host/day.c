@@ -1,0 +1,143 @@
+// Whole sessions in one call: a desk's day, a planner that looks at it, and a late note that waits for the
+// planner.
+//
+// A desk's day is one list of asks: begin, a write and an insert for each of 24 stretches, commit. The
+// planner asks for begin and locate in one call, and holds what it found while its user decides. A second
+// desk's insert into that day then waits: its batch ends there, with the request in hand. The host lets the
+// planner commit and makes the rest of the asks, the first of them now a run of what is in hand (host_session
+// in store_host.c).
+//
+// Usage: day. What it prints is the same in every run.
+#include "store_host.h"
+
+#include <stdio.h>
+#include <stdlib.h>
+
+enum { ENTRIES = 32, STRETCHES = 24, DRIVER = 2, DAY = 3, HOUR = 60 };
+enum { DESK = 1, LATE_DESK = 2, PLANNER = 7 };
+
+// A day that is typed in hour by hour, its key and its value; a late note's minute lies between two of them.
+static uint32_t hour_key(uint32_t hour)
+{
+    return key_of(DRIVER, DAY * DAY_MINUTES + hour * HOUR);
+}
+
+static uint32_t hour_value(uint32_t hour)
+{
+    return (hour % 4) * 2048 + HOUR;
+}
+
+enum { LATE_ENTRY = STRETCHES + 1, LATE_MINUTE = 5 * HOUR + 30 };
+
+// An answer that this program has no answer to is a fault of its own.
+static uint32_t want(uint32_t word, struct entry_store_answer a, const char *what)
+{
+    if (a.word != word) {
+        printf("%s: %s, %s\n", what, entry_store_word_text(a.word), entry_store_refusal_text(a.number));
+        exit(1);
+    }
+    return a.value;
+}
+
+static uint32_t steps_of(const uint64_t *answers, size_t count)
+{
+    uint32_t steps = 0;
+    for (size_t k = 0; k < count; k++) {
+        steps += entry_store_steps_of(answers[k]);
+    }
+    return steps;
+}
+
+// ---- a stretch, and a session of stretches
+
+static void ask_stretch(struct entry_store_ask *asks, uint32_t party, uint32_t entry, uint32_t key,
+                        uint32_t value)
+{
+    struct request write = {ENTRY_STORE_WRITE, entry, value, 0}, insert = {ENTRY_STORE_INSERT, entry, key, 0};
+    asks[0] = ask_request(party, write);
+    asks[1] = ask_request(party, insert);
+}
+
+// The asks between a begin and a commit are there already.
+static void make_session(struct store_host *h, struct entry_store_ask *asks, size_t count,
+                         wait_handler on_wait)
+{
+    uint64_t answers[2 * STRETCHES + 2];
+    size_t made;
+    asks[0] = ask_call(ENTRY_STORE_ASK_BEGIN, asks[1].party);
+    asks[count - 1] = ask_call(ENTRY_STORE_ASK_COMMIT, asks[1].party);
+    want(ENTRY_STORE_OK, host_session(h, asks, count, answers, &made, on_wait, h), "a desk's session");
+    printf("desk %u    %zu asks are made and committed; %u records are free\n", asks[1].party, made,
+           host_free(h));
+}
+
+static int no_waiting(void *context, uint32_t party, uint32_t holder)
+{
+    (void)context;
+    (void)party;
+    (void)holder;
+    return 0;
+}
+
+static void desk_day(struct store_host *h)
+{
+    struct entry_store_ask asks[2 * STRETCHES + 2];
+    for (uint32_t k = 0; k < STRETCHES; k++) {
+        ask_stretch(asks + 1 + 2 * k, DESK, k + 1, hour_key(k), hour_value(k));
+    }
+    make_session(h, asks, 2 * STRETCHES + 2, no_waiting);
+}
+
+// ---- the planner
+
+// Begin and locate in one call. The session stays open.
+static void planner_looks(struct store_host *h)
+{
+    struct request locate = {ENTRY_STORE_LOCATE, 0, hour_key(0), hour_key(STRETCHES) - 1};
+    struct entry_store_ask asks[] = {ask_call(ENTRY_STORE_ASK_BEGIN, PLANNER), ask_request(PLANNER, locate)};
+    struct pair_list list = {NULL, 0};
+    uint64_t answers[2];
+    if (!list_grow(&list, ENTRIES)) {
+        printf("no memory\n");
+        exit(1);
+    }
+    uint32_t made = want(ENTRY_STORE_DONE, host_batch(h, asks, 2, answers, &list), "the planner's batch");
+    uint32_t found = want(ENTRY_STORE_DONE, entry_store_unpack(answers[made - 1]), "the planner's locate");
+    printf("planner   finds %u stretches from %u to %u, in one call of %u steps\n", found, list.words[0],
+           list.words[2 * found - 2], steps_of(answers, made));
+    list_free(&list);
+}
+
+// The planner's user decides, so that the desk can go on.
+static int planner_commits(void *context, uint32_t party, uint32_t holder)
+{
+    struct store_host *h = context;
+    uint32_t key = hour_key(0) + LATE_MINUTE;
+    printf("desk %u    waits for session %u: minute %u is empty, and has holders %x\n", party, holder, key,
+           host_holders(h, key));
+    want(ENTRY_STORE_OK, host_commit(h, PLANNER), "the planner's commit");
+    printf("planner   commits; the minute's holders are %x\n", host_holders(h, key));
+    return 1;
+}
+
+static void late_note(struct store_host *h)
+{
+    struct entry_store_ask asks[4];
+    ask_stretch(asks + 1, LATE_DESK, LATE_ENTRY, hour_key(0) + LATE_MINUTE, 2 * 2048 + 30);
+    make_session(h, asks, 4, planner_commits);
+}
+
+int main(void)
+{
+    struct store_host h;
+    if (!host_open(&h, ENTRIES, records_wanted(ENTRIES, ENTRIES, 2))) {
+        printf("no store\n");
+        return 1;
+    }
+    printf("A store of %d entries; %u records are free.\n", ENTRIES, host_free(&h));
+    desk_day(&h);
+    planner_looks(&h);
+    late_note(&h);
+    host_close(&h);
+    return 0;
+}
