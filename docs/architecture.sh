@@ -24,7 +24,7 @@ draw() {
         box("traces", 614, 62, 160, 96, "beside", "traces", "scripts played, compared", "scripts tracing trace vectors")
         box("compare", 814, 62, 160, 96, "beside", "compare", "store and second model", "schedules books choices turns compare")
 
-        box("machine", 104, 198, 160, 96, "theory", "theory: machine", "each call, each step", "machine")
+        box("machine", 104, 198, 160, 96, "theory", "theory: machine", "each call, each step", "machine cases")
         box("calls", 304, 198, 270, 96, "store", "promises and calls", "six calls on words, demands 1 to 3", \
             "refusals promises accepted stepping serving running asking batches calls looking")
         box("second", 814, 198, 160, 96, "beside", "second model", "plain arrays", "naive_tree naive_steps naive")

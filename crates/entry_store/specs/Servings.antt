@@ -10,10 +10,16 @@ use Rattle.sessions.specs.declared.Session.{Session}
 use Rattle.sessions.specs.Sessions.{parties}
 use Rattle.serial.specs.Calls.{Turn, nothing, told, Run, stop, next, Demand-3}
 use Rattle.serial.specs.Calls as C
+use Rattle.serial.specs.Locks.{Kind, Mode}
+use Rattle.machine.specs.State.{fresh}
+use Rattle.machine.specs.Calls.{records-for}
+use Rattle.machine.specs.Ledger.{no-locks, ledger-after}
+use Rattle.machine.specs.Held.{calls-on}
 use Rattle.outcomes.specs.declared.Answer.{Answer}
 use Rattle.outcomes.specs.declared.Answer.the-variants.{Refused}
 use Rattle.outcomes.specs.Said.{said}
 use Rattle.promises.specs.Demands.{Lending, words}
+use Rattle.promises.specs.Holding.{holders-in}
 use Rattle.promises.specs.Runs.{calling, put-turn, step-turn, steps}
 use Rattle.promises.specs.Runs as R
 use Rattle.asking.specs.declared.Asking.{Asking}
@@ -27,7 +33,7 @@ use Rattle.store.specs.Lent.{Formatted}
 use Rattle.store.specs.Listed.{Listed, RanBy, AskedBy}
 use Rattle.store.specs.Batched as SB
 use Rattle.store.specs.Turns.{Loan, TurnedAway}
-use Rattle.store.specs.Servings.{SeenOf, Returned, LoanRefused, Away, Returneds, returneds-demand-3}
+use Rattle.store.specs.Servings.{SeenOf, Returned, LoanRefused, Away, Returneds, returneds-demand-3, returneds-holders}
 use Rattle.store.specs.Servings as L
 use Rattle.packing.specs.Packed.{unpacked, PacksMade, made-steps, made-answer}
 use Rattle.entry_store.specs.Brief.{brief, calls-brief}
@@ -172,3 +178,9 @@ givings (wrong d a b r) = L.wrong (returned-away d) a b (givings r)
 pub givings-demand-3 : (m : ℕ) (x x′ : Lending) (h : Told Formatted (x .store) (x .table) m 0 (x′ .store) (x′ .table)) → (js : List Turn) (y : Lending) → Givings x′ js y
     → Demand-3 words (told nothing js) y
 givings-demand-3 m x x′ h js y r = returneds-demand-3 m (h .answer) x x′ (h .does) (format-ok m x x′ h) js y (givings r)
+
+-- And the holders read from the store are those that the ordinary calls were granted which it is.
+pub givings-holders : (m : ℕ) (x x′ : Lending) (h : Told Formatted (x .store) (x .table) m 0 (x′ .store) (x′ .table)) → (js : List Turn) (y : Lending) → Givings x′ js y
+    → (ks : List Turn) × ((t : C.Told) → told t ks ≡ told t js)
+    × ((k : Kind) (i : Mode) (q z : ℕ) → holders-in y k i q z ≡ ledger-after no-locks (calls-on (length (x .store)) ks) (fresh m (records-for m (length (x .store)))) k i q z)
+givings-holders m x x′ h js y r = returneds-holders m (h .answer) x x′ (h .does) (format-ok m x x′ h) js y (givings r)

@@ -83,7 +83,5 @@ pub mod Needs
 pub mod Demand
 pub mod Told
 pub mod Demand3
+
 -- Worked cases.
-pub mod Rows
-pub mod Cases
-pub mod Directed

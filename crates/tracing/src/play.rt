@@ -1,5 +1,4 @@
 // Play: the calls that a command makes.
-use outcomes::Answer;
 use outcomes::Served;
 use scripts::lines::Line;
 use scripts::lines::NUMBERS;
@@ -10,36 +9,15 @@ use sessions::Session;
 // More steps than any request of a store of 700 records takes: it goes down the tree twice at most, and takes each descriptor once.
 const STEPS: u32 = 4097;
 
-fn goes_on(s: Served) -> bool {
-    let answer = s.answer;
-    match answer {
-        Answer::More => {
-            return true;
-        }
-        _ => {
-            return false;
-        }
-    }
-}
-
-// One step of party p, over the table that the step before left.
-fn step(store: &mut [u32], list: &mut [u32], s: Served, p: u32) -> Served {
-    let table = s.table;
-    calls::step(store, list, table, p)
-}
-
-// Steps of party p until the answer is not more.
+// Steps of party p until the answer is not more: a run.
 fn go(store: &mut [u32], list: &mut [u32], t: [Session; PARTIES], p: u32) -> Served {
-    let mut s = Served {
-        table: t,
-        answer: Answer::More,
-    };
-    let mut left = STEPS;
-    while left > 0 && goes_on(s) {
-        s = step(store, list, s, p);
-        left -= 1;
+    let ran = calls::run(store, list, t, p, STEPS);
+    let table = ran.table;
+    let answer = ran.answer;
+    Served {
+        table: table,
+        answer: answer,
     }
-    s
 }
 
 // The request of a line, put by party p. Its numbers after the party are entry and first; of a locate first and second; of a tidy first.

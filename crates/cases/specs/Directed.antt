@@ -6,10 +6,10 @@ use mathlib.Core.Option.{some}
 use Prim.Native.Nat.{ℕ, zero, suc, _+_, _-_, _*_}
 use Prim.Native.String.{String}
 use lib.ListN.{replicate}
 use Rattle.machine.specs.Tree.{Node}
 use Rattle.machine.specs.State.{State, at, top, set-hand}
 use Rattle.machine.specs.Calls.{format, begin, put, step}
-use Rattle.machine.specs.Rows.{Told, ok, more, wait, waits, done, found, tidied, refused, short, Line, does, goes, _⇒_, puts, b, r, w, i, d, l, t, s, g, c, a, by, low, over, tens, planted, well, free, records, entry, group, gone, tree, Start, formats, from, Row, row, result, expected}
+use Rattle.cases.specs.Rows.{Told, ok, more, wait, waits, done, found, tidied, refused, short, Line, does, goes, _⇒_, puts, b, r, w, i, d, l, t, s, g, c, a, by, low, over, tens, planted, well, free, records, entry, group, gone, tree, Start, formats, from, Row, row, result, expected}
 
 -- ---- starting states, all with 3 entries; n records are free
 
