@@ -9,7 +9,7 @@ ghost use lib.ListN.{length};
 ghost use Rattle.asking.specs.Asks.{asking, asking-at};
 
 // The words of an ask.
-pub const WORDS: usize = 7;
+const WORDS: usize = 7;
 
 pub enum Asking {
     Begin(u32),

@@ -17,7 +17,6 @@ ghost use Rattle.promises.specs.Runs.{Requests};
 ghost use Rattle.batches.specs.Batches.{Asks, code-of, pairs-of, used, goes-on, is-step, Fits, MadeAll};
 ghost use Rattle.batches.specs.Making.{Turned, Ready, behind};
 use asking::Asking;
-use asking::WORDS;
 use outcomes::Answer;
 use outcomes::Made;
 use outcomes::Ran;
