@@ -25,8 +25,8 @@ draw() {
         box("compare", 814, 62, 160, 96, "beside", "compare", "store and second model", "schedules books choices turns compare")
 
         box("machine", 104, 198, 160, 96, "theory", "theory: machine", "each call, each step", "machine cases")
-        box("calls", 304, 198, 270, 96, "store", "promises and calls", "six calls on words, demands 1 to 3", \
-            "refusals promises accepted stepping serving running asking batches calls looking")
+        box("calls", 304, 192, 270, 114, "store", "promises and calls, a card\047s day", "the calls on words, demands 1 to 3", \
+            "refusals promises accepted stepping serving running asking batches calls looking card_days day_model day_calls")
         box("second", 814, 198, 160, 96, "beside", "second model", "plain arrays", "naive_tree naive_steps naive")
 
         box("meaning", 104, 334, 160, 116, "theory", "what words mean", "Sound, Holds, Becomes", "meaning layout")
@@ -47,7 +47,7 @@ draw() {
 
         #     from, to, the points of the line
         arrow("lent", "serial", "304,110 264,110")
-        arrow("lent", "calls", "439,158 439,198")
+        arrow("lent", "calls", "439,158 439,192")
         arrow("traces", "calls", "694,158 694,224 574,224")
         arrow("compare", "calls", "814,130 794,130 794,246 574,246")
         arrow("compare", "second", "894,158 894,198")
@@ -55,7 +55,7 @@ draw() {
         arrow("machine", "serial", "184,198 184,158")
         arrow("machine", "words", "104,246 94,246 94,781 304,781")
         arrow("calls", "machine", "304,246 264,246")
-        arrow("calls", "rows", "439,294 439,334")
+        arrow("calls", "rows", "439,306 439,334")
         arrow("calls", "soundness", "574,268 694,268 694,334")
         arrow("meaning", "machine", "184,334 184,294")
         arrow("meaning", "records", "184,450 184,683 304,683")

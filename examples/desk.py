@@ -42,7 +42,7 @@ requests = [(REQUEST, DESK, code, entry + 1, first) for entry, (minute, length, 
 print(f"desk: {sum(batch((BEGIN, DESK), *requests, (COMMIT, DESK)))} of {len(TYPED_IN)} stretches are new")
 found = batch((BEGIN, PLANNER), (REQUEST, PLANNER, LOCATE, 0, DAY, DAY + 1439))[1]
 values = batch(*[(REQUEST, PLANNER, READ, pairs[2 * k + 1]) for k in range(found)], (COMMIT, PLANNER))
-busy = [(pairs[2 * k] - DAY, values[k] % 2048) for k in range(found) if values[k] // 2048 != REST] + [(1440, 0)]
+busy = [(pairs[2 * k] - DAY, values[k] % 2048) for k in range(found) if values[k] // 2048 % 4 != REST] + [(1440, 0)]
 start, longest, rest = 0, 0, 0
 for minute, length in busy:
     if minute - start > longest:

@@ -4,8 +4,9 @@
  * A store holds entries 1 to M, each with a value of one word (0: no value), and groups of entries by key. Up to 16
  * sessions (parties 1 to 16) read and change it under long locks, and a housekeeper (party 0) tidies it. A session
  * begins, puts one request after another, makes steps until each is done, and commits or aborts. A whole request may be
- * one call (entry_store_request), and so may a whole session (entry_store_batch). No call blocks, allocates or keeps a
- * pointer: all memory is the caller's.
+ * one call (entry_store_request), and so may a whole session (entry_store_batch). A day of a driver's card can be read
+ * from its bytes (entry_store_day) and written out again. No call blocks, allocates or keeps a pointer: all memory is
+ * the caller's.
  *
  * The rules are in docs/RULES.md; "Rules, section 5" below is a section of it. docs/HOST.md is for whoever writes the
  * program around the store, docs/STORE.md has the store's words, and examples/hello.c is a whole program.
@@ -14,8 +15,8 @@
  * and any numbers; the compiler's back end is trusted. They take as given what no test can tell, and the caller
  * answers for it at every call (Rules, section 12):
  *   - a pointer is not null and is aligned for its type, also where the length beside it is 0;
- *   - a length counts elements, not bytes: words of a store or list, records of a table; so many elements are there;
- *   - what one call is lent (store, table, list, asks, answers) does not overlap, and no other thread touches it
+ *   - a length counts elements: words of a store or list, records of a table, bytes of a day; so many are there;
+ *   - what one call is lent (store, table, list, asks, answers, bytes) does not overlap, and no other thread touches it
  *     during the call.
  * A call takes some 60 KiB of stack: leave it 128.
  *
@@ -36,9 +37,9 @@ extern "C" {
 
 /* Of this header and the archive beside it. */
 #define ENTRY_STORE_VERSION_MAJOR 0
-#define ENTRY_STORE_VERSION_MINOR 2
+#define ENTRY_STORE_VERSION_MINOR 3
 #define ENTRY_STORE_VERSION_PATCH 0
-#define ENTRY_STORE_VERSION "0.2.0"
+#define ENTRY_STORE_VERSION "0.3.0"
 
 /* ---- sizes: Rules, section 3 */
 
@@ -81,6 +82,13 @@ static inline size_t entry_store_words(uint32_t m, uint32_t r)
 #define ENTRY_STORE_MIN_KEY UINT32_C(1)
 #define ENTRY_STORE_MAX_KEY UINT32_C(4294967294)
 
+/* Of a card's day: the minutes of a day, which are the most stretches too; the keys of a driver, the last driver and
+ * the last minute in which a day may start (the first ones are 1 and 0). */
+#define ENTRY_STORE_DAY_MINUTES 1440
+#define ENTRY_STORE_DRIVER_KEYS 1048576
+#define ENTRY_STORE_MAX_DRIVER 4094
+#define ENTRY_STORE_MAX_DAY_START (ENTRY_STORE_DRIVER_KEYS - ENTRY_STORE_DAY_MINUTES)
+
 /* ---- the session table: Rules, section 3 */
 
 /* Party p's record is table[p]. A caller reads it at will, and lends it back as it was left: a table that is not sound
@@ -116,6 +124,7 @@ typedef char entry_store_session_has_its_words
  *                   from the others'
  *   bits 50 to 63   run, request, and each answer that a batch writes: how many steps were made for it; 0 in all
  *                   other answers
+ * but that entry_store_day has its place in bits 48 to 63, and neither of these two.
  *
  *   word       value                                   number
  *   ok         0                                       0
@@ -124,15 +133,17 @@ typedef char entry_store_session_has_its_words
  *   done       the request's answer                    0
  *   done       a tidy's key, 0 for none                1 if its descriptor was removed, else 0
  *   done       batch: how many asks were made; free,   0
- *              holders: what is asked for
+ *              holders: what is asked for; day: how
+ *              many stretches; day_bytes: how many bytes
  *   refused    the count at 12, else 0                 the refusal's number
  */
 enum entry_store_word {
-    ENTRY_STORE_OK = 0,     /* format, begin, put, commit, abort: accepted */
-    ENTRY_STORE_MORE = 1,   /* step: the request moved, and another step is due */
-    ENTRY_STORE_WAIT = 2,   /* step: a party's lock is in the way; nothing changed; step again once that party has
-                               moved on or ended */
-    ENTRY_STORE_DONE = 3,   /* step: the request is finished and no longer in hand; batch, free, holders: the answer */
+    ENTRY_STORE_OK = 0,     /* format, begin, put, commit, abort: accepted; day: the call was an accepted put */
+    ENTRY_STORE_MORE = 1,   /* step: the request moved, and another step is due; day: another call is due */
+    ENTRY_STORE_WAIT = 2,   /* step, day: a party's lock is in the way; nothing changed; step or call again once that
+                               party has moved on or ended */
+    ENTRY_STORE_DONE = 3,   /* step: the request is finished and no longer in hand; day: all of the day is; batch, free,
+                               holders, day_bytes: the answer */
     ENTRY_STORE_REFUSED = 4 /* any call: see enum entry_store_refusal */
 };
 
@@ -157,16 +168,22 @@ static inline uint32_t entry_store_word_of(uint64_t answer)
     return (uint32_t)(answer >> 40 & UINT64_C(0xff));
 }
 
-/* How many numbers the answer has: 0, 1 or 2. */
+/* How many numbers the answer has: 0, 1 or 2. Not of a day's answer. */
 static inline uint32_t entry_store_count_of(uint64_t answer)
 {
     return (uint32_t)(answer >> 48 & UINT64_C(0x3));
 }
 
-/* How many steps a run, a request or an ask of a batch made, 0 to ENTRY_STORE_MOST_STEPS. */
+/* How many steps a run, a request or an ask of a batch made, 0 to ENTRY_STORE_MOST_STEPS. Not of a day's answer. */
 static inline uint32_t entry_store_steps_of(uint64_t answer)
 {
     return (uint32_t)(answer >> 50);
+}
+
+/* Of a day's answer alone: the place that the next call of this day is handed, 0 at a refusal, which has none. */
+static inline uint32_t entry_store_place_of(uint64_t answer)
+{
+    return (uint32_t)(answer >> 48);
 }
 
 static inline struct entry_store_answer entry_store_unpack(uint64_t answer)
@@ -183,7 +200,8 @@ static inline struct entry_store_answer entry_store_unpack(uint64_t answer)
 /*
  * A refusal changes no word of store, table or list, but that 11 and 12 also end the request in hand, its latch and its
  * pins; long locks of earlier steps stay. Where more than one applies the first in the order 1, 3 or 2, 4, 5, 7, 6, 8,
- * 9, 10 is answered; of a batch as a whole, 1, 2, 102. What a run, a request or a batch made before stays.
+ * 9, 10 is answered; of a day 1, 2, 4, 5, 6, 13, 14, 8, 9; of a batch as a whole 1, 2, 102. What a run, a request, a
+ * batch or the calls of a day made before stays.
  */
 enum entry_store_refusal {
     /* The host program causes these: a fault of the caller's code or of its memory. */
@@ -196,27 +214,34 @@ enum entry_store_refusal {
 
     /* The session's user causes these: answer them to that user. */
     ENTRY_STORE_PARTY = 4,   /* party above ENTRY_STORE_SESSIONS; or 0 in begin, commit or abort */
-    ENTRY_STORE_BEGUN = 5,   /* begin of a begun session: commit or abort it first; put, step, commit or abort of one
-                                not begun: begin it first */
-    ENTRY_STORE_CODE = 6,    /* put: code outside 1 to 6, 6 from a session, or 1 to 5 from party 0 */
+    ENTRY_STORE_BEGUN = 5,   /* begin of a begun session: commit or abort it first; put, step, day, commit or abort of
+                                one not begun: begin it first */
+    ENTRY_STORE_CODE = 6,    /* put: code outside 1 to 6, 6 from a session, or 1 to 5 from party 0; day: party 0 */
     ENTRY_STORE_HAND = 7,    /* put or commit with a request in hand: make its steps, or abort; step with none in hand:
                                 put first */
-    ENTRY_STORE_ENTRY = 8,   /* put, codes 1 to 4: entry outside 1 to M */
-    ENTRY_STORE_KEY = 9,     /* put, codes 3 to 5, and holders: a key 0 or 4,294,967,295 */
+    ENTRY_STORE_ENTRY = 8,   /* put, codes 1 to 4: entry outside 1 to M; day: the entry of any of its stretches is */
+    ENTRY_STORE_KEY = 9,     /* put, codes 3 to 5, and holders: a key 0 or 4,294,967,295; day: driver outside 1 to
+                                ENTRY_STORE_MAX_DRIVER, or a start above ENTRY_STORE_MAX_DAY_START */
     ENTRY_STORE_RANGE = 10,  /* put, code 5: first above second */
     ENTRY_STORE_LIST = 12,   /* a locate's last step: the list has fewer than twice value words; lend more, and put the
                                 locate again */
+    ENTRY_STORE_ODD = 13,    /* day: the length is odd; a word has two bytes: read the card again */
+    ENTRY_STORE_DAY = 14,    /* day: the bytes are no day: none, the first minute is not 0, a minute is above 1,439, or
+                                minutes fall; or the place lies past the day, or names another request than the one that
+                                the session has in hand */
 
     /* The sessions together cause this. */
     ENTRY_STORE_FULL = 11,   /* step: fewer free records than it needs; put the request again once a session has
                                 committed or aborted, or a tidy removed a descriptor; where that never helps, the store
-                                is too small */
+                                is too small; day: the same, and the same place puts the request again */
 
-    /* The host program causes these too, with a batch; the numbers are the archive's own. */
-    ENTRY_STORE_NO_ASK = 101, /* among a batch's answers: the ask is of no kind, or the words end within it; nothing of
-                                 it was made */
-    ENTRY_STORE_ANSWERS = 102 /* batch: room for fewer answers than there are asks, or more than ENTRY_STORE_MOST_ASKS
-                                 asks; none was made */
+    /* The host program causes these too; the numbers are the archive's own. */
+    ENTRY_STORE_NO_ASK = 101,  /* among a batch's answers: the ask is of no kind, or the words end within it; nothing
+                                  of it was made */
+    ENTRY_STORE_ANSWERS = 102, /* batch: room for fewer answers than there are asks, or more than ENTRY_STORE_MOST_ASKS
+                                  asks; none was made */
+    ENTRY_STORE_NO_DAY = 103   /* day_bytes: these pairs and values are no day's, or the bytes have too little room;
+                                  nothing was written */
 };
 
 /* ---- requests: Rules, section 2 */
@@ -325,6 +350,55 @@ uint64_t entry_store_batch(uint32_t *store, size_t store_words, struct entry_sto
                            size_t table_records, uint32_t *list, size_t list_words, const uint32_t *asks,
                            size_t ask_words, uint64_t *answers, size_t answer_count);
 
+/* ---- a card's day */
+
+/*
+ * A driver's card has a day as words of 16 bits, high byte first (ActivityChangeInfo): from the top 1 bit slot, 1 bit
+ * driving status, 1 bit card status, 2 bits activity (0 rest, 1 availability, 2 work, 3 driving) and 11 bits minute.
+ * Bytes are a day if there are some, two a word; the first minute is 0, none is above 1,439, and minutes do not fall.
+ * Each word is a stretch, but that of words of one minute only the last counts. A stretch runs to the minute of the
+ * next one, the last to 1,440. Its value is the word with the length in place of the minute, its key is
+ * driver x ENTRY_STORE_DRIVER_KEYS + day_start + minute. The first stretch gets the given entry, the next the one above
+ * it, and so on.
+ *
+ * To store a day is two requests for each stretch, in the order of their minutes: a write of its value and an insert at
+ * its key. The place is the number of such a request: 2 k for the write of stretch k, counted from 0, and 2 k + 1 for
+ * its insert. The requests before it are taken as done.
+ */
+
+/* One call of a session that reads a day: the put of the request that the place names where the session has none in
+ * hand, and else a step of the one in hand, which must be the one named (put by this function or by entry_store_put).
+ * It is proved to be that put or that step in every word of store and table, so other calls, of this session too, may
+ * stand between any two calls of a day.
+ *
+ * A day starts with place 0; each further call is handed the same arguments and the place that the one before answered
+ * (entry_store_place_of), until one answers done:
+ *   ok       the request was put: call again
+ *   more     a step was made, or a request other than the last was finished: call again
+ *   wait     as a step's: value has the party in the way; nothing changed; call again later
+ *   done     the last request is finished: value has the number of stretches; the place lies past the day
+ *   refused  no place (its bits are 0); the place that was handed in is the place still: mend what is wrong and hand in
+ *            the same again. 11 ended the request in hand, and the same place puts it again
+ * What was stored before a refusal stays until the session commits or aborts. An insert that finds its member there
+ * already goes on as any other, and counts.
+ *
+ * Refuses 1, 2, 4, 5, 6 (party 0), 13, 14, 8, 9, in this order, checked at every call; then a step's wait or 11.
+ * docs/HOST.md, "Reading a card". */
+uint64_t entry_store_day(uint32_t *store, size_t store_words, struct entry_store_session *table, size_t table_records,
+                         const uint8_t *bytes, size_t length, uint32_t party, uint32_t driver, uint32_t day_start,
+                         uint32_t entry, uint32_t place);
+
+/* Writes a day's bytes from what a session finds and reads: pairs is the list of its locate of the day's
+ * ENTRY_STORE_DAY_MINUTES keys, and values[k] what a read of the entry of pair k answered. Byte 2 k and the one behind
+ * it are the word of pair k: the value with the minute of the pair's key in place of the length. Answers done with the
+ * number of bytes, 2 x count; later bytes stay. Proved: for a day that was stored by entry_store_day, with no two words
+ * of one minute, in minutes that had no entry, and that nothing has changed since, these are its bytes.
+ *
+ * Refuses 103, and writes nothing, where pair_words or length is less than 2 x count, count is above
+ * ENTRY_STORE_DAY_MINUTES, a key is none of the day's, or a value is above 65,535. No store is asked. */
+uint64_t entry_store_day_bytes(const uint32_t *pairs, size_t pair_words, const uint32_t *values, size_t count,
+                               uint32_t driver, uint32_t day_start, uint8_t *bytes, size_t length);
+
 /* ---- reading */
 
 /* How many records are free: done with their number; refuses 1 or 2. It changes nothing. Rules, section 3. */
@@ -396,12 +470,15 @@ static inline const char *entry_store_refusal_text(uint32_t refusal)
     case ENTRY_STORE_CODE: return "no such request, or not for this party";
     case ENTRY_STORE_HAND: return "a request is in hand, or none is";
     case ENTRY_STORE_ENTRY: return "no such entry";
-    case ENTRY_STORE_KEY: return "the key is an infinity";
+    case ENTRY_STORE_KEY: return "the key is an infinity, or no such driver or day";
     case ENTRY_STORE_RANGE: return "first is above second";
     case ENTRY_STORE_FULL: return "too few free records";
     case ENTRY_STORE_LIST: return "the list is too short";
+    case ENTRY_STORE_ODD: return "the day has half a word";
+    case ENTRY_STORE_DAY: return "the bytes are no day, or the place is not where it stands";
     case ENTRY_STORE_NO_ASK: return "no such ask";
     case ENTRY_STORE_ANSWERS: return "fewer answers than asks, or too many asks";
+    case ENTRY_STORE_NO_DAY: return "no day can be written of these, or not here";
     default: return "no such refusal";
     }
 }

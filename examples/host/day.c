@@ -1,5 +1,5 @@
 // Whole sessions in one call: a desk's day, a planner that looks at it, and a late note that waits for the
-// planner.
+// planner. Then a day from the bytes of a card, which is written out again.
 //
 // A desk's day is one list of asks: begin, a write and an insert for each of 24 stretches, commit. The
 // planner asks for begin and locate in one call, and holds what it found while its user decides. A second
@@ -7,14 +7,21 @@
 // planner commit and makes the rest of the asks, the first of them now a run of what is in hand (host_session
 // in store_host.c).
 //
-// Usage: day. What it prints is the same in every run.
+// A third desk reads a card: the bytes of a driver's day are stored by one session, call by call (host_day in
+// store_host.c). The planner holds that day too, so the reading waits and goes on from the place where it
+// stood. The same session then locates the day, reads the entries and writes them out: the same bytes.
+//
+// Usage: day [SCRIPT...]. What it prints is the same in every run. With scripts it plays these instead, and
+// compares their answers (scripts.c).
+#include "scripts.h"
 #include "store_host.h"
 
 #include <stdio.h>
 #include <stdlib.h>
+#include <string.h>
 
 enum { ENTRIES = 32, STRETCHES = 24, DRIVER = 2, DAY = 3, HOUR = 60 };
-enum { DESK = 1, LATE_DESK = 2, PLANNER = 7 };
+enum { DESK = 1, LATE_DESK = 2, CARD_DESK = 3, PLANNER = 7 };
 
 // A day that is typed in hour by hour, its key and its value; a late note's minute lies between two of them.
 static uint32_t hour_key(uint32_t hour)
@@ -127,7 +134,72 @@ static void late_note(struct store_host *h)
     make_session(h, asks, 4, planner_commits);
 }
 
-int main(void)
+// ---- the card
+
+// Words of two bytes: activity in bits 11 and 12, minute in the low 11. At 20:00 the card is taken out.
+static const uint8_t card[] = {
+    0x00, 0x00, // 00:00 rest
+    0x19, 0x68, // 06:00 driving
+    0x02, 0x76, // 10:30 rest
+    0x1a, 0xa3, // 11:15 driving
+    0x13, 0xa2, // 15:30 work
+    0x03, 0xc0, // 16:00 rest
+    0x24, 0xb0, // 20:00 rest, the card is not inserted
+};
+enum { CARD_DRIVER = 3, CARD_START = DAY * DAY_MINUTES, CARD_ENTRY = LATE_ENTRY + 1 };
+
+// What the planner's user decides here lets the reading go on.
+static int planner_leaves(void *context, uint32_t party, uint32_t holder)
+{
+    struct store_host *h = context;
+    printf("desk %u    waits for session %u, which has located this day and found nothing\n", party, holder);
+    want(ENTRY_STORE_OK, host_commit(h, PLANNER), "the planner's commit");
+    printf("planner   commits\n");
+    return 1;
+}
+
+static void read_card(struct store_host *h)
+{
+    struct card_day day = {card, sizeof card, CARD_DRIVER, CARD_START, CARD_ENTRY};
+    uint32_t key = key_of(CARD_DRIVER, CARD_START), place = 0;
+    struct request locate = {ENTRY_STORE_LOCATE, 0, key, key + DAY_MINUTES - 1};
+    want(ENTRY_STORE_OK, host_begin(h, PLANNER), "the planner's begin");
+    want(ENTRY_STORE_DONE, host_request(h, PLANNER, locate, NULL), "the planner's locate");
+    want(ENTRY_STORE_OK, host_begin(h, CARD_DESK), "the desk's begin");
+    uint32_t stretches =
+        want(ENTRY_STORE_DONE, host_day(h, CARD_DESK, &day, &place, planner_leaves, h), "the card's day");
+    printf("desk %d    has read %zu bytes of a card: %u stretches, from entry %u on\n", CARD_DESK, day.length,
+           stretches, day.entry);
+}
+
+// By the session that has read the card, before it commits.
+static void write_card(struct store_host *h)
+{
+    uint8_t bytes[2 * DAY_MINUTES];
+    struct pair_list list = {NULL, 0};
+    struct entry_store_answer a =
+        host_day_bytes(h, CARD_DESK, CARD_DRIVER, CARD_START, &list, bytes, sizeof bytes, no_waiting, NULL);
+    uint32_t length = want(ENTRY_STORE_DONE, a, "the day written out");
+    printf("desk %d    writes it out again:", CARD_DESK);
+    for (uint32_t k = 0; k < length; k++) {
+        printf("%s%02x", k % 2 == 0 ? " " : "", bytes[k]);
+    }
+    int same = length == sizeof card && memcmp(bytes, card, sizeof card) == 0;
+    printf(", %s bytes\n", same ? "the same" : "other");
+    want(ENTRY_STORE_OK, host_commit(h, CARD_DESK), "the desk's commit");
+    printf("desk %d    commits; %u records are free\n", CARD_DESK, host_free(h));
+    list_free(&list);
+}
+
+static const char usage[] = "usage: day [SCRIPT...]\n"
+                            "Plays a desk's day, a planner and a card, and prints what happens.\n"
+                            "  SCRIPT  plays scripts instead: a call and its answer in each line, as at the "
+                            "top of scripts.c\n"
+                            "  --help  prints this\n"
+                            "The exit status is 0, 1 where an answer is another, or 2 where a script cannot "
+                            "be read.\n";
+
+static int play(void)
 {
     struct store_host h;
     if (!host_open(&h, ENTRIES, records_wanted(ENTRIES, ENTRIES, 2))) {
@@ -138,6 +210,21 @@ int main(void)
     desk_day(&h);
     planner_looks(&h);
     late_note(&h);
+    read_card(&h);
+    write_card(&h);
     host_close(&h);
     return 0;
+}
+
+int main(int argc, char **argv)
+{
+    if (argc > 1 && strcmp(argv[1], "--help") == 0) {
+        fputs(usage, stdout);
+        return 0;
+    }
+    if (argc > 1 && argv[1][0] == '-') {
+        fprintf(stderr, "day: no such option: %s\n%s", argv[1], usage);
+        return 2;
+    }
+    return argc > 1 ? play_scripts(argc - 1, argv + 1) : play();
 }

@@ -3,17 +3,16 @@
 // Usage: fuzz SECONDS [SEED [RUN]]. Runs are numbered from 0; each has its own numbers, drawn from SEED and
 // its number, so that a run can be made again alone. With RUN only that one is made.
 //
-// A run lends a store, a table and a list, and to a batch asks and answers too. Each lies against a page that
-// may not be touched, at its front or at its end, so that any access outside on that side ends the program;
-// the bytes on the other side have a pattern, which must stay. Before each call all are copied, and after it
-// they are compared.
+// A run lends a store, a table and a list, to a batch asks and answers too, and to the calls of a card's day
+// its bytes. Each lies against a page that may not be touched, at its front or at its end, so that any access
+// outside on that side ends the program; the bytes on the other side have a pattern, which must stay. Before
+// each call all are copied, and after it they are compared.
 //
 // The facts (each is a function below, and prints its name where it fails):
 //   - the bits of an answer are those that the header names: word, number, value, how many numbers there are
 //   - which words each call may answer, and refusals 1 to 12 only
 //   - a call is refused exactly by the first check that fails, in the order of docs/RULES.md, section 8; 11
-//   and
-//     12 only in a step; and it is refused with 2 exactly if entry_store_fault names a part
+//     and 12 only in a step; and it is refused with 2 exactly if entry_store_fault names a part
 //   - a refusal but 11 and 12, and a wait, change nothing; 11 and 12 change the party's own record, and in
 //     the store at most one latch and the pins of two descriptors
 //   - a wait names a party that has begun, never the caller
@@ -22,11 +21,13 @@
 //   - only the caller's record of the table changes; begin and put leave the store
 //   - after every accepted call store and table are sound, M and R and the words beyond the records as before
 //   - a run, a request and a batch answer and leave, in every word of store, table, list and answers, what
-//   the
-//     single calls that they stand for do, made one by one on copies
+//     the single calls that they stand for do, made one by one on copies
+//   - a call of a card's day is refused by the first of its checks, read off the bytes here; else it answers
+//     and leaves, in every word of store and table, what the put or the step that it stands for does on a
+//     copy, with the place that is due
+//   - a day's bytes are those of its pairs and values, or it is refused and writes nothing
 //   - free counts the free records, holders are those of the key's descriptor or of the gap below it; both
-//   are
-//     refused as the calls are, and change nothing
+//     are refused as the calls are, and change nothing
 //
 // Prints every few seconds how far it is, then how often each call gave each answer, and then ok, or the fact
 // that failed and how to see it again.
@@ -90,6 +91,8 @@ enum {
     MAX_ASKS = 64,
     MAX_ASK_WORDS = MAX_ASKS * ENTRY_STORE_ASK_WORDS + ENTRY_STORE_ASK_WORDS - 1,
     MAX_ANSWERS = MAX_ASKS + 4,
+    MAX_BYTES = 6000,
+    MAX_VALUES = 1500,
     PATTERN = 0xa5
 };
 
@@ -151,11 +154,12 @@ static int pattern_kept(const struct lent *l)
     return 1;
 }
 
-static struct lent store_room, table_room, list_room, asks_room, answers_room;
-static uint32_t *store, *list, *asks;
+static struct lent store_room, table_room, list_room, asks_room, answers_room, bytes_room, values_room;
+static uint32_t *store, *list, *asks, *values;
 static uint64_t *answers;
+static uint8_t *bytes;
 static struct entry_store_session *table;
-static size_t store_len, table_len, list_len, asks_len, answers_len;
+static size_t store_len, table_len, list_len, asks_len, answers_len, bytes_len, values_len;
 
 static void lend_store(size_t words)
 {
@@ -189,6 +193,21 @@ static void lend_asks(size_t words, size_t places)
     answers = (uint64_t *)(void *)answers_room.at;
 }
 
+// The bytes of a day.
+static void lend_bytes(size_t length)
+{
+    bytes_len = length;
+    lend(&bytes_room, length);
+    bytes = bytes_room.at;
+}
+
+static void lend_values(size_t words)
+{
+    values_len = words;
+    lend(&values_room, words * sizeof *values);
+    values = (uint32_t *)(void *)values_room.at;
+}
+
 static void keep_all(void)
 {
     keep(&store_room);
@@ -196,12 +215,15 @@ static void keep_all(void)
     keep(&list_room);
     keep(&asks_room);
     keep(&answers_room);
+    keep(&bytes_room);
+    keep(&values_room);
 }
 
 static int all_patterns_kept(void)
 {
     return pattern_kept(&store_room) && pattern_kept(&table_room) && pattern_kept(&list_room) &&
-           pattern_kept(&asks_room) && pattern_kept(&answers_room);
+           pattern_kept(&asks_room) && pattern_kept(&answers_room) && pattern_kept(&bytes_room) &&
+           pattern_kept(&values_room);
 }
 
 // What was there before the call.
@@ -222,18 +244,39 @@ static const uint32_t *old_list(void)
 
 // ---- one call
 
-enum call { FORMAT, BEGIN, PUT, STEP, COMMIT, ABORT, RUN, REQUEST, BATCH, CALLS, ASKS = CALLS, ROWS };
+enum call {
+    FORMAT,
+    BEGIN,
+    PUT,
+    STEP,
+    COMMIT,
+    ABORT,
+    RUN,
+    REQUEST,
+    BATCH,
+    DAY,
+    DAY_BYTES,
+    CALLS,
+    ASKS = CALLS, // the row of a batch's asks
+    ROWS
+};
 enum { SINGLE = ABORT + 1 };
 
-static const char *const call_names[ROWS] = {"format", "begin", "put",     "step",  "commit",
-                                             "abort",  "run",   "request", "batch", "its asks"};
+static const char *const call_names[ROWS] = {"format", "begin",   "put",   "step", "commit", "abort",
+                                             "run",    "request", "batch", "day",  "bytes",  "its asks"};
 
 struct asked {
     enum call call;
     uint32_t party, code, entry, first, second, most; // format: entry is M
 };
 
+// What a day call is handed beside the party and the bytes.
+struct day {
+    uint32_t driver, start, entry, place;
+};
+
 static struct asked now;
+static struct day day;
 static uint64_t seed, run_number, call_number;
 
 // What a call is lent, with the lengths of what is lent now.
@@ -272,6 +315,9 @@ static uint64_t make_call(const struct asked *a, struct loan l)
     case REQUEST:
         return entry_store_request(l.store, store_len, l.table, table_len, l.list, l.list_len, a->party,
                                    a->code, a->entry, a->first, a->second, a->most);
+    case DAY:
+        return entry_store_day(l.store, store_len, l.table, table_len, bytes, bytes_len, a->party, day.driver,
+                               day.start, day.entry, day.place);
     default:
         return entry_store_batch(l.store, store_len, l.table, table_len, l.list, l.list_len, asks, asks_len,
                                  l.answers, answers_len);
@@ -289,6 +335,14 @@ static void print_place(void)
         int first = k % ENTRY_STORE_ASK_WORDS == 0,
             last = k % ENTRY_STORE_ASK_WORDS == ENTRY_STORE_ASK_WORDS - 1;
         printf("%s%u%s", first ? "  ask " : " ", asks[k], last || k == asks_len - 1 ? "\n" : "");
+    }
+    if (now.call == DAY || now.call == DAY_BYTES) {
+        printf("  driver %u start %u entry %u place %u, values %zu, bytes %zu:", day.driver, day.start,
+               day.entry, day.place, values_len, bytes_len);
+        for (size_t k = 0; k < bytes_len; k++) {
+            printf("%s%02x", k % 2 == 0 ? " " : "", bytes_room.copy[k]);
+        }
+        printf("\n");
     }
     printf("again: fuzz 0 %llu %llu\n", (unsigned long long)seed, (unsigned long long)run_number);
 }
@@ -433,7 +487,8 @@ static void nothing_changed(void)
     fact(unchanged(&store_room), "the store is not changed");
     fact(unchanged(&table_room), "the table is not changed");
     fact(unchanged(&list_room), "the list is not changed");
-    fact(unchanged(&asks_room) && unchanged(&answers_room), "what is not lent is not changed");
+    fact(unchanged(&asks_room) && unchanged(&answers_room) && unchanged(&bytes_room),
+         "what is not lent is not changed");
 }
 
 // Only the caller's record, and the other records as before.
@@ -596,8 +651,8 @@ static int ends_request(struct entry_store_answer a)
     return a.number == ENTRY_STORE_FULL || a.number == ENTRY_STORE_LIST;
 }
 
-// By the word, and by the refusal: 1 to 12, 101 and 102.
-enum { COLUMNS = 5 + 14 };
+// By the word, and by the refusal: 1 to 14, 101 to 103.
+enum { LAST_REFUSAL = 14, COLUMNS = 5 + LAST_REFUSAL + 3 };
 static uint64_t counts[ROWS][COLUMNS];
 static int waits[ENTRY_STORE_PARTIES]; // the party's last call answered wait
 
@@ -608,6 +663,8 @@ static struct {
     uint32_t levels;  // of the highest tree
     uint64_t damaged, still_sound;
     uint32_t steps, asks; // the most of a run, and of a batch
+    uint64_t days;        // read to their ends
+    uint32_t stretches;   // the most of these
 } reached;
 
 static uint32_t column(struct entry_store_answer a)
@@ -615,7 +672,7 @@ static uint32_t column(struct entry_store_answer a)
     if (a.word != ENTRY_STORE_REFUSED) {
         return a.word;
     }
-    return a.number > 100 ? a.number - 100 + 16 : a.number + 4;
+    return a.number > 100 ? a.number - 100 + 4 + LAST_REFUSAL : a.number + 4;
 }
 
 static void count(struct entry_store_answer a)
@@ -833,6 +890,209 @@ static void call_several(struct asked asked)
     }
 }
 
+// ---- a card's day, read by hand and held against a put or a step on copies
+
+struct stretch {
+    uint32_t minute, value;
+};
+
+static struct stretch stretches[1440];
+static uint32_t stretch_count;
+
+static uint32_t card_word(size_t k)
+{
+    return 256 * (uint32_t)bytes[2 * k] + bytes[2 * k + 1];
+}
+
+static uint32_t card_minute(size_t k)
+{
+    return card_word(k) % 2048;
+}
+
+// Whether the lent bytes, an even number of them, are a day.
+static int is_day(void)
+{
+    size_t count = bytes_len / 2;
+    for (size_t k = 0; k < count; k++) {
+        if (card_minute(k) > 1439 || (k > 0 && card_minute(k) < card_minute(k - 1))) {
+            return 0;
+        }
+    }
+    return count > 0 && card_minute(0) == 0;
+}
+
+// The stretches of a day: a word of the minute of the one before it takes its place; then each gets its
+// length.
+static void read_stretches(void)
+{
+    uint32_t count = 0;
+    for (size_t k = 0; k < bytes_len / 2; k++) {
+        struct stretch s = {card_minute(k), card_word(k) - card_minute(k)};
+        if (count > 0 && stretches[count - 1].minute == s.minute) {
+            count -= 1;
+        }
+        stretches[count++] = s;
+    }
+    for (uint32_t k = 0; k < count; k++) {
+        uint32_t end = k + 1 < count ? stretches[k + 1].minute : 1440;
+        stretches[k].value += end - stretches[k].minute;
+    }
+    stretch_count = count;
+}
+
+// Arguments of a request of a day; they need not be words.
+struct day_request {
+    uint32_t code;
+    uint64_t entry, first;
+};
+
+// The one that the place names, which does not lie past the day.
+static struct day_request named_request(void)
+{
+    struct stretch s = stretches[day.place / 2];
+    uint64_t entry = (uint64_t)day.entry + day.place / 2;
+    struct day_request write = {ENTRY_STORE_WRITE, entry, s.value};
+    struct day_request insert = {ENTRY_STORE_INSERT, entry,
+                                 (uint64_t)day.driver * 1048576 + day.start + s.minute};
+    return day.place % 2 == 0 ? write : insert;
+}
+
+static int is_in_hand(const struct entry_store_session *s, struct day_request r)
+{
+    return s->code == r.code && s->entry == r.entry && s->first == r.first;
+}
+
+// The checks 13, 14, 8 and 9 of a session's day; the stretches are there where it is one.
+static uint32_t bytes_refusal(const struct entry_store_session *s, uint32_t m)
+{
+    if (bytes_len % 2 != 0) {
+        return ENTRY_STORE_ODD;
+    }
+    if (!is_day()) {
+        return ENTRY_STORE_DAY;
+    }
+    read_stretches();
+    if (day.place >= 2 * stretch_count || (s->stage != 0 && !is_in_hand(s, named_request()))) {
+        return ENTRY_STORE_DAY;
+    }
+    if (day.entry == 0 || (uint64_t)day.entry + stretch_count - 1 > m) {
+        return ENTRY_STORE_ENTRY;
+    }
+    return day.driver < 1 || day.driver > 4094 || day.start > 1047136 ? ENTRY_STORE_KEY : 0;
+}
+
+static uint32_t day_refusal(uint32_t party, const struct loan *l)
+{
+    if (table_len != ENTRY_STORE_PARTIES) {
+        return ENTRY_STORE_TABLE;
+    }
+    if (entry_store_fault(l->store, store_len, l->table, table_len) != 0) {
+        return ENTRY_STORE_UNSOUND;
+    }
+    if (party > ENTRY_STORE_SESSIONS) {
+        return ENTRY_STORE_PARTY;
+    }
+    if (party != 0 && l->table[party].begun == 0) {
+        return ENTRY_STORE_BEGUN;
+    }
+    return party == 0 ? ENTRY_STORE_CODE : bytes_refusal(&l->table[party], l->store[0]);
+}
+
+// An answer without how many numbers it has, and with a place.
+static uint64_t placed(uint64_t answer, uint32_t place)
+{
+    return (answer & UINT64_C(0xffffffffffff)) | (uint64_t)place << 48;
+}
+
+static uint64_t day_by_hand(uint32_t party, struct loan l)
+{
+    uint32_t number = day_refusal(party, &l), next = day.place + 1;
+    if (number != 0) {
+        return placed(refusal(number), 0);
+    }
+    struct day_request r = named_request();
+    enum call single = l.table[party].stage == 0 ? PUT : STEP;
+    struct asked one = {single, party, r.code, (uint32_t)r.entry, (uint32_t)r.first, 0, 0};
+    l.list_len = 0;
+    uint64_t answer = make_call(&one, l);
+    if (is_word(answer, ENTRY_STORE_REFUSED)) {
+        return placed(answer, 0);
+    }
+    if (!is_word(answer, ENTRY_STORE_DONE)) {
+        return placed(answer, day.place);
+    }
+    uint64_t more = answered(ENTRY_STORE_MORE, 0, 0, 0);
+    return placed(next == 2 * stretch_count ? done(stretch_count) : more, next);
+}
+
+static void count_day(struct entry_store_answer a)
+{
+    counts[now.call][column(a)] += 1;
+    if (now.party <= ENTRY_STORE_SESSIONS) {
+        waits[now.party] = a.word == ENTRY_STORE_WAIT;
+    }
+    if (a.word == ENTRY_STORE_DONE) {
+        reached.days += 1;
+        reached.stretches = a.value > reached.stretches ? a.value : reached.stretches;
+    }
+}
+
+// One call of a day.
+static uint64_t call_day(struct asked asked)
+{
+    now = asked;
+    call_number += 1;
+    keep_all();
+    struct loan twin = copy_all();
+    uint64_t bits = make_call(&now, lent_now());
+    uint64_t expected = day_by_hand(now.party, twin);
+    fact(bits == expected, "a day call answers what its put or step does, or the first refusal that applies");
+    fact(same_all(), "a day call leaves what its put or step does");
+    fact(unchanged(&bytes_room) && unchanged(&asks_room), "a day call leaves its bytes");
+    fact(all_patterns_kept(), "bytes beside what is lent are not written");
+    struct entry_store_answer a = entry_store_unpack(bits);
+    fact(a.word == ENTRY_STORE_REFUSED || a.word == ENTRY_STORE_DONE || entry_store_place_of(bits) < 2880,
+         "a place is one of a day's");
+    count_day(a);
+    return bits;
+}
+
+// Whether the lent pairs and values are those of a day that starts at this key.
+static int can_be_written(uint64_t key)
+{
+    if (values_len > 1440 || list_len < 2 * values_len || bytes_len < 2 * values_len) {
+        return 0;
+    }
+    for (size_t k = 0; k < values_len; k++) {
+        if (list[2 * k] < key || list[2 * k] > key + 1439 || values[k] > 65535) {
+            return 0;
+        }
+    }
+    return 1;
+}
+
+static void call_day_bytes(void)
+{
+    uint64_t key = (uint64_t)day.driver * 1048576 + day.start;
+    int can = can_be_written(key);
+    now.call = DAY_BYTES;
+    call_number += 1;
+    keep_all();
+    uint64_t bits =
+        entry_store_day_bytes(list, list_len, values, values_len, day.driver, day.start, bytes, bytes_len);
+    fact(bits == (can ? done(2 * (uint32_t)values_len) : refusal(ENTRY_STORE_NO_DAY)),
+         "a day is written out, or refused where it is none");
+    size_t written = can ? 2 * values_len : 0;
+    for (size_t k = 0; k < written / 2; k++) {
+        uint32_t minute = list[2 * k] - (uint32_t)key;
+        fact(card_word(k) == values[k] - values[k] % 2048 + minute, "a word is the value with the minute");
+    }
+    fact(memcmp(bytes + written, bytes_room.copy + written, bytes_len - written) == 0, "later bytes stay");
+    fact(unchanged(&list_room) && unchanged(&values_room), "pairs and values stay");
+    fact(all_patterns_kept(), "bytes beside what is lent are not written");
+    counts[DAY_BYTES][column(entry_store_unpack(bits))] += 1;
+}
+
 // ---- free records and holders
 
 static const uint32_t *record(uint32_t i)
@@ -881,14 +1141,14 @@ static void look(uint32_t key)
 // ---- random calls
 
 // How the arguments of a run are drawn.
-static uint32_t key_span, party_span, wild;
+static uint32_t key_from, key_span, party_span, wild;
 
 static uint32_t random_key(void)
 {
     if (one_in(wild)) {
         return odd_word();
     }
-    return 1 + below(key_span);
+    return key_from + below(key_span);
 }
 
 static uint32_t random_party(void)
@@ -996,7 +1256,9 @@ static void write_ask(uint32_t *w, const struct asked *a)
                                           ENTRY_STORE_ASK_ABORT,
                                           ENTRY_STORE_ASK_RUN,
                                           ENTRY_STORE_ASK_REQUEST,
-                                          ENTRY_STORE_ASK_REQUEST + 1};
+                                          ENTRY_STORE_ASK_REQUEST + 1,
+                                          0,
+                                          0};
     uint32_t words[ENTRY_STORE_ASK_WORDS] = {kinds[a->call], a->party,  a->code, a->entry,
                                              a->first,       a->second, a->most};
     memcpy(w, words, sizeof words);
@@ -1051,6 +1313,163 @@ static struct asked random_several(void)
     return a;
 }
 
+static void fill(struct lent *l, int small)
+{
+    for (size_t k = 0; k < l->bytes; k += sizeof(uint32_t)) {
+        uint32_t word = small ? below(40) : odd_word();
+        size_t rest = l->bytes - k;
+        memcpy(l->at + k, &word, rest < sizeof word ? rest : sizeof word);
+    }
+}
+
+// ---- random days
+
+// The day that a session reads, and how far it is.
+struct reading {
+    uint8_t bytes[MAX_BYTES];
+    size_t length; // 0: it reads none
+    struct day day;
+};
+
+static struct reading readings[ENTRY_STORE_PARTIES];
+
+// Words of minutes that rise, some of them equal.
+static size_t random_words(uint8_t *to, size_t count)
+{
+    uint32_t minute = 0, gap = one_in(3) ? 3 : 1439 / (uint32_t)count + 1;
+    for (size_t k = 0; k < count; k++) {
+        uint32_t word = minute + 2048 * below(32);
+        to[2 * k] = (uint8_t)(word / 256);
+        to[2 * k + 1] = (uint8_t)(word % 256);
+        minute += one_in(5) ? 0 : 1 + below(gap);
+        minute = minute > 1439 ? 1439 : minute;
+    }
+    return 2 * count;
+}
+
+static struct day random_day(uint32_t entry)
+{
+    static const uint32_t drivers[] = {1, 2, 2, 2, 4094}, starts[] = {0, 0, 1440, 1440, 700, 1047136};
+    struct day d = {drivers[below(5)], starts[below(6)], entry, 0};
+    if (one_in(wild)) {
+        d.driver = one_in(2) ? 4093 + below(4) : odd_word();
+    }
+    if (one_in(wild)) {
+        d.start = one_in(2) ? 1047135 + below(3) : odd_word();
+    }
+    return d;
+}
+
+// A new day, whose entries mostly are there.
+static void begin_reading(struct reading *r)
+{
+    uint32_t m = store_len > 0 && store[0] >= 1 && store[0] <= 1024 ? store[0] : 4;
+    uint32_t count = 1 + below(one_in(100) ? 2000 : one_in(8) ? 60 : 6);
+    if (count > m && !one_in(6)) {
+        count = m;
+    }
+    r->length = random_words(r->bytes, count);
+    r->day = random_day(one_in(wild) ? odd_word() : 1 + below(count < m ? m - count + 1 : 1));
+}
+
+// What is handed in is another than what the day has: one argument, or one byte.
+static void spoil_day(void)
+{
+    switch (below(7)) {
+    case 0:
+        day.place = one_in(2) ? below(8) : odd_word();
+        break;
+    case 1:
+        day.entry = one_in(2) ? day.entry + 1 : odd_word();
+        break;
+    case 2:
+        day = random_day(day.entry);
+        break;
+    case 3:
+        day.place += one_in(2) ? 1 : UINT32_MAX;
+        break;
+    case 4:
+        day.driver += 4096; // the same keys in 32 bits
+        break;
+    default:
+        if (bytes_len > 0) {
+            bytes[below((uint32_t)bytes_len)] ^= (uint8_t)(1 << below(8));
+        }
+    }
+}
+
+// One call of the day that the party reads; the word of its answer.
+static uint32_t read_on(uint32_t party, struct reading *r)
+{
+    size_t length = r->length;
+    if (one_in(wild)) {
+        length = below((uint32_t)length + 1);
+    }
+    lend_bytes(length);
+    memcpy(bytes, r->bytes, length);
+    day = r->day;
+    if (one_in(2 * wild)) {
+        spoil_day();
+    }
+    uint64_t bits = call_day(plain(DAY, party));
+    uint32_t word = entry_store_word_of(bits);
+    if (word != ENTRY_STORE_REFUSED) {
+        r->day.place = entry_store_place_of(bits);
+    }
+    if (word == ENTRY_STORE_DONE && !one_in(8)) {
+        r->length = 0;
+    }
+    return word;
+}
+
+// Some calls of a party's day in a row. What the party has in hand may be another request: it is run first.
+static void read_days(void)
+{
+    uint32_t party = random_party(), calls = one_in(2) ? 1 : 1 + below(60), word = ENTRY_STORE_OK;
+    int known = party <= ENTRY_STORE_SESSIONS && party < table_len;
+    struct reading *r = &readings[known ? party : 0];
+    if (r->length == 0 || one_in(20)) {
+        begin_reading(r);
+    }
+    if (known && party != 0 && table[party].begun == 0 && !one_in(8)) {
+        call(plain(BEGIN, party));
+    }
+    for (uint32_t k = 0; k < calls && (word == ENTRY_STORE_OK || word == ENTRY_STORE_MORE); k++) {
+        if (r->length == 0) {
+            begin_reading(r);
+        }
+        word = read_on(party, r);
+        if (k == 0 && word == ENTRY_STORE_REFUSED && known && table[party].stage != 0 && !one_in(4)) {
+            struct asked run = {RUN, party, 0, 0, 0, 0, 1000};
+            call_several(run);
+            word = ENTRY_STORE_OK;
+        }
+    }
+}
+
+// Pairs and values that mostly are a day's.
+static void write_day(void)
+{
+    uint32_t count = one_in(20) ? 1439 + below(3) : below(12), strange = one_in(3) ? 8 : 4000;
+    day = random_day(0);
+    lend_values(count);
+    lend_list(2 * count + below(3) - (count > 0 && one_in(12)));
+    lend_bytes(2 * count + below(3) - (count > 0 && one_in(12)));
+    for (size_t k = 0; k < count; k++) {
+        values[k] = one_in(strange) ? 65535 + below(3) : below(65536);
+    }
+    for (size_t k = 0; k < list_len; k++) {
+        uint32_t key = day.driver * 1048576 + day.start;
+        list[k] = one_in(strange) ? key + 1439 + below(2) : key + below(1440);
+        list[k] = one_in(8 * strange) ? key - below(2) : list[k];
+    }
+    fill(&bytes_room, 1);
+    call_day_bytes();
+    lend_list(below(200));
+    fill(&list_room, 0);
+    lend_values(0);
+}
+
 // Some words of the list are lent to the next calls.
 static void change_list(void)
 {
@@ -1068,11 +1487,16 @@ static void random_calls(uint32_t count)
         change_list();
         if (one_in(6)) {
             call_several(random_several());
+        } else if (one_in(5)) {
+            read_days();
         } else {
             call(random_call());
         }
         if (one_in(6)) {
             look(one_in(16) ? odd_word() : random_key());
+        }
+        if (one_in(60)) {
+            write_day();
         }
         if (one_in(1000)) {
             many_asks();
@@ -1082,18 +1506,11 @@ static void random_calls(uint32_t count)
 
 // ---- runs
 
-static void fill(struct lent *l, int small)
-{
-    uint32_t *w = (uint32_t *)(void *)l->at;
-    for (size_t k = 0; k < l->bytes / sizeof *w; k++) {
-        w[k] = small ? below(40) : odd_word();
-    }
-}
-
 static void choose_arguments(void)
 {
     static const uint32_t spans[] = {3, 12, 40, 300, 4294967293u};
     key_span = spans[below(5)];
+    key_from = key_span <= 300 && one_in(2) ? 2 * 1048576 + 1440 * below(2) : 1;
     party_span = 1 + below(one_in(3) ? ENTRY_STORE_SESSIONS : 4);
     wild = one_in(4) ? 6 : one_in(2) ? 60 : 1000;
 }
@@ -1126,7 +1543,8 @@ static void grow_tree(uint32_t inserts)
 {
     call(plain(BEGIN, 1));
     for (uint32_t k = 0; k < inserts; k++) {
-        struct asked insert = {PUT, 1, ENTRY_STORE_INSERT, 1 + below(store[0]), 1 + below(key_span), 0, 0};
+        uint32_t entry = 1 + below(store[0]), key = key_from + below(key_span);
+        struct asked insert = {PUT, 1, ENTRY_STORE_INSERT, entry, key, 0, 0};
         call(insert);
         while (call(plain(STEP, 1)).word == ENTRY_STORE_MORE) {
         }
@@ -1142,6 +1560,7 @@ static void grow_tree(uint32_t inserts)
 static void tall_run(void)
 {
     key_span = one_in(2) ? 2000 : 4294967293u;
+    key_from = key_span == 2000 && one_in(2) ? 2 * 1048576 : 1;
     wild = 1000;
     fresh_store(1 + below(40), 500 + below(500), below(20));
     grow_tree(150 + below(150));
@@ -1150,6 +1569,20 @@ static void tall_run(void)
         call(sensible_call(0));
     }
     random_calls(100);
+}
+
+// Mostly days of cards, by few sessions, with room for many stretches.
+static void days_run(void)
+{
+    wild = 1000;
+    party_span = 1 + below(3);
+    fresh_store(60 + below(965), 300 + below(900), 0);
+    for (uint32_t k = 0; k < 60; k++) {
+        read_days();
+        if (one_in(4)) {
+            random_calls(1);
+        }
+    }
 }
 
 // How many calls a run on this store is worth.
@@ -1258,18 +1691,33 @@ static void lock_counts(void)
     fact(entry_store_lock_count(holders) == ones, "the lock count is the number of ones");
 }
 
-static void run(uint64_t number)
+// The numbers of a run are its own; nothing is left of the run before.
+static void begin_run(uint64_t number)
 {
     run_number = number;
     call_number = 0;
     state = seed * UINT64_C(0x2545f4914f6cdd1d) + number * UINT64_C(0x9fb21c651e98df25);
     memset(waits, 0, sizeof waits);
+    for (size_t p = 0; p < ENTRY_STORE_PARTIES; p++) {
+        readings[p].length = 0;
+    }
     choose_arguments();
     lend_list(below(200));
     lend_asks(0, 0);
+    lend_bytes(0);
+    lend_values(0);
     lock_counts();
+}
+
+static void run(uint64_t number)
+{
+    begin_run(number);
     if (one_in(40)) {
         tall_run();
+        return;
+    }
+    if (one_in(40)) {
+        days_run();
         return;
     }
     switch (below(10)) {
@@ -1303,8 +1751,8 @@ static void print_counts(uint64_t runs)
     for (int k = 0; k < 4; k++) {
         printf("%9s", words[k]);
     }
-    for (int k = 1; k <= 14; k++) {
-        printf("%9d", k <= 12 ? k : k - 12 + 100);
+    for (int k = 1; k < COLUMNS - 4; k++) {
+        printf("%9d", k <= LAST_REFUSAL ? k : k - LAST_REFUSAL + 100);
     }
     printf("\n");
     for (int c = 0; c < ROWS; c++) {
@@ -1323,7 +1771,10 @@ static void print_counts(uint64_t runs)
     }
     printf(" of these removed a descriptor %llu; the highest tree had %u levels\n",
            (unsigned long long)reached.removed, reached.levels);
-    printf("the longest run had %u steps, the longest batch %u asks\n", reached.steps, reached.asks);
+    printf(
+        "the longest run had %u steps, the longest batch %u asks; %llu days were read to their ends, of at "
+        "most %u stretches\n",
+        reached.steps, reached.asks, (unsigned long long)reached.days, reached.stretches);
     printf("%llu runs; words damaged %llu times, and still sound %llu times\n", (unsigned long long)runs,
            (unsigned long long)reached.damaged, (unsigned long long)reached.still_sound);
 }
@@ -1418,6 +1869,8 @@ int main(int argc, char **argv)
     make_room(&list_room, MAX_LIST * sizeof *list);
     make_room(&asks_room, MAX_ASK_WORDS * sizeof *asks);
     make_room(&answers_room, MAX_ANSWERS * sizeof *answers);
+    make_room(&bytes_room, MAX_BYTES);
+    make_room(&values_room, MAX_VALUES * sizeof *values);
     seed = argc > 2 ? strtoull(argv[2], NULL, 10) : 1;
     uint64_t runs = 1;
     if (argc > 3) {

@@ -4,7 +4,8 @@
 # Runs hello, day, host and dump of FOLDER, and ../desk.py over its shared object where python3 is there. What they print
 # is compared with the files in expected/, or written there.
 #   hello.txt      what ../hello.c prints
-#   day.txt        what day.c prints: sessions of one call, and a wait
+#   day.txt        what day.c prints: sessions of one call, a wait, and a card that is read and written out again
+#   days.txt       how many lines day has played of the scripts in days/, each with its answer, and how many differ
 #   desk.txt       what ../desk.py prints
 #   timeline.txt   the host's rounds, from begin to end
 #   dump.txt       the image that it saves in the middle, and the holders of four keys
@@ -12,7 +13,7 @@
 #   damaged.txt    the same image with a member's chain that leads into itself, in full
 #   parts.txt      the image damaged in ten ways, one for each part of soundness; each can be drawn too
 #   short.txt      images that are cut short must be turned down
-#   words.txt      wrong options and files, with the reasons
+#   words.txt      wrong options and files, with the reasons, and a script whose answers are others
 set -eu
 folder=$1
 mode=$2
@@ -106,11 +107,21 @@ told() {
     sed "s|$folder/||g" "$folder/told"
 }
 
+# All scripts of a folder are played in one go: another one is only put there.
+days() {
+    "$folder/day" "$here"/days/*.txt | sed "s|$here/||"
+}
+
 words() {
     told 0 "$folder/host" --help
     told 0 "$folder/dump" --help
+    told 0 "$folder/day" --help
     told 2 "$folder/host" --nothing
     told 2 "$folder/dump" --nothing "$image"
+    told 2 "$folder/day" --nothing
+    told 2 "$folder/day" "$folder/none.txt"
+    printf 'store 1 8 2 = ok\nb 1 = more\nb one = ok\nb 1\nb 2 = ok\n' >"$folder/wrong.txt"
+    told 1 "$folder/day" "$folder/wrong.txt"
     told 2 "$folder/dump" "$image" 17 2/4/25:00
     told 2 "$folder/dump" "$folder/none.image"
     told 2 "$folder/dump" --dot "$folder/none.image"
@@ -122,6 +133,8 @@ words() {
 hold hello.txt <"$folder/said"
 "$folder/day" >"$folder/said"
 hold day.txt <"$folder/said"
+days >"$folder/said"
+hold days.txt <"$folder/said"
 if command -v python3 >/dev/null 2>&1; then
     python3 "$here/../desk.py" "$folder/libentry_store.so" >"$folder/said"
     hold desk.txt <"$folder/said"

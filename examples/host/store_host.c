@@ -206,6 +206,53 @@ struct entry_store_answer host_session(struct store_host *h, struct entry_store_
     }
 }
 
+// ---- a card's day
+
+struct entry_store_answer host_day_call(struct store_host *h, uint32_t party, const struct card_day *d,
+                                        uint32_t *place)
+{
+    uint64_t answer = entry_store_day(h->words, h->length, h->table, ENTRY_STORE_PARTIES, d->bytes, d->length,
+                                      party, d->driver, d->start, d->entry, *place);
+    if (entry_store_word_of(answer) != ENTRY_STORE_REFUSED) {
+        *place = entry_store_place_of(answer);
+    }
+    return entry_store_unpack(answer);
+}
+
+struct entry_store_answer host_day(struct store_host *h, uint32_t party, const struct card_day *d,
+                                   uint32_t *place, wait_handler on_wait, void *context)
+{
+    struct entry_store_answer a;
+    do {
+        a = host_day_call(h, party, d, place);
+    } while (a.word == ENTRY_STORE_OK || goes_on(a, party, on_wait, context));
+    return a;
+}
+
+// One value more than a day has minutes is too many already, so no more are read.
+struct entry_store_answer host_day_bytes(struct store_host *h, uint32_t party, uint32_t driver,
+                                         uint32_t start, struct pair_list *list, uint8_t *bytes,
+                                         size_t length, wait_handler on_wait, void *context)
+{
+    uint32_t values[DAY_MINUTES + 1], key = key_of(driver, start), count = 0;
+    struct request locate = {ENTRY_STORE_LOCATE, 0, key, key + DAY_MINUTES - 1};
+    struct entry_store_answer found = host_run(h, party, locate, list, on_wait, context);
+    if (found.word != ENTRY_STORE_DONE) {
+        return found;
+    }
+    for (; count < found.value && count <= DAY_MINUTES; count++) {
+        struct request read = {ENTRY_STORE_READ, list->words[2 * count + 1], 0, 0};
+        struct entry_store_answer a = host_run(h, party, read, NULL, on_wait, context);
+        if (a.word != ENTRY_STORE_DONE) {
+            return a;
+        }
+        values[count] = a.value;
+    }
+    struct pair_list l = lent(list);
+    return entry_store_unpack(
+        entry_store_day_bytes(l.words, l.length, values, count, driver, start, bytes, length));
+}
+
 // ---- texts
 
 static const char *const parts[] = {

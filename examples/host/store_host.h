@@ -1,6 +1,6 @@
 // What a host program wants around the calls of the entry store: the lent
-// words and the session table kept together, a request and a session run to
-// their ends, lists that grow.
+// words and the session table kept together, a request, a session and a card's
+// day run to their ends, lists that grow.
 //
 // The store has no threads and no lock of its own: make one call at a time
 // (docs/HOST.md). Nothing here keeps state but what a caller hands in.
@@ -93,12 +93,38 @@ struct entry_store_answer host_run(struct store_host *h, uint32_t party, struct 
 struct entry_store_answer host_session(struct store_host *h, struct entry_store_ask *asks, size_t count,
                                        uint64_t *answers, size_t *made, wait_handler on_wait, void *context);
 
+// A day of a driver's card: its bytes, its driver, the minute in which it starts (a driver's minutes count
+// on from day to day), and the entry that its first stretch gets.
+struct card_day {
+    const uint8_t *bytes;
+    size_t length;
+    uint32_t driver, start, entry;
+};
+
+// One call of a day. The place is 0 when the day begins; it is set to the one that the call answers, and a
+// refusal leaves it.
+struct entry_store_answer host_day_call(struct store_host *h, uint32_t party, const struct card_day *d,
+                                        uint32_t *place);
+
+// Calls of a day from the place on, until one is answered neither ok nor more, and gives this last answer:
+// done with the number of stretches, a refusal, or a wait that the handler gave up. After a wait, and after a
+// refusal that could be helped, the same call goes on from the place.
+struct entry_store_answer host_day(struct store_host *h, uint32_t party, const struct card_day *d,
+                                   uint32_t *place, wait_handler on_wait, void *context);
+
+// Writes out what a session finds of a driver's day: it locates the day, reads each entry found, and has the
+// bytes written. Done with how many they are; or the answer that stopped it, as host_run gives it; or the
+// refusal 103, where what stands there is no card's day or there is too little room.
+struct entry_store_answer host_day_bytes(struct store_host *h, uint32_t party, uint32_t driver,
+                                         uint32_t start, struct pair_list *list, uint8_t *bytes,
+                                         size_t length, wait_handler on_wait, void *context);
+
 // What a sound store has, for each part of soundness (enum entry_store_part; docs/RULES.md, section 4). A
 // seize count is a descriptor's pins, a short lock a latch, a walk a descent, a take-back an undo record.
 const char *part_in_full(uint32_t part);
 
-// The planner's keys: driver x 1,048,576 + minute. The store doesn't care.
-enum { KEYS_A_DRIVER = 1048576, DAY_MINUTES = 1440 };
+// The planner's keys: driver x 1,048,576 + minute. Only the calls of a card's day care.
+enum { KEYS_A_DRIVER = ENTRY_STORE_DRIVER_KEYS, DAY_MINUTES = ENTRY_STORE_DAY_MINUTES };
 
 uint32_t key_of(uint32_t driver, uint32_t minute);
 

@@ -44,44 +44,54 @@ pub const LINES: usize = 32;
 
 pub const MADE: usize = 33;
 
-pub const ANSWERED: usize = 39;
+pub const ANSWERED: usize = 40;
 
-pub const REFUSED: usize = 41;
+pub const REFUSED: usize = 42;
 
 // Views compared, keys compared, calls that had to change nothing, replays of committed and of other sessions, finished requests, contents compared,
 // aborts of copies, questions to the checker, damaged copies found sound and unsound, the greatest height and number of descriptors.
-pub const VIEWS: usize = 83;
+pub const VIEWS: usize = 86;
 
-pub const KEYS_SEEN: usize = 84;
+pub const KEYS_SEEN: usize = 87;
 
-pub const UNCHANGED: usize = 86;
+pub const UNCHANGED: usize = 89;
 
-pub const COMMITTED: usize = 87;
+pub const COMMITTED: usize = 90;
 
-pub const UNFINISHED: usize = 88;
+pub const UNFINISHED: usize = 91;
 
-pub const REQUESTS: usize = 89;
+pub const REQUESTS: usize = 92;
 
-pub const CONTENTS: usize = 90;
+pub const CONTENTS: usize = 93;
 
-pub const COPIES_ABORTED: usize = 91;
+pub const COPIES_ABORTED: usize = 94;
 
-pub const CHECKED: usize = 92;
+pub const CHECKED: usize = 95;
 
-pub const DAMAGED_SOUND: usize = 93;
+pub const DAMAGED_SOUND: usize = 96;
 
-pub const DAMAGED_UNSOUND: usize = 94;
+pub const DAMAGED_UNSOUND: usize = 97;
 
-pub const HEIGHT: usize = 95;
+pub const HEIGHT: usize = 98;
 
-pub const DESCRIPTORS: usize = 96;
+pub const DESCRIPTORS: usize = 99;
+
+// Of the day calls that were not refused: those that put a request, those that were a step; the steps that finished a request before the day's last, and
+// the last.
+pub const DAY_PUTS: usize = 100;
+
+pub const DAY_STEPS: usize = 101;
+
+pub const DAY_REQUESTS: usize = 102;
+
+pub const DAYS: usize = 103;
 
 // The first difference: round and call, the number of the store and that of the model; how many differences there are; what differs first.
-pub const FIRST: usize = 97;
+pub const FIRST: usize = 104;
 
-pub const DIFFERENCES: usize = 101;
+pub const DIFFERENCES: usize = 108;
 
-pub const WHAT: usize = 102;
+pub const WHAT: usize = 109;
 
 // What may differ.
 pub const WORD: u32 = 1;
@@ -133,6 +143,8 @@ pub const LOGICAL_VALUE: u32 = 23;
 pub const LOGICAL_GROUP: u32 = 24;
 
 pub const DAMAGE: u32 = 25;
+
+pub const PLACE: u32 = 26;
 
 fn tell_first(b: &mut Book, what: u32, left: u32, right: u32) {
     copy(b, ROUND, FIRST, 2);

@@ -18,7 +18,10 @@ pub const COMMIT: u32 = 4;
 
 pub const ABORT: u32 = 5;
 
-// A call. Of a format, entry is M and first the number of words; of a step, first is the number of words of the list.
+pub const DAY: u32 = 6;
+
+// A call. Of a format, entry is M and first the number of words; of a step, first is the number of words of the list; of a day call, code is the place,
+// first the driver and second the start, and the bytes are those that the party keeps.
 pub struct Call {
     pub kind: u32,
     pub party: u32,
@@ -75,5 +78,18 @@ pub fn say(word: u32, first: u32, second: u32) -> Said {
         word: word,
         first: first,
         second: second,
+    }
+}
+
+// What is said of a day call: its answer, and the place, 0 at a refusal.
+pub struct Told {
+    pub said: Said,
+    pub place: u32,
+}
+
+pub fn tell(said: Said, place: u32) -> Told {
+    Told {
+        said: said,
+        place: place,
     }
 }

@@ -36,9 +36,9 @@ fn tell_line(text: &[u8], n: u32) {
 // The label of line n.
 fn tell_label(n: u32) {
     tell_line(
-        b" calls on both, of these\n   format\n   begin\n   put\n   step\n   commit\n   abort\n answered ok
+        b" calls on both, of these\n   format\n   begin\n   put\n   step\n   commit\n   abort\n   day\n answered ok
  answered more\n answered wait\n answered done\n refused, of these\n   by 3\n   by 4\n   by 5\n   by 6
-   by 7\n   by 8\n   by 9\n   by 10\n   by 11\n   by 12
+   by 7\n   by 8\n   by 9\n   by 10\n   by 11\n   by 12\n   by 13\n   by 14
  roots split\n nodes below the root split\n joins with the left neighbour\n joins with the right neighbour
  moves from the left neighbour\n moves from the right neighbour\n roots dropped
  roots dropped and split in one step\n descriptors made\n descriptors made in a held gap
@@ -53,6 +53,8 @@ fn tell_label(n: u32) {
  finished requests of sessions\n comparisons with the logical content\n aborts on copies for these
  stores sound to the checker\n copies with a word changed sound to both judges
  copies with a word changed refused by both, by 2\n levels of nodes at most\n descriptors at most
+ requests put by day calls\n steps by day calls\n requests of a day finished before its last
+ days finished
  round of the first difference\n call in it\n number of the store\n number of the model\n differences
 ",
         n,
@@ -88,17 +90,18 @@ the abort of a copy
 the logical value of an entry
 the logical members of a key
 the soundness of a damaged copy
+the place of a day
 ",
         what,
     );
 }
 
-// The number of line n: from 22 to 50 an event of the model; 53 is how often the lists were compared, which is at each call.
+// The number of line n: from 25 to 53 an event of the model; 56 is how often the lists were compared, which is at each call.
 fn number(a: &Model, b: &Book, n: u32) -> u32 {
-    if 21 < n && n < 51 {
-        return naive::counted(a, n - 22);
+    if 24 < n && n < 54 {
+        return naive::counted(a, n - 25);
     }
-    if n == 53 {
+    if n == 56 {
         return get(b, LINES);
     }
     get(b, LINES + wide(n))
@@ -118,10 +121,10 @@ fn tell_rows(a: &Model, b: &Book, from: u32, end: u32) {
 }
 
 pub fn report(a: &Model, b: &Book) {
-    tell_rows(a, b, 0, 65);
+    tell_rows(a, b, 0, 72);
     if get(b, DIFFERENCES) != 0 {
-        tell_rows(a, b, 65, 69);
+        tell_rows(a, b, 72, 76);
         tell_what(get(b, WHAT));
     }
-    tell_row(a, b, 69);
+    tell_row(a, b, 76);
 }

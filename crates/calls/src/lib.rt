@@ -1,17 +1,20 @@
-// Calls: the six calls, a run, a request and a batch, on the words of a store and on the session table by value.
+// Calls: the six calls, a run, a request, a batch and a day call, on the words of a store and on the session table by value.
 //
 // Each tests store and table first (not format), once, and then serves. The six promise one relation of the crate promises: refused 2 exactly if store or table
 // is not sound, and then nothing is changed; else the answer is the machine's, and store and table mean the machine's next state (Calls); of format, that an
-// accepted one leaves a fresh store (Formats). A run, a request and a batch promise to be lists of ordinary calls (promises, specs/Runs; batches, specs/Batches).
-// Demands 1 to 3 over these promises stand there too. It rests on soundness for the test, on refusals and accepted for format, on serving, running and batches
-// for the rest.
+// accepted one leaves a fresh store (Formats). A run, a request and a batch promise to be lists of ordinary calls (promises, specs/Runs; batches, specs/Batches),
+// a day call to be one put or step with its answer renamed (day_calls, specs/Calling). Demands 1 to 3 over these promises stand there too. It rests on soundness
+// for the test, on refusals and accepted for format, on serving, running, batches and day_calls for the rest.
 ghost use mathlib.Core.List.{[]};
 ghost use Rattle.serial.specs.Calls as C;
 ghost use Rattle.outcomes.specs.Said.{said};
 ghost use Rattle.promises.specs.Relations.{Calls, Formats};
 ghost use Rattle.promises.specs.Runs.{Runs, Requests};
 ghost use Rattle.batches.specs.Batches.{Batches};
+ghost use Rattle.day_calls.specs.Calling.{handed, Days};
 use outcomes::Answer;
+use outcomes::DayAnswer;
+use outcomes::DayServed;
 use outcomes::Ran;
 use outcomes::Served;
 use sessions::PARTIES;
@@ -181,5 +184,30 @@ pub fn batch(
     Served {
         table: t,
         answer: Answer::Refused(102, 0),
+    }
+}
+
+// ---- a card's day
+
+// One call of a day: its bytes, the driver, the minute that it starts at, the first entry, and the place that the call before returned, 0 for the first.
+pub fn day(
+    store: &mut [u32],
+    t: [Session; PARTIES],
+    p: u32,
+    bytes: &[u8],
+    driver: u32,
+    start: u32,
+    entry: u32,
+    place: u32,
+) -> DayServed
+    ensures { λ r. ⌜ Days p (handed (now (bytes .entry)) driver start entry place) (now (store .entry)) t (r .answer) (now (store .exit)) (r .table) ⌝ }
+{
+    let good = soundness::is_sound(store, t);
+    if good {
+        return day_calls::day(store, t, p, bytes, driver, start, entry, place);
+    }
+    DayServed {
+        table: t,
+        answer: DayAnswer::Refused(2, 0),
     }
 }

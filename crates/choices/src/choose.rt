@@ -1,4 +1,7 @@
 // Choose: the next call, by chance.
+use crate::days::begin_day;
+use crate::days::go_on;
+use crate::days::goes_on;
 use crate::keys::any_word;
 use crate::keys::some_descriptor;
 use crate::keys::some_entry;
@@ -120,7 +123,7 @@ fn any_call(b: &mut Book, kind: u32) -> Call {
 }
 
 fn raw(b: &mut Book) -> Call {
-    let kind = below(b, 6);
+    let kind = below(b, 7);
     if kind == call::FORMAT {
         bad_format(b)
     } else {
@@ -220,6 +223,9 @@ fn commits(b: &mut Book, n: u32) -> bool {
     0 < n && chance(b, k, 32)
 }
 
+// One of so many new requests of sessions is the first of a day.
+const DAYS: u32 = 8;
+
 // A begun session with no request in hand.
 fn idle(s: &Side, b: &mut Book, p: u32) -> Call {
     let n = get(b, hand(p) + FINISHED);
@@ -227,6 +233,8 @@ fn idle(s: &Side, b: &mut Book, p: u32) -> Call {
         plain(call::COMMIT, p)
     } else if chance(b, 1, 30) {
         plain(call::ABORT, p)
+    } else if chance(b, 1, DAYS) {
+        begin_day(s, b, p)
     } else {
         some_request(s, b, p)
     }
@@ -277,7 +285,9 @@ fn some_session(b: &mut Book) -> u32 {
 // A call of a session, as it stands.
 fn of_session(s: &Side, a: &Model, b: &mut Book) -> Call {
     let p = some_session(b);
-    if naive::in_hand(a, p) {
+    if goes_on(a, b, p) {
+        go_on(b, p)
+    } else if naive::in_hand(a, p) {
         busy(b, p)
     } else if naive::begun(a, p) {
         idle(s, b, p)

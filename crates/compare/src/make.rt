@@ -1,5 +1,6 @@
 // Make: a call made on both, and all that is compared after it.
 use crate::content::see_copy;
+use crate::days::day_on_store;
 use crate::judge::judge;
 use crate::serve::on_store;
 use books::book::ASKED;
@@ -7,6 +8,7 @@ use books::book::CALL;
 use books::book::Model;
 use books::call::COMMIT;
 use books::call::Call;
+use books::call::DAY;
 use books::call::OK;
 use books::call::store_words;
 use books::looks::see;
@@ -17,6 +19,7 @@ use schedules::side::Side;
 use schedules::side::copy;
 use turns::answers::is_still;
 use turns::answers::see_call;
+use turns::days::see_day;
 use turns::hands::after;
 use turns::model::on_model;
 
@@ -42,7 +45,16 @@ fn look(s: &mut Side, a: &Model, b: &mut Book, is_commit: bool, is_change: bool)
     }
 }
 
-pub fn make(s: &mut Side, a: &mut Model, b: &mut Book, c: Call) {
+fn make_day(s: &mut Side, a: &mut Model, b: &mut Book, c: Call) {
+    copy(s, 0, SIDE);
+    let x = day_on_store(s, b, c);
+    see_day(s, a, b, c, x);
+    let word = x.said.word;
+    let first = x.said.first;
+    look(s, a, b, false, !is_still(word, first));
+}
+
+fn make_other(s: &mut Side, a: &mut Model, b: &mut Book, c: Call) {
     copy(s, 0, SIDE);
     let x = on_store(s, b, store_words(b, c), c);
     let y = on_model(a, b, c);
@@ -50,4 +62,12 @@ pub fn make(s: &mut Side, a: &mut Model, b: &mut Book, c: Call) {
     after(b, c, x.word, x.first);
     let is_commit = c.kind == COMMIT && x.word == OK;
     look(s, a, b, is_commit, !is_still(x.word, x.first));
+}
+
+pub fn make(s: &mut Side, a: &mut Model, b: &mut Book, c: Call) {
+    if c.kind == DAY {
+        make_day(s, a, b, c);
+    } else {
+        make_other(s, a, b, c);
+    }
 }

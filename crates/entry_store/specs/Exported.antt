@@ -1,12 +1,14 @@
--- What the exported calls promise: what the store's call of that name promises (store, specs/Lent, specs/Listed), of an answer whose packing is returned.
+-- What the exported calls promise: what the store's call of that name promises (store, specs/Lent, specs/Listed, specs/Batched, specs/Days), of an answer whose
+-- packing is returned.
 use mathlib.Core.Path.{_≡_, refl, sym, ap, subst, _∙_}
-use mathlib.Core.Bool.{cond}
-use mathlib.Core.List.{List}
+use mathlib.Core.Bool.{Bool, true, false, cond, _&&_}
+use mathlib.Core.List.{List, [], _∷_, _++_}
 use mathlib.Core.Logic.{_↔_}
-use Prim.Native.Nat.{ℕ, _<_}
+use Prim.Native.Nat.{ℕ, _*_, _≤_, _<_}
 use native.Mathlib.Omega.{arith}
-use lib.Dec.{eqb, lit<}
-use lib.ListN.{length}
+use lib.Dec.{eqb, leb, lit<}
+use borrow.Author.Tests.{leb-true}
+use lib.ListN.{length, drop}
 use Rattle.sessions.specs.declared.Session.{Session}
 use Rattle.sessions.specs.Sessions.{parties}
 use Rattle.machine.specs.Logic.{eqb-yes, eqb-no}
@@ -16,14 +18,19 @@ use Rattle.sound.specs.Sound.{firstFault}
 use Rattle.soundness.specs.Parts.{Table, table-fault, Part}
 use Rattle.soundness.specs.Named.{fault-broken, fault-first}
 use Rattle.soundness.specs.Exactly.{sound-parts, fault-none}
+use Rattle.serial.specs.Serial.{true≢false}
 use Rattle.serial.specs.Calls as C
 use Rattle.outcomes.specs.declared.Answer.{Answer}
 use Rattle.outcomes.specs.declared.Answer.the-variants.{Refused}
+use Rattle.outcomes.specs.declared.DayAnswer.{DayAnswer}
 use Rattle.outcomes.specs.Said.{said}
 use Rattle.store.specs.Lent.{Effect, OnTable, SteppedOnTable}
 use Rattle.store.specs.Listed.{Listed, ListedOnTable}
 use Rattle.store.specs.Batched.{BatchEffect, BatchedOnTable}
-use Rattle.packing.specs.Packed.{Packs, PacksMade}
+use Rattle.store.specs.declared.DayAsk.{DayAsk}
+use Rattle.store.specs.Days.{DayEffect, DayOnTable}
+use Rattle.card_days.specs.Day.{day-key, written-out, valued, all-of-day, writable, WritesDay}
+use Rattle.packing.specs.Packed.{Packs, PacksMade, PacksDay}
 
 -- Store and table as they were, the argument, the number that is returned, store and table as they are left.
 pub record Told {D : Type 0} (E : Effect D) (s : List ℕ) (t : List Session) (k : D) (r : ℕ) (s′ : List ℕ) (t′ : List Session) : Type 0 where
@@ -53,6 +60,46 @@ pub record ToldBatch (E : BatchEffect) (w s : List ℕ) (t : List Session) (l v 
   pub packs : Packs (said answer) r
   pub table-long : length t′ ≡ length t
   pub does : BatchedOnTable E w s t l v answer v′ l′ s′ t′
+
+-- A day call has lent bytes, and tells with the answer the place that the next one is to be handed.
+pub record ToldDay (E : DayEffect) (s : List ℕ) (t : List Session) (bytes : List ℕ) (k : DayAsk) (r : ℕ) (s′ : List ℕ) (t′ : List Session) : Type 0 where
+  pub answer : DayAnswer
+  pub packs : PacksDay answer r
+  pub table-long : length t′ ≡ length t
+  pub does : DayOnTable E s t bytes k answer s′ t′
+
+-- A day written out again (card_days, specs/Day): done with how many bytes, and they are the day's; or refused 103, and the bytes are as they were.
+pub record WritesOut (pairs values : List ℕ) (driver start r : ℕ) (bytes bytes′ : List ℕ) : Type 0 where
+  pub writes : writable (day-key driver start) pairs values (length bytes) ≡ true
+      → Packs (C.done (2 * length values ∷ [])) r × (bytes′ ≡ written-out (day-key driver start) (valued pairs values) ++ drop (2 * length values) bytes)
+  pub refuses : writable (day-key driver start) pairs values (length bytes) ≡ false → Packs (C.refused 103 0) r × (bytes′ ≡ bytes)
+
+-- At most 1,440 values are,
+pub writable-few : (k0 : ℕ) (pairs values : List ℕ) (room : ℕ) → writable k0 pairs values room ≡ true → length values ≤ 1440
+unfolding writable
+writable-few k0 pairs values room e = go (leb (length values) 1440) refl e
+  where
+    rest : Bool
+    rest = leb (2 * length values) (length pairs) && (leb (2 * length values) room && all-of-day k0 (valued pairs values))
+
+    go : (b : Bool) → leb (length values) 1440 ≡ b → (b && rest) ≡ true → length values ≤ 1440
+    go true q z = leb-true (length values) 1440 q
+    go false q z = absurd (true≢false {b = false} z refl)
+
+-- and the two ways out.
+pub written-way : (pairs values : List ℕ) (driver start r n : ℕ) (bytes bytes′ : List ℕ) (b : Bool) → WritesDay (day-key driver start) pairs values bytes b bytes′ → b ≡ true → n ≡ 2 * length values
+    → Packs (C.done (n ∷ [])) r → WritesOut pairs values driver start r bytes bytes′
+written-way pairs values driver start r n bytes bytes′ b h e m P = record {
+  writes = λ _. (subst (λ (z : ℕ). Packs (C.done (z ∷ [])) r) m P, h .bytes ∙ ap (λ (z : Bool). cond z (written-out (day-key driver start) (valued pairs values) ++ drop (2 * length values) bytes) bytes) e);
+  refuses = λ z. absurd (true≢false (sym (h .is) ∙ e) z);
+}
+
+pub unwritten-way : (pairs values : List ℕ) (driver start r : ℕ) (bytes bytes′ : List ℕ) (b : Bool) → WritesDay (day-key driver start) pairs values bytes b bytes′ → b ≡ false
+    → Packs (C.refused 103 0) r → WritesOut pairs values driver start r bytes bytes′
+unwritten-way pairs values driver start r bytes bytes′ b h e P = record {
+  writes = λ z. absurd (true≢false z (sym (h .is) ∙ e));
+  refuses = λ _. (P, h .bytes ∙ ap (λ (z : Bool). cond z (written-out (day-key driver start) (valued pairs values) ++ drop (2 * length values) bytes) bytes) e);
+}
 
 -- ---- what only reads
 

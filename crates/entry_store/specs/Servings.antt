@@ -1,10 +1,12 @@
--- Lists of calls with runs, requests and batches among them, as a C program sees them: answers and steps are read off the numbers. Demand 3 of them.
+-- Lists of calls with runs, requests, batches and day calls among them, as a C program sees them: answers, steps and places are read off the numbers. Demand 3
+-- of them.
 use mathlib.Core.Path.{_≡_, refl, sym, ap, subst, _∙_}
-use mathlib.Core.Bool.{true}
+use mathlib.Core.Bool.{Bool, true, false, cond}
 use mathlib.Core.List.{List, [], _∷_, _++_}
-use Prim.Native.Nat.{ℕ, zero, suc, _/_, _%_}
+use Prim.Native.Nat.{ℕ, zero, suc, _+_, _*_, _/_, _%_}
 use native.Mathlib.Decide.{ℕ-discrete}
 use native.Mathlib.Omega.{arith}
+use lib.Dec.{ltb}
 use lib.ListN.{length, replicate}
 use Rattle.sessions.specs.declared.Session.{Session}
 use Rattle.sessions.specs.Sessions.{parties}
@@ -17,7 +19,9 @@ use Rattle.machine.specs.Ledger.{no-locks, ledger-after}
 use Rattle.machine.specs.Held.{calls-on}
 use Rattle.outcomes.specs.declared.Answer.{Answer}
 use Rattle.outcomes.specs.declared.Answer.the-variants.{Refused}
-use Rattle.outcomes.specs.Said.{said}
+use Rattle.outcomes.specs.declared.DayAnswer.{DayAnswer}
+use Rattle.outcomes.specs.declared.DayAnswer.the-variants as Day
+use Rattle.outcomes.specs.Said.{said, day-said, day-place}
 use Rattle.promises.specs.Demands.{Lending, words}
 use Rattle.promises.specs.Holding.{holders-in}
 use Rattle.promises.specs.Runs.{calling, put-turn, step-turn, steps}
@@ -27,17 +31,24 @@ use Rattle.asking.specs.declared.Asking.the-variants as K
 use Rattle.asking.specs.Asks.{asking-at}
 use Rattle.batches.specs.Batches.{Asks, MadeAt, Batched, none, last, goes, Fits}
 use Rattle.batches.specs.Demand3.{seen, batch-seen}
+use Rattle.serial.specs.Serial.{true≢false}
+use Rattle.refusals.specs.Refusing.{first-of}
+use Rattle.meaning.specs.Sound.{Sound}
+use Rattle.day_calls.specs.Calling.{Handed, day-count, day-refusal, ordinary, renamed, DayServes, Days}
+use Rattle.day_calls.specs.Lists.{day, Is, one-is}
+use Rattle.store.specs.declared.DayAsk.{DayAsk}
 use Rattle.store.specs.declared.Go.{Go}
 use Rattle.store.specs.declared.Wish.{Wish}
 use Rattle.store.specs.Lent.{Formatted}
 use Rattle.store.specs.Listed.{Listed, RanBy, AskedBy}
 use Rattle.store.specs.Batched as SB
-use Rattle.store.specs.Turns.{Loan, TurnedAway}
+use Rattle.store.specs.Days.{handed-by, DayBy, served-calls}
+use Rattle.store.specs.Turns.{Sound-lent, sound-long, Loan, TurnedAway}
 use Rattle.store.specs.Servings.{SeenOf, Returned, LoanRefused, Away, Returneds, returneds-demand-3, returneds-holders}
 use Rattle.store.specs.Servings as L
-use Rattle.packing.specs.Packed.{unpacked, PacksMade, made-steps, made-answer}
+use Rattle.packing.specs.Packed.{unpacked, unpacked-day, PacksMade, made-steps, made-answer, day-unpacked, day-place-read}
 use Rattle.entry_store.specs.Brief.{brief, calls-brief}
-use Rattle.entry_store.specs.Exported.{Told, ToldMade, ToldBatch}
+use Rattle.entry_store.specs.Exported.{Told, ToldMade, ToldBatch, ToldDay}
 use Rattle.entry_store.specs.Turns.{small-of, Exchange, turn-of, Exported, lends, format-ok}
 
 -- ---- the answer and the steps read off the number
@@ -96,9 +107,64 @@ module _ {w : List ℕ} where
   batch-reads (goes {i} {r} {a = a} {l = l} {l₁ = l₁} m e b) =
       ap (λ z. z ++ batch-read b) (seen-read m) ∙ ap (λ z. seen (asking-at w i) l a (m .steps) l₁ ++ z) (batch-reads b)
 
+-- ---- a day call's answer, read off its number
+
+brief-renamed : (n j : ℕ) (i : C.Answer) → brief i ≡ true → brief (day-said (renamed n j i)) ≡ true
+brief-renamed n j C.ok e = refl
+brief-renamed n j C.more e = refl
+brief-renamed n j (C.wait q) e = refl
+brief-renamed n j (C.done ns) e = go (ltb (j + 1) (2 * n))
+  where
+    go : (b : Bool) → brief (day-said (cond b (Day.More (j + 1)) (Day.Done n (j + 1)))) ≡ true
+    go true = refl
+    go false = refl
+brief-renamed n j (C.refused m k) e = e
+
+-- Its own refusals have small numbers,
+small-first : (a b c d e f g : Bool) → ltb (first-of ((4, a) ∷ (5, b) ∷ (6, c) ∷ (13, d) ∷ (14, e) ∷ (8, f) ∷ (9, g) ∷ [])) 256 ≡ true
+unfolding first-of
+small-first true b c d e f g = refl
+small-first false true c d e f g = refl
+small-first false false true d e f g = refl
+small-first false false false true e f g = refl
+small-first false false false false true f g = refl
+small-first false false false false false true g = refl
+small-first false false false false false false true = refl
+small-first false false false false false false false = refl
+
+-- and the call that it is has a brief answer.
+serves-brief : (p : ℕ) (h : Handed) (s : List ℕ) (t : List Session) (a : DayAnswer) (s′ : List ℕ) (t′ : List Session) → Sound s t → DayServes p h s t a s′ t′ → brief (day-said a) ≡ true
+serves-brief p h s t a s′ t′ S d = go (ℕ-discrete (day-refusal s t p h) 0)
+  where
+    go : Dec (day-refusal s t p h ≡ 0) → brief (day-said a) ≡ true
+    go (yes z) =
+        let R = d .accepts z in
+        let c = calls-brief (ordinary t p h) s t (R .inner) [] s′ t′ (served-calls (ordinary t p h) s t (R .inner) [] s′ t′ S (R .serves)) in
+        ap (λ (b : DayAnswer). brief (day-said b)) (R .answer) ∙ brief-renamed (day-count h) (h .place) (R .inner) c
+    go (no n) = ap (λ (b : DayAnswer). brief (day-said b)) (d .refuses n .answer) ∙ small-first _ _ _ _ _ _ _
+
+days-brief : (p : ℕ) (h : Handed) (s : List ℕ) (t : List Session) (a : DayAnswer) (s′ : List ℕ) (t′ : List Session) → Days p h s t a s′ t′ → brief (day-said a) ≡ true
+days-brief p h s t a s′ t′ d = go (brief (day-said a)) refl
+  where
+    go : (b : Bool) → brief (day-said a) ≡ b → brief (day-said a) ≡ true
+    go true e = e
+    go false e = absurd (true≢false (ap (λ (b : DayAnswer). brief (day-said b)) (d .unsound (λ S. true≢false (serves-brief p h s t a s′ t′ S (d .answers S)) e) .answer)) e)
+
+-- So the number has the answer, whole, and the place.
+pub day-reads : {s : List ℕ} {t : List Session} {bytes : List ℕ} {k : DayAsk} {r : ℕ} {s′ : List ℕ} {t′ : List Session} (d : ToldDay DayBy s t bytes k r s′ t′)
+    → (unpacked-day r ≡ d .answer) × (r / 281474976710656 ≡ day-place (d .answer))
+day-reads {s} {t} {bytes} {k} {r} {s′} {t′} d = (day-unpacked (d .answer) r (d .packs) (small-of (day-said (d .answer)) (d .packs .words) whole), day-place-read (d .answer) r (d .packs))
+  where
+    go : Dec (length t ≡ parties) → brief (day-said (d .answer)) ≡ true
+    go (yes n) = days-brief (k .party) (handed-by bytes k) s t (d .answer) s′ t′ (d .does .0 n)
+    go (no z) = ap (λ (b : DayAnswer). brief (day-said b)) (d .does .1 z .0)
+
+    whole : brief (day-said (d .answer)) ≡ true
+    whole = go (ℕ-discrete (length t) parties)
+
 -- ---- lists of calls
 
--- One return of one of the nine exported functions, and what C sees of it.
+-- One return of one of the ten exported functions, and what C sees of it.
 pub data Gives : Lending → List Turn → Lending → Type 0 where
   calls : {x y : Lending} (k : Exchange) → Exported x (k .call) (k .number) (k .list) y → Gives x (turn-of k ∷ []) y
   runs : {x y : Lending} {k : Go} {l l′ : List ℕ} {r : ℕ} → ToldMade RanBy (x .store) (x .table) l k r (y .store) (y .table) l′
@@ -108,6 +174,8 @@ pub data Gives : Lending → List Turn → Lending → Type 0 where
   batches : {x y : Lending} {w l vs vs′ l′ : List ℕ} {r : ℕ} {js : List Turn} (d : ToldBatch SB.Batched w (x .store) (x .table) l vs r vs′ l′ (y .store) (y .table))
       → ((n : length (x .table) ≡ parties) → ((S : _) (F : Fits (length w) (length vs)) → js ≡ batch-read (d .does .0 n .made S F .3)) × (¬ Fits (length w) (length vs) → js ≡ []))
       → Gives x js y
+  days : {x y : Lending} {bytes : List ℕ} {k : DayAsk} {r : ℕ} {js : List Turn} → ToldDay DayBy (x .store) (x .table) bytes k r (y .store) (y .table)
+      → Is x (day (k .party) (handed-by bytes k) (unpacked-day r)) js y → Gives x js y
 
 -- One that was lent something else and turned away.
 pub data GivesAway : Lending → List Turn → Lending → Type 0 where
@@ -118,6 +186,7 @@ pub data GivesAway : Lending → List Turn → Lending → Type 0 where
       → GivesAway u (put-turn (k .party) (k .code) (k .entry) (k .first) (k .second) (answer-in r) ∷ []) u′
   batches-away : {u u′ : Lending} {w l vs vs′ l′ : List ℕ} {r n k : ℕ} (d : ToldBatch SB.Batched w (u .store) (u .table) l vs r vs′ l′ (u′ .store) (u′ .table)) → said (d .answer) ≡ C.refused n k
       → GivesAway u [] u′
+  days-away : {u u′ : Lending} {bytes : List ℕ} {k : DayAsk} {r : ℕ} → LoanRefused (day-said (unpacked-day r)) → ToldDay DayBy (u .store) (u .table) bytes k r (u′ .store) (u′ .table) → GivesAway u [] u′
 
 pub data Givings : Lending → List Turn → Lending → Type 0 where
   over : {x : Lending} → Givings x [] x
@@ -157,6 +226,8 @@ returned (requests {x} {y} {k} {l} {l′} {r} d) =
     (subst (λ z. Returned x (seen (K.Request (k .party) (k .code) (k .entry) (k .first) (k .second) (k .most)) l (said (d .answer)) z l′) y) (sym (q .1))
     (L.requests {k = k} {a = d .answer} {n = d .steps} (d .does)))
 returned (batches {x} d f) = L.batches {a = d .answer} (d .does) (λ n. ((λ S F. f n .0 S F ∙ batch-reads (d .does .0 n .made S F .3)), f n .1))
+returned (days {x} {y} {bytes} {k} {r} {js} d i) =
+    L.days {k = k} {a = d .answer} (d .does) (subst (λ (a : DayAnswer). Is x (day (k .party) (handed-by bytes k) a) js y) (day-reads {s = x .store} {t = x .table} {s′ = y .store} {t′ = y .table} d .0) i)
 
 returned-away : {u u′ : Lending} {js : List Turn} → GivesAway u js u′ → Away u js u′
 returned-away (calls-away {u} {u′} k v d) = L.calls-away v (lends u u′ (k .number) (k .call) (k .list) d)
@@ -168,13 +239,22 @@ returned-away (requests-away {u} {u′} {k} {l} {l′} {r} v d) =
     subst (λ z. Away u (put-turn (k .party) (k .code) (k .entry) (k .first) (k .second) z ∷ []) u′) (sym (q .0))
     (L.requests-away {k = k} {a = d .answer} {n = d .steps} (subst LoanRefused (q .0) v) (d .does))
 returned-away (batches-away d e) = L.batches-away {a = d .answer} e (d .does)
+returned-away (days-away {u} {u′} {k = k} v d) =
+    L.days-away {k = k} {a = d .answer} (subst (λ (a : DayAnswer). LoanRefused (day-said a)) (day-reads {s = u .store} {t = u .table} {s′ = u′ .store} {t′ = u′ .table} d .0) v) (d .does)
+
+-- Every day call on a sound store has the turns that are asked for here.
+pub day-given : {x y : Lending} {bytes : List ℕ} {k : DayAsk} {r : ℕ} → Sound-lent x → ToldDay DayBy (x .store) (x .table) bytes k r (y .store) (y .table) → (js : List Turn) × Gives x js y
+day-given {x} {y} {bytes} {k} {r} S d =
+    let q = one-is x y (day (k .party) (handed-by bytes k) (d .answer)) S (d .does .0 (sound-long x S)) in
+    let e = day-reads {s = x .store} {t = x .table} {s′ = y .store} {t′ = y .table} d .0 in
+    (q .0, days {k = k} d (subst (λ (a : DayAnswer). Is x (day (k .party) (handed-by bytes k) a) (q .0) y) (sym e) (q .1)))
 
 pub givings : {x y : Lending} {js : List Turn} → Givings x js y → Returneds x js y
 givings over = L.over
 givings (then d r) = L.then (returned d) (givings r)
 givings (wrong d a b r) = L.wrong (returned-away d) a b (givings r)
 
--- After a format that returned 0 any list of the nine keeps demand 3.
+-- After a format that returned 0 any list of the ten keeps demand 3.
 pub givings-demand-3 : (m : ℕ) (x x′ : Lending) (h : Told Formatted (x .store) (x .table) m 0 (x′ .store) (x′ .table)) → (js : List Turn) (y : Lending) → Givings x′ js y
     → Demand-3 words (told nothing js) y
 givings-demand-3 m x x′ h js y r = returneds-demand-3 m (h .answer) x x′ (h .does) (format-ok m x x′ h) js y (givings r)

@@ -1,22 +1,26 @@
-// Entry store: the six calls, a run, a request and a batch; and what is read without one, the lock count, the test of soundness, free records and holders;
-// exported for C. include/entry_store.h declares and describes them.
+// Entry store: the six calls, a run, a request and a batch, a call of a card's day and the day written out again; and what is read without one, the lock
+// count, the test of soundness, free records and holders; exported for C. include/entry_store.h declares and describes them.
 //
 // A store and a list cross as a pointer and how many words, a session table as a pointer and how many records, each of 13 words in the order of the
-// fields. An answer crosses in one number, which loses nothing (crate packing). Each call promises what the store's call of its name promises, of the answer
-// whose packing it returns (specs/Exported); so any list of calls from C, with the answers read off the numbers, keeps demand 3 (specs/Turns), and every list
-// of calls has such numbers (specs/Made). Nothing is asked of the caller but what C's types leave to it. It rests on store for the calls, on packing for the
-// answers, on locks for the count, on tables and sound for the test, on looking for free records and holders.
+// fields, a day as a pointer and how many bytes. An answer crosses in one number, which loses nothing (crate packing). Each call promises what the store's
+// call of its name promises, of the answer whose packing it returns (specs/Exported); so any list of calls from C, with the answers read off the numbers,
+// keeps demand 3 (specs/Turns, specs/Servings), and every list of the six has such numbers (specs/Made). Nothing is asked of the caller but what C's types
+// leave to it. It rests on store for the calls, on packing for the answers, on card_days for the day written out, on locks for the count, on tables and
+// sound for the test, on looking for free records and holders.
 ghost use mathlib.Core.Path.{_≡_};
 ghost use lib.ListN.{length};
 ghost use Rattle.locks.specs.Holders.{holders, word-bits};
 ghost use Rattle.store.specs.Lent.{Formatted, Begun, Put, Committed, Aborted};
 ghost use Rattle.store.specs.Listed.{RanBy, AskedBy};
 ghost use Rattle.store.specs.Batched.{Batched};
-ghost use Rattle.entry_store.specs.Exported.{Told, Stepped, ToldMade, ToldBatch, Names, Looked};
+ghost use Rattle.store.specs.Days.{DayBy};
+ghost use Rattle.entry_store.specs.Exported.{Told, Stepped, ToldMade, ToldBatch, ToldDay, WritesOut, Names, Looked};
 ghost use Rattle.looking.specs.Told.{FreeTold, HoldersTold};
+use outcomes::Answer;
 use sessions::PARTIES;
 use sessions::Session;
 use store::Ask;
+use store::DayAsk;
 use store::Go;
 use store::Wish;
 
@@ -157,6 +161,58 @@ pub extern "C" fn entry_store_batch(
 {
     let a = store::batch(store, table, list, asks, answers);
     packing::pack(a)
+}
+
+// ---- a card's day
+
+// One put or step of the requests that the bytes of a card's day say. The place is 0 first, and then the one that the call before returned.
+#[no_mangle]
+pub extern "C" fn entry_store_day(
+    store: &mut [u32],
+    table: &mut [Session],
+    bytes: &[u8],
+    party: u32,
+    driver: u32,
+    day_start: u32,
+    entry: u32,
+    place: u32,
+) -> u64
+    ensures { λ r. ⌜ ToldDay DayBy (now (store .entry)) (now (table .entry)) (now (bytes .entry)) (record { party = party; driver = driver; start = «day_start»; entry = entry; place = place }) r (now (store .exit)) (now (table .exit)) ⌝ }
+{
+    let k = DayAsk {
+        party: party,
+        driver: driver,
+        start: day_start,
+        entry: entry,
+        place: place,
+    };
+    let a = store::day(store, table, bytes, k);
+    packing::pack_day(a)
+}
+
+// The refusal of pairs and values that are no day's.
+const NO_DAY: u32 = 103;
+
+// The bytes of a day, from the pairs of key and entry that a locate of it wrote, and the values that reads of these entries answered; done with how many
+// bytes. Refused where they are no day's, or too many for the lent bytes.
+#[no_mangle]
+pub extern "C" fn entry_store_day_bytes(
+    pairs: &[u32],
+    values: &[u32],
+    driver: u32,
+    day_start: u32,
+    bytes: &mut [u8],
+) -> u64
+    ensures { λ r. ⌜ WritesOut (now (pairs .entry)) (now (values .entry)) driver «day_start» r (now (bytes .entry)) (now (bytes .exit)) ⌝ }
+{
+    let written = card_days::write_day(driver, day_start, pairs, values, bytes);
+    if written {
+        let n = 2 * values.len();
+        let done = Answer::Done(n as u32);
+        return packing::pack(done);
+    }
+    let refused = Answer::Refused(NO_DAY, 0);
+    packing::pack(refused)
 }
 
 // ---- reading

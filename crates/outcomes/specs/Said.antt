@@ -5,6 +5,8 @@ use Rattle.serial.specs.Calls as C
 use Rattle.sessions.specs.declared.Session.{Session}
 use Rattle.outcomes.specs.declared.Answer.{Answer}
 use Rattle.outcomes.specs.declared.Answer.the-variants.{Ok, More, Wait, Done, Tidied, Refused}
+use Rattle.outcomes.specs.declared.DayAnswer.{DayAnswer}
+use Rattle.outcomes.specs.declared.DayAnswer.the-variants as Day
 use Rattle.outcomes.specs.declared.Moved.{Moved}
 
 abbrev pub said : Answer → C.Answer
@@ -14,6 +16,22 @@ said (Wait p) = C.wait p
 said (Done n) = C.done (n ∷ [])
 said (Tidied k b) = C.done (k ∷ b ∷ [])
 said (Refused n k) = C.refused n k
+
+-- The same of a day call's answer.
+abbrev pub day-said : DayAnswer → C.Answer
+day-said (Day.Ok j) = C.ok
+day-said (Day.More j) = C.more
+day-said (Day.Wait q j) = C.wait q
+day-said (Day.Done n j) = C.done (n ∷ [])
+day-said (Day.Refused n k) = C.refused n k
+
+-- The place that the next day call is to be handed: 0 for a refusal, which has none.
+abbrev pub day-place : DayAnswer → ℕ
+day-place (Day.Ok j) = j
+day-place (Day.More j) = j
+day-place (Day.Wait q j) = j
+day-place (Day.Done n j) = j
+day-place (Day.Refused n k) = 0
 
 -- What a step leaves: the words of the store, its party's session record, and the answer.
 pub record Stepped : Type 0 where

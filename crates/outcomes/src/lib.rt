@@ -41,3 +41,21 @@ pub struct Made {
     pub answer: Answer,
     pub steps: u32,
 }
+
+// What a day call answers, with the place that the next call is to be handed; a refusal has none.
+pub enum DayAnswer {
+    Ok(u32),
+    More(u32),
+    // The party whose lock is in the way, and the place.
+    Wait(u32, u32),
+    // How many stretches the day has, and the place.
+    Done(u32, u32),
+    // The refusal's number, and the number beside it.
+    Refused(u32, u32),
+}
+
+// What a day call leaves of the table, and its answer.
+pub struct DayServed {
+    pub table: [Session; PARTIES],
+    pub answer: DayAnswer,
+}

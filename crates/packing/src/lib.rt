@@ -1,12 +1,13 @@
 // Packing: an answer in one number of 64 bits, as it crosses to C.
 //
-// It promises that the number is the packing of the answer, and of how many steps were made for it, which loses nothing: both are read back from it
-// (specs/Packed). It rests on outcomes for answers, on serial for answers as they are told.
+// It promises that the number is the packing of the answer, and of how many steps were made for it or, of a day call, of its place, which loses nothing:
+// both are read back from it (specs/Packed). It rests on outcomes for answers, on serial for answers as they are told.
 ghost use mathlib.Core.Path.{_≡_};
 ghost use Prim.Native.Nat.{_<_, _≤_};
-ghost use Rattle.outcomes.specs.Said.{said};
-ghost use Rattle.packing.specs.Packed.{box, Packs, PacksMade};
+ghost use Rattle.outcomes.specs.Said.{said, day-place};
+ghost use Rattle.packing.specs.Packed.{box, Packs, PacksMade, PacksDay};
 use outcomes::Answer;
+use outcomes::DayAnswer;
 use outcomes::Made;
 
 fn wide(n: u32) -> u64
@@ -15,13 +16,13 @@ fn wide(n: u32) -> u64
     n as u64
 }
 
-// How many numbers an answer has, its word, the second number and the value, in one number.
-fn boxed(count: u64, word: u64, number: u32, value: u32) -> u64
-    requires { ⌜ (count < 256) × (word < 256) ⌝ }
-    ensures { λ r. ⌜ (r ≡ box count word number value) × (value < 4294967296) ⌝ }
+// What stands above an answer's word (how many numbers it has, or a day call's place), its word, the second number and the value, in one number.
+fn boxed(top: u32, word: u64, number: u32, value: u32) -> u64
+    requires { ⌜ (top ≤ 65535) × (word < 256) ⌝ }
+    ensures { λ r. ⌜ (r ≡ box top word number value) × (value < 4294967296) ⌝ }
 {
     let low = wide(number % 256);
-    let high = (count * 256 + word) * 256 + low;
+    let high = (wide(top) * 256 + word) * 256 + low;
     high * 4294967296 + wide(value)
 }
 
@@ -47,4 +48,18 @@ pub fn pack_made(m: Made) -> u64
     let a = m.answer;
     let low = pack(a);
     wide(m.steps) * 1125899906842624 + low
+}
+
+// The answer of a day call and its place, in one number.
+pub fn pack_day(a: DayAnswer) -> u64
+    requires { ⌜ day-place a ≤ 65535 ⌝ }
+    ensures { λ r. ⌜ PacksDay a r ⌝ }
+{
+    match a {
+        DayAnswer::Ok(j) => boxed(j, 0, 0, 0),
+        DayAnswer::More(j) => boxed(j, 1, 0, 0),
+        DayAnswer::Wait(q, j) => boxed(j, 2, 0, q),
+        DayAnswer::Done(n, j) => boxed(j, 3, 0, n),
+        DayAnswer::Refused(n, k) => boxed(0, 4, n, k),
+    }
 }

@@ -1,13 +1,14 @@
 // Book: the numbers of a run in one array. What lies outside is neither read nor written.
 //
 // Word 0 is the random state. From HANDS on stand, 8 words a party, the request in hand and how many the session has finished; then the two lists that are
-// lent, the nodes that a count of them goes through, what the sessions have finished, a copy of the logical content, and last the logical content.
+// lent, the nodes that a count of them goes through, what the sessions have finished, a copy of the logical content, the logical content, and last, so
+// many words a party, the days that are kept.
 ghost use Prim.Native.Nat.{_<_};
 use super::content::WORDS;
 use super::side::PARTIES;
 use std::num::wrapping_add_u32;
 
-pub const BOOK: usize = CONTENT + WORDS;
+pub const BOOK: usize = DAYS + DAY_WORDS * PARTIES as usize;
 
 pub type Book = [u32; BOOK];
 
@@ -23,6 +24,10 @@ pub const LOGS: usize = 3584;
 pub const SPARE: usize = LOGS + 1000 * PARTIES as usize;
 
 pub const CONTENT: usize = SPARE + WORDS;
+
+pub const DAYS: usize = CONTENT + WORDS;
+
+pub const DAY_WORDS: usize = 32;
 
 pub fn get(b: &Book, at: usize) -> u32 {
     if at < BOOK { b[at] } else { 0 }

@@ -1,4 +1,4 @@
--- What a call is passed and what it answers: the rows of an `Answer`, of a `Served`, of a `Seat`, of a `Made` and of a `Stint`, their laws, and how a value's one machine value is spelled.
+-- What a call is passed and what it answers: the rows of an `Answer`, of a `Served`, of a `Seat`, of a `Made`, of a `Stint`, of a `DayAnswer` and of a `DaySeat`, their laws, and how a value's one machine value is spelled.
 use mathlib.Core.Path.{_≡_, refl, sym, subst, _∙_}
 use Prim.Native.Nat.{_<_, _^_}
 use mathlib.Core.List.{List, [], _∷_, map}
@@ -26,12 +26,18 @@ use Rattle.outcomes.proofs.Served.Laws as Se′
 use Rattle.outcomes.specs.declared.Made.{Made}
 use Rattle.outcomes.proofs.Made as Ma
 use Rattle.outcomes.proofs.Made.Laws as Ma′
+use Rattle.outcomes.specs.declared.DayAnswer.{DayAnswer}
+use Rattle.outcomes.proofs.DayAnswer as Da
+use Rattle.outcomes.proofs.DayAnswer.Laws as Da′
 use Rattle.seats.specs.declared.Seat.{Seat}
 use Rattle.seats.proofs.Seat as Sa
 use Rattle.seats.proofs.Seat.Laws as Sa′
 use Rattle.seats.specs.declared.Stint.{Stint}
 use Rattle.seats.proofs.Stint as St
 use Rattle.seats.proofs.Stint.Laws as St′
+use Rattle.seats.specs.declared.DaySeat.{DaySeat}
+use Rattle.seats.proofs.DaySeat as Ds
+use Rattle.seats.proofs.DaySeat.Laws as Ds′
 use Rattle.tables.proofs.Row.{R, valsOf, tell, Rows, valsOfRows, spelled-rows}
 
 abbrev pub AnswerR : RattleType
@@ -135,3 +141,39 @@ stint-session d v g = let f = LL.owed St.the-type St′.the-laws d (v ∷ []) g 
 
 pub stint-made : (d : Stint) (v : Val) → Is StintR d (v ∷ []) → Is MadeR (d .made) (madeVal (d .made) ∷ [])
 stint-made d v g = let f = LL.owed St.the-type St′.the-laws d (v ∷ []) g .1 .1 .0 in subst (Is MadeR (d .made)) (made-tell (d .made) _ f) f
+
+-- ---- what a day call answers
+abbrev pub DayAnswerR : RattleType
+DayAnswerR = Da.the-row
+
+abbrev pub dayVal : DayAnswer → Val
+dayVal = Da′.lowered
+
+pub day-tell : Tells DayAnswerR (Is DayAnswerR) (λ a. dayVal a ∷ [])
+day-tell = Da′.lowers .val-is
+
+module _ {M : Type 1} (𝓤 : URA M) (H : Heap 𝓤) (A : Atoms 𝓤) where
+  abbrev pub day-make : Makes 𝓤 H A DayAnswerR (Is DayAnswerR)
+  day-make = EL.makes Da.the-type Da′.the-plain 𝓤 H A
+
+  pub day-typed : Given 𝓤 H A → (a : DayAnswer) (v : Val) → Is DayAnswerR a (v ∷ []) → T (hasTy Da′.mir v) × WT v
+  day-typed W a v g = EL.lawful Da.the-type Da′.the-laws 𝓤 H A W tt .typed a (v ∷ []) g .0
+
+-- ---- what is kept of a day call: its party, that party's record, and the answer
+abbrev pub DaySeatR : RattleType
+DaySeatR = Ds.the-row
+
+pub day-seat-tell : Tells DaySeatR (Is DaySeatR) (λ d. Ds′.lowered d ∷ [])
+day-seat-tell = Ds′.lowers .val-is
+
+pub day-seat-typed : {M : Type 1} (𝓤 : URA M) (H : Heap 𝓤) (A : Atoms 𝓤) → Given 𝓤 H A → (d : DaySeat) (v : Val) → Is DaySeatR d (v ∷ []) → T (hasTy Ds′.mir v) × WT v
+day-seat-typed 𝓤 H A W d v g = LL.lawful Ds.the-type Ds′.the-laws 𝓤 H A W .typed d (v ∷ []) g .0
+
+pub day-seat-party : (d : DaySeat) (v : Val) → Is DaySeatR d (v ∷ []) → d .party < 2 ^ 32
+day-seat-party d v g = LL.owed Ds.the-type Ds′.the-laws d (v ∷ []) g .0 .1
+
+pub day-seat-session : (d : DaySeat) (v : Val) → Is DaySeatR d (v ∷ []) → Is R (d .session) (valsOf (d .session))
+day-seat-session d v g = let f = LL.owed Ds.the-type Ds′.the-laws d (v ∷ []) g .1 .0 in subst (Is R (d .session)) (tell (d .session) _ f) f
+
+pub day-seat-answer : (d : DaySeat) (v : Val) → Is DaySeatR d (v ∷ []) → Is DayAnswerR (d .answer) (dayVal (d .answer) ∷ [])
+day-seat-answer d v g = let f = LL.owed Ds.the-type Ds′.the-laws d (v ∷ []) g .1 .1 .0 in subst (Is DayAnswerR (d .answer)) (day-tell (d .answer) _ f) f

@@ -1,6 +1,8 @@
 pub mod Answers
 pub mod Batching
 pub mod Callees
+pub mod Carding
+pub mod Cardings
 pub mod Listing
 pub mod Listings
 pub mod Plains

@@ -1,4 +1,4 @@
--- The types of plain data that a thin function takes beside the store and the table, each with its laws: a u32, an `Ask`, a `Go` and a `Wish`.
+-- The types of plain data that a thin function takes beside the store and the table, each with its laws: a u32, an `Ask`, a `Go`, a `Wish` and a `DayAsk`.
 use mir.Syntax.{Ty, w32, tyInt}
 use mir.Val.{vint}
 use denote.RattleType.{RattleType}
@@ -8,6 +8,8 @@ use denote.Struct.Laws as LL
 use Rattle.store.proofs.Thin.{PlainLaws}
 use Rattle.store.proofs.Ask as Ak
 use Rattle.store.proofs.Ask.Laws as Ak′
+use Rattle.store.proofs.DayAsk as DayAsk
+use Rattle.store.proofs.DayAsk.Laws as DayAsk′
 use Rattle.store.proofs.Go as Go
 use Rattle.store.proofs.Go.Laws as Go′
 use Rattle.store.proofs.Wish as Wish
@@ -42,3 +44,9 @@ WishR = Wish.the-row
 
 abbrev pub wishLaws : PlainLaws (WishR .Denot) Wish′.mir (WishR .written) (WishR .reaches) (WishR .own) (WishR .coded)
 wishLaws = record { val = LL.val Wish.the-type Wish′.the-laws; tell = LL.tells Wish.the-type Wish′.the-laws; lawful = λ 𝓤 H A W. LL.lawful Wish.the-type Wish′.the-laws 𝓤 H A W; make = λ 𝓤 H A W. LL.makes Wish.the-type Wish′.the-plain 𝓤 H A }
+
+abbrev pub DayAskR : RattleType
+DayAskR = DayAsk.the-row
+
+abbrev pub dayAskLaws : PlainLaws (DayAskR .Denot) DayAsk′.mir (DayAskR .written) (DayAskR .reaches) (DayAskR .own) (DayAskR .coded)
+dayAskLaws = record { val = LL.val DayAsk.the-type DayAsk′.the-laws; tell = LL.tells DayAsk.the-type DayAsk′.the-laws; lawful = λ 𝓤 H A W. LL.lawful DayAsk.the-type DayAsk′.the-laws 𝓤 H A W; make = λ 𝓤 H A W. LL.makes DayAsk.the-type DayAsk′.the-plain 𝓤 H A }

@@ -1,12 +1,13 @@
--- Lists of calls with runs, requests and batches among them: what each return of the nine functions says, that any list of them is a list of ordinary calls
--- which tells what the host sees, and so demand 3.
+-- Lists of calls with runs, requests, batches and day calls among them: what each return of the ten functions says, that any list of them is a list of ordinary
+-- calls which tells what the host sees, and so demand 3.
 use mathlib.Core.Path.{_≡_, refl, sym, ap, subst, _∙_}
-use mathlib.Core.Bool.{Bool, true, false}
+use mathlib.Core.Bool.{Bool, true, false, cond}
 use mathlib.Core.List.{List, [], _∷_, _++_}
 use mathlib.Core.Logic.{_⊎_, inl, inr}
-use Prim.Native.Nat.{ℕ, zero, suc, _*_, _≤_}
+use Prim.Native.Nat.{ℕ, zero, suc, _+_, _*_, _≤_}
+use native.Mathlib.Decide.{ℕ-discrete}
 use native.Mathlib.Omega.{arith}
-use lib.Dec.{leb}
+use lib.Dec.{leb, ltb}
 use borrow.Author.Tests.{leb-true, leb-false}
 use lib.ListN.{length, replicate}
 use Rattle.sessions.specs.declared.Session.{Session}
@@ -20,7 +21,9 @@ use Rattle.machine.specs.Calls.{records-for}
 use Rattle.machine.specs.Ledger.{no-locks, ledger-after}
 use Rattle.machine.specs.Held.{calls-on}
 use Rattle.outcomes.specs.declared.Answer.{Answer}
-use Rattle.outcomes.specs.Said.{said}
+use Rattle.outcomes.specs.declared.DayAnswer.{DayAnswer}
+use Rattle.outcomes.specs.declared.DayAnswer.the-variants as Day
+use Rattle.outcomes.specs.Said.{said, day-said}
 use Rattle.promises.specs.Relations.{Calls}
 use Rattle.promises.specs.Demand1.{demand-1, calls-not-1}
 use Rattle.promises.specs.Demands.{Lending, Returns, words}
@@ -32,12 +35,16 @@ use Rattle.asking.specs.declared.Asking.the-variants as K
 use Rattle.batches.specs.Batches.{Fits, Batches}
 use Rattle.batches.specs.Demand3.{seen, batch-turns, batch-seen, Serving, once, asks-one, away, serving-run, serving-told, words-append, told-append}
 use Rattle.batches.specs.Demand3 as B
+use Rattle.day_calls.specs.Calling.{Handed, day-count, day-refusal, renamed, Days}
+use Rattle.day_calls.specs.Lists.{Mixed, day, ordinary-turn, Is, itself, refused, served, served-returns, one-is}
+use Rattle.store.specs.declared.DayAsk.{DayAsk}
 use Rattle.store.specs.declared.Go.{Go}
 use Rattle.store.specs.declared.Wish.{Wish}
 use Rattle.store.specs.Lent.{Formatted, OnTable}
 use Rattle.store.specs.Listed.{RanBy, AskedBy, ListedOnTable}
 use Rattle.store.specs.Stints.{unsound-still}
 use Rattle.store.specs.Batched.{Batched, BatchedOnTable}
+use Rattle.store.specs.Days.{handed-by, DayBy, DayOnTable, served-calls}
 use Rattle.store.specs.Turns.{Lends, lends-return, Sound-lent, sound-long, Loan, loan-same, TurnedAway, Same, same-either, away-same, away-quiet, accepted-format}
 
 -- ---- what the host sees of one return
@@ -46,7 +53,8 @@ use Rattle.store.specs.Turns.{Lends, lends-return, Sound-lent, sound-lon
 abbrev pub SeenOf : (w s : List ℕ) (t : List Session) (l vs : List ℕ) (a : C.Answer) (vs′ l′ s′ : List ℕ) (t′ : List Session) → Batches w s t l vs a vs′ l′ s′ t′ → List Turn → Type 0
 SeenOf w s t l vs a vs′ l′ s′ t′ d js = ((S : _) (F : Fits (length w) (length vs)) → js ≡ batch-seen (d .made S F .3)) × (¬ Fits (length w) (length vs) → js ≡ [])
 
--- One return of one of the nine functions, as its contract says. The six calls; a run, seen as one step; a request, seen as a put and one step; a batch.
+-- One return of one of the ten functions, as its contract says. The six calls; a run, seen as one step; a request, seen as a put and one step; a batch; a day
+-- call, seen as the put or step that it is, with the answer that this had, or as nothing where it was refused before.
 pub data Returned : Lending → List Turn → Lending → Type 0 where
   calls : {x y : Lending} {k : Turn} → Lends x k y → Returned x (k ∷ []) y
   runs : {x y : Lending} {k : Go} {l l′ : List ℕ} {a : Answer} {n : ℕ} → ListedOnTable RanBy (x .store) (x .table) l k a n (y .store) (y .table) l′
@@ -55,6 +63,8 @@ pub data Returned : Lending → List Turn → Lending → Type 0 where
       → Returned x (seen (K.Request (k .party) (k .code) (k .entry) (k .first) (k .second) (k .most)) l (said a) n l′) y
   batches : {x y : Lending} {w l vs vs′ l′ : List ℕ} {a : Answer} {js : List Turn} (d : BatchedOnTable Batched w (x .store) (x .table) l vs a vs′ l′ (y .store) (y .table))
       → ((n : length (x .table) ≡ parties) → SeenOf w (x .store) (x .table) l vs (said a) vs′ l′ (y .store) (y .table) (d .0 n) js) → Returned x js y
+  days : {x y : Lending} {bytes : List ℕ} {k : DayAsk} {a : DayAnswer} {js : List Turn} → DayOnTable DayBy (x .store) (x .table) bytes k a (y .store) (y .table)
+      → Is x (day (k .party) (handed-by bytes k) a) js y → Returned x js y
 
 -- ---- lent something else, and turned away
 
@@ -70,6 +80,7 @@ pub data Away : Lending → List Turn → Lending → Type 0 where
       → Away u (put-turn (k .party) (k .code) (k .entry) (k .first) (k .second) (said a) ∷ []) u′
   batches-away : {u u′ : Lending} {w l vs vs′ l′ : List ℕ} {a : Answer} {n k : ℕ} → said a ≡ C.refused n k → BatchedOnTable Batched w (u .store) (u .table) l vs a vs′ l′ (u′ .store) (u′ .table)
       → Away u [] u′
+  days-away : {u u′ : Lending} {bytes : List ℕ} {k : DayAsk} {a : DayAnswer} → LoanRefused (day-said a) → DayOnTable DayBy (u .store) (u .table) bytes k a (u′ .store) (u′ .table) → Away u [] u′
 
 -- From a sound store no call is refused 1 or 2,
 not-refused : (ks : List Turn) (k : Turn) {x y : Lending} → Sound-lent x → Run calling x (ks ++ k ∷ []) y → LoanRefused (k .answer) → ⊥
@@ -96,6 +107,41 @@ batch-same w l vs vs′ l′ a n k x y e d =
     absurd (let q : _≡_ {A = ℕ} 0 1 = cc in omega (arith, q))) (λ z. let m = d .misfit S z in (m .3, m .4)))
     (λ z. let m = d .unsound z in (m .3, m .4))
 
+-- A day call's answer is such a refusal only if the call that it is was refused so.
+abbrev loan-word : C.Answer → ℕ
+loan-word C.ok = 0
+loan-word C.more = 0
+loan-word (C.wait p) = 0
+loan-word (C.done ns) = 0
+loan-word (C.refused n k) = 1
+
+not-loan : (a : C.Answer) → loan-word a ≡ 0 → LoanRefused a → ⊥
+not-loan a z (inl e) = omega (arith, z, ap loan-word e)
+not-loan a z (inr e) = omega (arith, z, ap loan-word e)
+
+loan-inner : (n j : ℕ) (i : C.Answer) → LoanRefused (day-said (renamed n j i)) → LoanRefused i
+loan-inner n j C.ok v = v
+loan-inner n j C.more v = v
+loan-inner n j (C.wait q) v = v
+loan-inner n j (C.done ns) v = absurd (go (ltb (j + 1) (2 * n)) v)
+  where
+    go : (b : Bool) → LoanRefused (day-said (cond b (Day.More (j + 1)) (Day.Done n (j + 1)))) → ⊥
+    go true w = not-loan C.more refl w
+    go false w = not-loan (C.done (n ∷ [])) refl w
+loan-inner n j (C.refused m k) v = v
+
+day-same : (p : ℕ) (h : Handed) (a : DayAnswer) (x y : Lending) → LoanRefused (day-said a) → Days p h (x .store) (x .table) a (y .store) (y .table) → Same x y
+day-same p h a x y v d =
+    same-either {D = Sound-lent x} (λ S. go S (ℕ-discrete (day-refusal (x .store) (x .table) p h) 0)) (λ n. (d .unsound n .store-same, d .unsound n .table-same))
+  where
+    go : Sound-lent x → Dec (day-refusal (x .store) (x .table) p h ≡ 0) → Same x y
+    go S (yes z) =
+        let R = d .answers S .accepts z in
+        let k = ordinary-turn x p h (R .inner) in
+        let made = served-calls (k .call) (x .store) (x .table) (R .inner) [] (y .store) (y .table) S (R .serves) in
+        absurd (not-refused [] k S (next made stop) (loan-inner (day-count h) (h .place) (R .inner) (subst (λ (b : DayAnswer). LoanRefused (day-said b)) (R .answer) v)))
+    go S (no n) = let R = d .answers S .refuses n in (R .store-same, R .table-same)
+
 pub away-keeps : {u u′ : Lending} {js : List Turn} → Away u js u′ → Same u u′
 away-keeps (calls-away v d) = away-same v d
 away-keeps (runs-away {u} {u′} {k} {l} {l′} {a} {n} v d) =
@@ -104,6 +150,8 @@ away-keeps (requests-away {u} {u′} {k} {l} {l′} {a} {n} v d) =
     same-either {D = length (u .table) ≡ parties} (λ e. asked-same (k .party) (k .code) (k .entry) (k .first) (k .second) l l′ (said a) u u′ n v (d .0 e .made)) (λ z. (d .1 z .2, d .1 z .3))
 away-keeps (batches-away {u} {u′} {w} {l} {vs} {vs′} {l′} {a} {n} {k} v d) =
     same-either {D = length (u .table) ≡ parties} (λ e. batch-same w l vs vs′ l′ (said a) n k u u′ v (d .0 e)) (λ z. (d .1 z .1, d .1 z .2))
+away-keeps (days-away {u} {u′} {bytes} {k} {a} v d) =
+    same-either {D = length (u .table) ≡ parties} (λ e. day-same (k .party) (handed-by bytes k) a u u′ v (d .0 e)) (λ z. (d .1 z .1, d .1 z .2))
 
 loan-away : (a : C.Answer) → LoanRefused a → TurnedAway a
 loan-away a (inl e) = subst TurnedAway (sym e) refl
@@ -115,6 +163,7 @@ away-told (calls-away {k = k} v d) h = away-quiet (k .call) (k .answer) (k .list
 away-told (runs-away {k = k} {l} {l′} {a} v d) h = away-quiet (C.step (k .party) l) (said a) l′ (loan-away (said a) v) h
 away-told (requests-away {k = k} {a = a} v d) h = away-quiet (C.put (k .party) (k .code) (k .entry) (k .first) (k .second)) (said a) [] (loan-away (said a) v) h
 away-told (batches-away v d) h = refl
+away-told (days-away v d) h = refl
 
 -- ---- lists of calls
 
@@ -144,10 +193,23 @@ unfolding Returns
 run-sound S stop = S
 run-sound S (next d r) = run-sound (d S .sound) r
 
+-- Every day call on a sound store has such turns.
+pub day-returned : {x y : Lending} {bytes : List ℕ} {k : DayAsk} {a : DayAnswer} → Sound-lent x → DayOnTable DayBy (x .store) (x .table) bytes k a (y .store) (y .table)
+    → (js : List Turn) × Returned x js y
+day-returned {x} {y} {bytes} {k} {a} S d =
+    let q = one-is x y (day (k .party) (handed-by bytes k) a) S (d .0 (sound-long x S)) in
+    (q .0, days {k = k} {a = a} d (q .1))
+
+is-serving : {x y : Lending} {m : Mixed} {js : List Turn} → Is x m js y → Serving x js js y
+is-serving (itself d) = once d
+is-serving (refused e) = away
+is-serving {x} {y} (served {p} {h} inner z e v) = once (served-returns x y p h inner v)
+
 serves : {x y : Lending} {js : List Turn} → Sound-lent x → Returned x js y → (ks : List Turn) × Serving x ks js y
 serves S (calls {x} d) = (_, once (lends-return (sound-long x S) d))
 serves S (runs {x} {k = k} {l} {l′} {a} {n} d) = (_, asks-one (K.Run (k .party) (k .most)) l (said a) n l′ (d .0 (sound-long x S)))
 serves S (requests {x} {k = k} {l} {l′} {a} {n} d) = (_, asks-one (K.Request (k .party) (k .code) (k .entry) (k .first) (k .second) (k .most)) l (said a) n l′ (d .0 (sound-long x S)))
+serves S (days d i) = (_, is-serving i)
 serves S (batches {x} {y} {w} {l} {vs} {vs′} {l′} {a} {js} d f) = go (fits-or-not (length w) (length vs))
   where
     D : Batches w (x .store) (x .table) l vs (said a) vs′ l′ (y .store) (y .table)
@@ -175,7 +237,7 @@ returneds-run S (wrong {x} {y} {z} {u} {u′} {js} {ls} c a b r) =
     let v = returneds-run (subst Sound-lent (sym i) S) r in
     (v .0, subst (λ p. Run words p (v .0) z) i (v .1), λ h. v .2 h ∙ sym (told-append js ls h ∙ ap (λ w. told w ls) (away-told c h)))
 
--- So after an accepted format any list of the nine keeps demand 3.
+-- So after an accepted format any list of the ten keeps demand 3.
 pub returneds-demand-3 : (m : ℕ) (a : Answer) (x x′ : Lending) → OnTable Formatted (x .store) (x .table) m a (x′ .store) (x′ .table) → said a ≡ C.ok
     → (js : List Turn) (y : Lending) → Returneds x′ js y → Demand-3 words (told nothing js) y
 returneds-demand-3 m a x x′ h e js y r =

@@ -1,19 +1,24 @@
-// Store: the six calls over a lent store, a lent session table and, for step, a lent list; and a run, a request and a batch, which are several calls at once.
+// Store: the six calls over a lent store, a lent session table and, for step, a lent list; a run, a request and a batch, which are several calls at once; and
+// a call of a card's day, whose bytes are lent too.
 //
 // Each refuses a table that is not of 17 records (refusal 1), and then changes nothing. Else it loads the records, as the test of soundness reads them all,
 // and makes the call on them by value. Of the table that the call gives back begin, put, step, commit and abort store ONE record, their party's: the call
-// leaves the others as they were (specs/OneRecord), and so do a run and a request (specs/Stints). Format and a batch store all 17. Each promises what the call
-// by value promises, over words, table and list at entry and at exit (specs/Lent, specs/Listed, specs/Batched); so any list of calls after an accepted
-// format keeps demand 3 (specs/Turns, specs/Demand3), has the holders that its calls were granted (specs/Holding), and every list of calls has a run.
-// Nothing is asked of the caller. It rests on tables for the lent table, on calls for the calls by value, on seats for what is kept of them.
+// leaves the others as they were (specs/OneRecord), and so do a run and a request (specs/Stints) and a day call (specs/Days). Format and a batch store all
+// 17. Each promises what the call by value promises, over words, table and list at entry and at exit (specs/Lent, specs/Listed, specs/Batched, specs/Days);
+// so any list of calls after an accepted format keeps demand 3 (specs/Turns, specs/Demand3, specs/Servings), has the holders that its calls were granted
+// (specs/Holding), and every list of calls has a run. Nothing is asked of the caller. It rests on tables for the lent table, on calls for the calls by
+// value, on seats for what is kept of them.
 ghost use mathlib.Core.Path.{_≡_};
 ghost use Rattle.store.specs.Lent.{Formatted, Begun, Put, Stepped, Committed, Aborted, OnTable, SteppedOnTable};
 ghost use Rattle.store.specs.Listed.{RanBy, AskedBy, ListedOnTable};
 ghost use Rattle.store.specs.Batched.{Batched, BatchedOnTable};
+ghost use Rattle.store.specs.Days.{DayBy, DayOnTable, day-seated};
 ghost use Rattle.store.specs.OneRecord.{seated};
 ghost use Rattle.store.specs.Stints.{stinted};
 use outcomes::Answer;
+use outcomes::DayAnswer;
 use outcomes::Made;
+use seats::DaySeat;
 use seats::Seat;
 use seats::Stint;
 use sessions::PARTIES;
@@ -42,6 +47,16 @@ pub struct Wish {
     pub first: u32,
     pub second: u32,
     pub most: u32,
+}
+
+// The arguments of a day call beside its bytes: the card's driver, the minute that the day starts at, the entry that its first stretch gets, and the place
+// that the call before returned, 0 for the first.
+pub struct DayAsk {
+    pub party: u32,
+    pub driver: u32,
+    pub start: u32,
+    pub entry: u32,
+    pub place: u32,
 }
 
 // ---- the calls by value, of whose table only the record of the call's party is kept
@@ -103,6 +118,22 @@ fn request_by_value(store: &mut [u32], list: &mut [u32], t: [Session; PARTIES], 
         k.most,
     );
     seats::stint_of(ran, k.party)
+}
+
+fn day_by_value(store: &mut [u32], bytes: &[u8], t: [Session; PARTIES], k: DayAsk) -> DaySeat
+    ensures { λ r. ⌜ DayBy (now (store .entry)) t (now (bytes .entry)) k (r .answer) (now (store .exit)) (day-seated t r) ⌝ }
+{
+    let served = calls::day(
+        store,
+        t,
+        k.party,
+        bytes,
+        k.driver,
+        k.start,
+        k.entry,
+        k.place,
+    );
+    seats::day_seat_of(served, k.party)
 }
 
 // ---- the six calls
@@ -239,4 +270,20 @@ pub fn batch(
     let after = served.table;
     tables::save_all(table, after);
     served.answer
+}
+
+// ---- a card's day
+
+// One put or step of the requests that the day's bytes say, and the place that the next call is to be handed.
+pub fn day(store: &mut [u32], table: &mut [Session], bytes: &[u8], k: DayAsk) -> DayAnswer
+    ensures { λ r. ⌜ DayOnTable DayBy (now (store .entry)) (now (table .entry)) (now (bytes .entry)) k r (now (store .exit)) (now (table .exit)) ⌝ }
+{
+    if table.len() != PARTIES {
+        return seats::wrong_table_day();
+    }
+    let t = tables::load_all(table);
+    let seat = day_by_value(store, bytes, t, k);
+    let x = seat.session;
+    tables::store_session(table, seat.party, x);
+    seat.answer
 }
