@@ -43,7 +43,7 @@ draw() {
         box("records", 304, 650, 470, 66, "store", "records", "20 words each, read and written", \
             "kinds chain nodes reshaping groups undos")
 
-        box("words", 304, 752, 470, 58, "store", "words, session table, lock rule, answers", "", "words locks sessions outcomes")
+        box("words", 304, 752, 470, 58, "store", "words, session table, lock rule, answers", "", "words locks sessions seniority outcomes")
 
         #     from, to, the points of the line
         arrow("lent", "serial", "304,110 264,110")

@@ -37,9 +37,9 @@ extern "C" {
 
 /* Of this header and the archive beside it. */
 #define ENTRY_STORE_VERSION_MAJOR 0
-#define ENTRY_STORE_VERSION_MINOR 3
+#define ENTRY_STORE_VERSION_MINOR 4
 #define ENTRY_STORE_VERSION_PATCH 0
-#define ENTRY_STORE_VERSION "0.3.0"
+#define ENTRY_STORE_VERSION "0.4.0"
 
 /* ---- sizes: Rules, section 3 */
 
@@ -52,7 +52,7 @@ extern "C" {
 #define ENTRY_STORE_HEADER_WORDS 16
 #define ENTRY_STORE_ENTRY_WORDS 3
 #define ENTRY_STORE_RECORD_WORDS 20
-#define ENTRY_STORE_SESSION_WORDS 13
+#define ENTRY_STORE_SESSION_WORDS 14
 
 /* What format accepts: M entries and at least so many records. Above 4,096 records the words beyond are never
  * touched. */
@@ -95,7 +95,7 @@ static inline size_t entry_store_words(uint32_t m, uint32_t r)
  * beside its store is refused (2). A field that is not in use for the request and stage in hand may have any value. */
 struct entry_store_session {
     uint32_t begun;  /* not 0: the session is begun; unused for party 0 */
-    uint32_t code;   /* the request in hand, 1 to 6; in use where stage is not 0, as all below but undo */
+    uint32_t code;   /* the request in hand, 1 to 6; in use where stage is not 0, as all below up to last */
     uint32_t entry;  /* its arguments, as they were put */
     uint32_t first;
     uint32_t second;
@@ -107,6 +107,8 @@ struct entry_store_session {
     uint32_t high;   /* stage 5, where second is not first: the record of the pinned descriptor of second */
     uint32_t last;   /* stage 5: the last key that a locate took, 0 for none */
     uint32_t undo;   /* the newest undo record, 0 for none; unused for party 0 */
+    uint32_t order;  /* the place in the order of begins: of two begun sessions the one with the lower number began
+                        first; unused where the session is not begun, and for party 0 */
 };
 
 /* The archive has these words one after the other, with nothing between them: elsewhere this does not compile. */
@@ -129,19 +131,23 @@ typedef char entry_store_session_has_its_words
  *   word       value                                   number
  *   ok         0                                       0
  *   more       0                                       0
- *   wait       a party whose lock is in the way        0
+ *   wait       the party that is named (below)         0
  *   done       the request's answer                    0
  *   done       a tidy's key, 0 for none                1 if its descriptor was removed, else 0
  *   done       batch: how many asks were made; free,   0
  *              holders: what is asked for; day: how
  *              many stretches; day_bytes: how many bytes
  *   refused    the count at 12, else 0                 the refusal's number
+ *
+ * Whom wait names. Of long locks in the way: of the sessions that hold them the one that began first (field order of
+ * struct entry_store_session), whenever each took its lock. Of latches in the way: whoever has the highest node's, and
+ * of two nodes side by side the left one's; this may be party 0. No step waits for both. Rules, section 6.
  */
 enum entry_store_word {
     ENTRY_STORE_OK = 0,     /* format, begin, put, commit, abort: accepted; day: the call was an accepted put */
     ENTRY_STORE_MORE = 1,   /* step: the request moved, and another step is due; day: another call is due */
-    ENTRY_STORE_WAIT = 2,   /* step, day: a party's lock is in the way; nothing changed; step or call again once that
-                               party has moved on or ended */
+    ENTRY_STORE_WAIT = 2,   /* step, day: the named party's lock is in the way; nothing changed; step or call again once
+                               that party has moved on or ended */
     ENTRY_STORE_DONE = 3,   /* step: the request is finished and no longer in hand; day: all of the day is; batch, free,
                                holders, day_bytes: the answer */
     ENTRY_STORE_REFUSED = 4 /* any call: see enum entry_store_refusal */
@@ -265,8 +271,9 @@ enum entry_store_code {
 uint64_t entry_store_format(uint32_t *store, size_t store_words, struct entry_store_session *table,
                             size_t table_records, uint32_t entries);
 
-/* A session, 1 to ENTRY_STORE_SESSIONS, begins. Answers ok; refuses 1, 2, 4 or 5. The store is not changed. Rules,
- * section 7. */
+/* A session, 1 to ENTRY_STORE_SESSIONS, begins. Answers ok; refuses 1, 2, 4 or 5. The store is not changed. The begun
+ * sessions are numbered anew (field order), from 1 up in the order in which they began, this one last; nothing else of
+ * other records changes, and a refusal renumbers nothing. Rules, section 7. */
 uint64_t entry_store_begin(uint32_t *store, size_t store_words, struct entry_store_session *table,
                            size_t table_records, uint32_t party);
 
@@ -375,7 +382,7 @@ uint64_t entry_store_batch(uint32_t *store, size_t store_words, struct entry_sto
  * (entry_store_place_of), until one answers done:
  *   ok       the request was put: call again
  *   more     a step was made, or a request other than the last was finished: call again
- *   wait     as a step's: value has the party in the way; nothing changed; call again later
+ *   wait     as a step's: value has the party that it names; nothing changed; call again later
  *   done     the last request is finished: value has the number of stretches; the place lies past the day
  *   refused  no place (its bits are 0); the place that was handed in is the place still: mend what is wrong and hand in
  *            the same again. 11 ended the request in hand, and the same place puts it again
@@ -437,7 +444,8 @@ enum entry_store_part {
     ENTRY_STORE_PART_GROUPS = 8,     /* groups: members, holders, pins; a locate holds every key it has passed */
     ENTRY_STORE_PART_FREE_CHAIN = 9, /* the free chain goes only to records that nothing else reaches */
     ENTRY_STORE_PART_UNREACHED = 10, /* every record is reached */
-    ENTRY_STORE_PART_TABLE = 11      /* the table is of ENTRY_STORE_PARTIES records */
+    ENTRY_STORE_PART_TABLE = 11,     /* the table is of ENTRY_STORE_PARTIES records */
+    ENTRY_STORE_PART_ORDERS = 12     /* no two begun sessions share a number in the order of begins */
 };
 
 /* ---- names */
@@ -498,6 +506,7 @@ static inline const char *entry_store_part_text(uint32_t part)
     case ENTRY_STORE_PART_FREE_CHAIN: return "free chain";
     case ENTRY_STORE_PART_UNREACHED: return "unreached records";
     case ENTRY_STORE_PART_TABLE: return "table";
+    case ENTRY_STORE_PART_ORDERS: return "order of begins";
     default: return "no such part";
     }
 }

@@ -265,8 +265,14 @@ static void party_row(const struct dump *d, uint32_t p)
     const struct entry_store_session *s = &d->host.table[p];
     printf("    <TR><TD ALIGN=\"LEFT\"><B>");
     party_name(p);
-    printf("</B>%s</TD><TD ALIGN=\"LEFT\">",
-           p == ENTRY_STORE_HOUSEKEEPER || s->begun != 0 ? "" : ", not begun");
+    if (p == ENTRY_STORE_HOUSEKEEPER) {
+        printf("</B></TD><TD>-</TD>");
+    } else if (s->begun == 0) {
+        printf("</B>, not begun</TD><TD>-</TD>");
+    } else {
+        printf("</B></TD><TD>%u</TD>", s->order);
+    }
+    printf("<TD ALIGN=\"LEFT\">");
     if (s->stage == NO_REQUEST) {
         printf("-");
     } else {
@@ -279,7 +285,8 @@ static void party_row(const struct dump *d, uint32_t p)
 
 static void party_rows(const struct dump *d)
 {
-    printf("    <TR><TD BGCOLOR=\"" HEAD "\">party</TD><TD BGCOLOR=\"" HEAD "\">request in hand</TD>"
+    printf("    <TR><TD BGCOLOR=\"" HEAD "\">party</TD><TD BGCOLOR=\"" HEAD "\">order</TD>"
+           "<TD BGCOLOR=\"" HEAD "\">request in hand</TD>"
            "<TD BGCOLOR=\"" HEAD "\">where it stands</TD><TD BGCOLOR=\"" HEAD "\">undo records</TD></TR>\n");
     for (uint32_t p = 0; p < ENTRY_STORE_PARTIES; p++) {
         if (takes_part(d, p)) {
@@ -308,7 +315,7 @@ static void lone_row(const struct dump *d)
     mark_grouped(d, grouped);
     for (uint32_t e = 1; e <= d->entries; e++) {
         if (!grouped[e] && (entry_word(d, e, 1) != 0 || entry_word(d, e, 2) != 0)) {
-            printf("%s", count == 0 ? "    <TR><TD COLSPAN=\"4\">entries held and in no group: "
+            printf("%s", count == 0 ? "    <TR><TD COLSPAN=\"5\">entries held and in no group: "
                          : count % MEMBERS_A_LINE == 0 ? "<BR/>"
                                                        : ", ");
             print_member(d, e);
@@ -322,12 +329,12 @@ static void print_title(const struct dump *d, enum image_state state, uint32_t f
 {
     uint32_t met = d->node_count + d->descriptor_count + d->member_count + d->undo_count + d->free_count;
     printf("  label=<<TABLE BORDER=\"0\" CELLBORDER=\"1\" CELLSPACING=\"0\" CELLPADDING=\"3\">\n"
-           "    <TR><TD COLSPAN=\"4\" BORDER=\"0\">%u entries, %u records: %u nodes, %u descriptors, %u "
+           "    <TR><TD COLSPAN=\"5\" BORDER=\"0\">%u entries, %u records: %u nodes, %u descriptors, %u "
            "memberships, "
            "%u undo records, <B>%u free</B>, %u not reached</TD></TR>\n",
            d->entries, d->records, d->node_count, d->descriptor_count, d->member_count, d->undo_count,
            d->free_count, d->records - met);
-    printf("    <TR><TD COLSPAN=\"4\" BORDER=\"0\">");
+    printf("    <TR><TD COLSPAN=\"5\" BORDER=\"0\">");
     if (fault == 0) {
         printf("sound%s", state == IMAGE_GOOD ? "" : ", but the sum differs");
     } else {
@@ -337,7 +344,7 @@ static void print_title(const struct dump *d, enum image_state state, uint32_t f
     printf("; blue: held to locate, orange: held to update, red: latched or pinned</TD></TR>\n");
     party_rows(d);
     lone_row(d);
-    printf("    <TR><TD COLSPAN=\"4\" BORDER=\"0\"> </TD></TR>\n    </TABLE>>\n");
+    printf("    <TR><TD COLSPAN=\"5\" BORDER=\"0\"> </TD></TR>\n    </TABLE>>\n");
 }
 
 // ---- the whole

@@ -4,8 +4,9 @@
 // instead (dot.c).
 //
 // Prints the sizes, whether store and table are sound or which part of soundness fails, what the records are,
-// the parties with their requests in hand and take-backs, the tree level by level, the descriptors in the
-// tree's order, the entries that have a value or a holder, and the holders of each KEY, stored or not.
+// the parties in the order of their begins and with their requests in hand and take-backs, the tree level by
+// level, the descriptors in the tree's order, the entries that have a value or a holder, and the holders of
+// each KEY, stored or not.
 //
 // An image may be damaged in any way. Every record number is tested before it is used, and every record is
 // followed once at most: what is not a record is printed as ?number, what was met before as number!.
@@ -156,6 +157,15 @@ static void print_undos(const struct dump *d, uint32_t first, uint32_t count)
     }
 }
 
+static void print_begun(const struct entry_store_session *s)
+{
+    if (s->begun != 0) {
+        printf("begun, number %u", s->order);
+    } else {
+        printf("not begun");
+    }
+}
+
 static void print_party(const struct dump *d, uint32_t p)
 {
     const struct entry_store_session *s = &d->host.table[p];
@@ -166,7 +176,9 @@ static void print_party(const struct dump *d, uint32_t p)
     if (housekeeper) {
         printf("  housekeeper: ");
     } else {
-        printf("  session %u: %s; ", p, s->begun != 0 ? "begun" : "not begun");
+        printf("  session %u: ", p);
+        print_begun(s);
+        printf("; ");
     }
     if (s->stage == NO_REQUEST) {
         printf("no request in hand");
@@ -181,9 +193,20 @@ static void print_party(const struct dump *d, uint32_t p)
     }
 }
 
+static void print_line(const struct dump *d)
+{
+    uint32_t sessions[ENTRY_STORE_SESSIONS], count = host_line(&d->host, sessions);
+    printf("  order of begins:");
+    for (uint32_t k = 0; k < count; k++) {
+        printf(" %u", sessions[k]);
+    }
+    printf("%s\n", count == 0 ? " -" : "");
+}
+
 static void print_parties(const struct dump *d)
 {
     printf("\nparties:\n");
+    print_line(d);
     for (uint32_t p = 0; p < ENTRY_STORE_PARTIES; p++) {
         print_party(d, p);
     }

@@ -15,10 +15,12 @@
 //     and 12 only in a step; and it is refused with 2 exactly if entry_store_fault names a part
 //   - a refusal but 11 and 12, and a wait, change nothing; 11 and 12 change the party's own record, and in
 //     the store at most one latch and the pins of two descriptors
-//   - a wait names a party that has begun, never the caller
+//   - a wait names, of the other sessions whose long locks are in the way, the one with the lowest number in
+//     the order of begins; of latches that of the highest node, then of the leftmost; both read off the words
 //   - done ends the request in hand, more leaves it; a read answers the entry's value; a locate's pairs rise,
 //     lie in its range and are as many as it says; nothing else writes the list
-//   - only the caller's record of the table changes; begin and put leave the store
+//   - only the caller's record of the table changes, but that begin numbers all begun sessions anew, from 1
+//     on and in the order that they had, the caller last; begin and put leave the store
 //   - after every accepted call store and table are sound, M and R and the words beyond the records as before
 //   - a run, a request and a batch answer and leave, in every word of store, table, list and answers, what
 //     the single calls that they stand for do, made one by one on copies
@@ -275,6 +277,18 @@ struct day {
     uint32_t driver, start, entry, place;
 };
 
+// What the runs have reached.
+static struct {
+    uint64_t done[7]; // by code
+    uint64_t removed; // by tidies
+    uint32_t levels;  // of the highest tree
+    uint64_t several; // waits with several sessions in the way
+    uint64_t damaged, still_sound;
+    uint32_t steps, asks; // the most of a run, and of a batch
+    uint64_t days;        // read to their ends
+    uint32_t stretches;   // the most of these
+} reached;
+
 static struct asked now;
 static struct day day;
 static uint64_t seed, run_number, call_number;
@@ -491,13 +505,38 @@ static void nothing_changed(void)
          "what is not lent is not changed");
 }
 
+// What a record has after the call: a begin gives other begun sessions a number.
+static struct entry_store_session record_due(size_t p)
+{
+    struct entry_store_session due = old_table()[p];
+    if (now.call != BEGIN || p == 0 || due.begun == 0) {
+        return due;
+    }
+    due.order = 1;
+    for (size_t q = 1; q < ENTRY_STORE_PARTIES; q++) {
+        due.order += old_table()[q].begun != 0 && old_table()[q].order < old_table()[p].order;
+    }
+    return due;
+}
+
 // Only the caller's record, and the other records as before.
 static void only_own_record(void)
 {
     for (size_t p = 0; p < table_len; p++) {
-        fact(p == now.party || memcmp(&table[p], &old_table()[p], sizeof *table) == 0,
-             "only the caller's record of the table changes");
+        struct entry_store_session due = record_due(p);
+        fact(p == now.party || memcmp(&table[p], &due, sizeof due) == 0,
+             "only the caller's record of the table changes, and at a begin the numbers of begun sessions");
     }
+}
+
+// A begun session's number after its begin: it is the last.
+static uint32_t last_number(void)
+{
+    uint32_t count = 0;
+    for (size_t q = 1; q < ENTRY_STORE_PARTIES; q++) {
+        count += table[q].begun != 0;
+    }
+    return count;
 }
 
 static size_t words_in_use(void)
@@ -539,12 +578,99 @@ static void only_request_ended(void)
 
 // ---- facts of each answer
 
+static const uint32_t *record(uint32_t i)
+{
+    return store + entry_store_words(store[0], i - 1);
+}
+
+// The descriptor that a locate takes next: the lowest key from first on, or above the last one taken.
+static uint32_t next_taken(const struct entry_store_session *r)
+{
+    uint32_t i = store[4], from = r->last < r->first ? r->first : r->last + 1;
+    while (record(i)[1] < from) {
+        i = record(i)[0];
+    }
+    return i;
+}
+
+// The holders that conflict with what the party asks for, by a long lock; its own among them.
+static uint32_t conflicting(const struct entry_store_session *r)
+{
+    if (r->stage == 1) {
+        const uint32_t *entry = store + entry_store_words(r->entry - 1, 0);
+        return entry[2] | (r->code == ENTRY_STORE_READ ? 0 : entry[1]);
+    }
+    if (r->stage == 4) {
+        return record(r->low)[2] | record(r->low)[3];
+    }
+    return record(next_taken(r))[3];
+}
+
+static uint32_t began_first(uint32_t sessions)
+{
+    uint32_t first = 0;
+    for (uint32_t p = 1; p < ENTRY_STORE_PARTIES; p++) {
+        if ((sessions >> (p - 1) & 1) != 0 && (first == 0 || table[p].order < table[first].order)) {
+            first = p;
+        }
+    }
+    return first;
+}
+
+static int latched(uint32_t node)
+{
+    return record(node)[0] != 0 && record(node)[0] != now.party + 1;
+}
+
+// The first of two nodes that another party has latched.
+static uint32_t latched_first(uint32_t one, uint32_t two)
+{
+    fact(latched(one) || latched(two), "wait needs a latch of another party");
+    return record(latched(one) ? one : two)[0] - 1;
+}
+
+// Whose latch is in the way of a step from node `at` to its son on the way to the target.
+static uint32_t son_latch(const struct entry_store_session *r)
+{
+    const uint32_t *node = record(r->at);
+    uint32_t k = 0;
+    while (k + 1 < node[1] && node[2 + k] < r->target) {
+        k += 1;
+    }
+    if (now.party != 0 || record(node[9 + k])[1] != 3) {
+        return latched_first(node[9 + k], node[9 + k]);
+    }
+    uint32_t left = k == 0 ? 0 : k - 1;
+    return latched_first(node[9 + left], node[9 + left + 1]);
+}
+
+static uint32_t root_latch(void)
+{
+    uint32_t root = store[2];
+    int lone = store[3] > 1 && record(root)[1] == 1;
+    return latched_first(root, lone ? record(root)[9] : root);
+}
+
+// Whom a wait has to name.
+static uint32_t named(void)
+{
+    const struct entry_store_session *r = &table[now.party];
+    if (r->stage == 2) {
+        return root_latch();
+    }
+    if (r->stage == 3) {
+        return son_latch(r);
+    }
+    uint32_t sessions = conflicting(r) & ~(UINT32_C(1) << (now.party - 1));
+    fact(sessions != 0, "wait needs a long lock of another session");
+    reached.several += (sessions & (sessions - 1)) != 0;
+    return began_first(sessions);
+}
+
 static void facts_of_wait(struct entry_store_answer a)
 {
     nothing_changed();
-    fact(a.value <= ENTRY_STORE_SESSIONS, "wait names a party");
-    fact(a.value != now.party, "wait never names the caller");
-    fact(a.value == 0 ? table[0].stage != 0 : table[a.value].begun != 0, "wait names a party that has begun");
+    fact(a.value == named(), "wait names the one that began first, or the highest and leftmost latch");
 }
 
 // The pairs of a locate that is done.
@@ -613,8 +739,10 @@ static void facts_of_ok(void)
     if (now.call == BEGIN || now.call == PUT) {
         fact(unchanged(&store_room), "begin and put leave the store");
         fact(now.call == BEGIN ? s->begun != 0 : s->stage != 0, "begin begins, put leaves a request in hand");
+        fact(now.call != BEGIN || s->order == last_number(), "whoever begins is the last");
     } else {
-        fact(s->begun == 0 && s->stage == 0, "commit and abort end the session and its request");
+        fact(s->begun == 0 && s->stage == 0 && s->order == 0,
+             "commit and abort end the session and its request");
     }
 }
 
@@ -623,7 +751,8 @@ static void facts_of_format(void)
     fact(unchanged(&list_room), "format leaves the list");
     fact(store[0] == now.entry, "format sets M");
     for (size_t p = 0; p < ENTRY_STORE_PARTIES; p++) {
-        fact((p == 0 || table[p].begun == 0) && table[p].stage == 0, "format clears the table");
+        fact((p == 0 || table[p].begun == 0) && table[p].stage == 0 && table[p].order == 0,
+             "format clears the table");
     }
 }
 
@@ -656,17 +785,6 @@ enum { LAST_REFUSAL = 14, COLUMNS = 5 + LAST_REFUSAL + 3 };
 static uint64_t counts[ROWS][COLUMNS];
 static int waits[ENTRY_STORE_PARTIES]; // the party's last call answered wait
 
-// What the runs have reached.
-static struct {
-    uint64_t done[7]; // by code
-    uint64_t removed; // by tidies
-    uint32_t levels;  // of the highest tree
-    uint64_t damaged, still_sound;
-    uint32_t steps, asks; // the most of a run, and of a batch
-    uint64_t days;        // read to their ends
-    uint32_t stretches;   // the most of these
-} reached;
-
 static uint32_t column(struct entry_store_answer a)
 {
     if (a.word != ENTRY_STORE_REFUSED) {
@@ -695,8 +813,9 @@ static struct entry_store_answer call(struct asked asked)
     keep_all();
     uint32_t fault = entry_store_fault(store, store_len, table, table_len);
     nothing_changed();
-    fact(fault <= 11 && (fault == 11) == (table_len != ENTRY_STORE_PARTIES),
-         "a part of soundness is 1 to 11, 11 for a wrong table");
+    fact(fault <= ENTRY_STORE_PART_ORDERS &&
+             (fault == ENTRY_STORE_PART_TABLE) == (table_len != ENTRY_STORE_PARTIES),
+         "a part of soundness is 1 to 12, 11 for a wrong table");
     uint64_t bits = make_call(&now, lent_now());
     struct entry_store_answer a = entry_store_unpack(bits);
     facts_of_bits(bits, a);
@@ -1095,11 +1214,6 @@ static void call_day_bytes(void)
 
 // ---- free records and holders
 
-static const uint32_t *record(uint32_t i)
-{
-    return store + entry_store_words(store[0], i - 1);
-}
-
 static uint64_t count_free(void)
 {
     uint32_t count = 0;
@@ -1481,10 +1595,36 @@ static void change_list(void)
     }
 }
 
+// Whether a session before p has begun with its number.
+static int is_taken(uint32_t p)
+{
+    for (uint32_t q = 1; q < p; q++) {
+        if (table[q].begun != 0 && table[q].order == table[p].order) {
+            return 1;
+        }
+    }
+    return 0;
+}
+
+// Other numbers in the order of begins, of a sound table. They only have to differ, and those of parties that
+// have not begun are free.
+static void change_orders(void)
+{
+    if (!one_in(30) || entry_store_fault(store, store_len, table, table_len) != 0) {
+        return;
+    }
+    for (uint32_t p = 0; p < ENTRY_STORE_PARTIES; p++) {
+        do {
+            table[p].order = odd_word();
+        } while (is_taken(p));
+    }
+}
+
 static void random_calls(uint32_t count)
 {
     for (uint32_t k = 0; k < count; k++) {
         change_list();
+        change_orders();
         if (one_in(6)) {
             call_several(random_several());
         } else if (one_in(5)) {
@@ -1771,6 +1911,7 @@ static void print_counts(uint64_t runs)
     }
     printf(" of these removed a descriptor %llu; the highest tree had %u levels\n",
            (unsigned long long)reached.removed, reached.levels);
+    printf("%llu waits had several sessions in the way\n", (unsigned long long)reached.several);
     printf(
         "the longest run had %u steps, the longest batch %u asks; %llu days were read to their ends, of at "
         "most %u stretches\n",

@@ -9,8 +9,9 @@
 //
 // Everybody makes one call a round, in turn, so that all are seen to move; day.c has whole sessions in one
 // call. The host answers what the store can answer:
-//   wait        the party steps again in the next round; where two wait for each other, one is aborted and
-//               begins again once the other has ended
+//   wait        the party steps again in the next round; it tells whom it waits for, of several the one that
+//               began first; where two wait for each other, one is aborted and begins again once the other
+//               has ended
 //   refused 11  no free record: the housekeeper tidies, and the request is put again once it has removed
 //               something or a session has ended
 //   refused 12  the list is too short: a longer one, and the request is put again
@@ -578,25 +579,19 @@ static int somebody_comes(const struct yard *y)
     return 0;
 }
 
-static size_t begun_count(const struct yard *y)
+static int nobody_begun(const struct yard *y)
 {
-    size_t count = 0;
-    for (size_t k = 1; k < ACTORS; k++) {
-        count += y->host.table[k].begun != 0;
-    }
-    return count;
+    uint32_t line[ENTRY_STORE_SESSIONS];
+    return host_line(&y->host, line) == 0;
 }
 
-// Nobody moved and nobody comes: the last one that has begun is undone, so that the others can move. (A wait
-// names one party even where several are in the way, so that not every circle is seen at the wait.)
+// Nobody moved and nobody comes: the one that began last is undone, so that the others can move. (Where
+// several are in the way a wait names one of them, so that not every circle is seen at the wait.)
 static void undo_one(struct yard *y)
 {
-    size_t last = ACTORS - 1;
-    while (y->host.table[last].begun == 0) {
-        last -= 1;
-    }
-    struct actor *a = &y->actors[last];
-    if (begun_count(y) > 1) {
+    uint32_t line[ENTRY_STORE_SESSIONS], count = host_line(&y->host, line);
+    struct actor *a = &y->actors[line[count - 1]];
+    if (count > 1) {
         tell(y, a, "is undone and begins again later: nobody could move");
         begin_again_after(y, a, ~1u);
     } else {
@@ -621,7 +616,7 @@ static int play(struct yard *y)
             turn(y, &y->actors[k]);
         }
         if (!y->moved && !somebody_comes(y)) {
-            if (begun_count(y) == 0) {
+            if (nobody_begun(y)) {
                 return 0;
             }
             undo_one(y);
@@ -728,6 +723,54 @@ static void print_stretches(struct store_host *h)
     list_free(&list);
 }
 
+// ---- whom to phone
+
+// A session that wants a minute which three others hold. They begin in this order.
+enum { CALLER = 1, HOLDERS = 3 };
+static const uint32_t holders[HOLDERS] = {9, 4, 2};
+
+static void print_line(const struct store_host *h)
+{
+    uint32_t line[ENTRY_STORE_SESSIONS], count = host_line(h, line);
+    printf("  begun, the first in front:");
+    for (uint32_t k = 0; k < count; k++) {
+        printf(" %u", line[k]);
+    }
+    printf("\n");
+}
+
+// Whoever the wait names is phoned, and commits.
+static int phone(void *context, uint32_t party, uint32_t holder)
+{
+    struct store_host *h = context;
+    print_line(h);
+    printf("  session %u waits, and phones session %u, which commits\n", party, holder);
+    must_be(host_commit(h, holder), ENTRY_STORE_OK, "commit");
+    return 1;
+}
+
+static void print_phoning(struct store_host *h)
+{
+    struct text when;
+    struct pair_list list = {NULL, 0};
+    uint32_t noon = key_of(BERG, 4 * DAY_MINUTES + 12 * HOUR);
+    struct request look = {ENTRY_STORE_LOCATE, 0, noon, noon};
+    struct request insert = {ENTRY_STORE_INSERT, ENTRIES, noon, 0};
+    printf("\nFour want %s: three look at it, and session %d types something in.\n", moment(&when, noon),
+           CALLER);
+    for (size_t k = 0; k < HOLDERS; k++) {
+        must_be(host_begin(h, holders[k]), ENTRY_STORE_OK, "begin");
+        must_be(host_run(h, holders[k], look, &list, no_waiting, NULL), ENTRY_STORE_DONE, "a locate");
+    }
+    must_be(host_begin(h, CALLER), ENTRY_STORE_OK, "begin");
+    must_be(host_run(h, CALLER, insert, NULL, phone, h), ENTRY_STORE_DONE, "an insert");
+    printf("  session %d goes on\n", CALLER);
+    must_be(host_abort(h, CALLER), ENTRY_STORE_OK, "abort");
+    list_free(&list);
+}
+
+// ---- a restart
+
 // After a restart: whoever had begun is there no more, so what they did is undone.
 static int restart(struct yard *y)
 {
@@ -768,6 +811,7 @@ static int play_morning(struct yard *y)
     if (good) {
         printf("\n%u times somebody waited for another's step on the way down the tree.\n", y->short_waits);
         print_stretches(&y->host);
+        print_phoning(&y->host);
         good = y->image == NULL || (y->saved && restart(y));
     }
     list_free(&y->actors[PLANNER].list);

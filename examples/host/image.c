@@ -13,7 +13,7 @@ enum { MAGIC_BYTES = 8, HEAD_BYTES = 20, WORD_BYTES = 4, FIELDS = ENTRY_STORE_SE
 // More than any store needs: words beyond 4,096 records are never touched.
 enum { MAX_IMAGE_WORDS = 1 << 24 };
 
-static const unsigned char magic[MAGIC_BYTES] = {'E', 'N', 'T', 'R', 'Y', 'S', 'T', '1'};
+static const unsigned char magic[MAGIC_BYTES] = {'E', 'N', 'T', 'R', 'Y', 'S', 'T', '2'};
 
 // ---- bytes
 
@@ -63,7 +63,7 @@ static size_t image_bytes(size_t words)
 static void session_to_words(const struct entry_store_session *s, uint32_t *w)
 {
     const uint32_t fields[FIELDS] = {s->begun, s->code,  s->entry, s->first, s->second, s->stage, s->target,
-                                     s->at,    s->level, s->low,   s->high,  s->last,   s->undo};
+                                     s->at,    s->level, s->low,   s->high,  s->last,   s->undo,  s->order};
     memcpy(w, fields, sizeof fields);
 }
 
@@ -71,7 +71,7 @@ static void session_from_words(struct entry_store_session *s, const uint32_t *w)
 {
     uint32_t *const fields[FIELDS] = {&s->begun, &s->code,   &s->entry, &s->first, &s->second,
                                       &s->stage, &s->target, &s->at,    &s->level, &s->low,
-                                      &s->high,  &s->last,   &s->undo};
+                                      &s->high,  &s->last,   &s->undo,  &s->order};
     for (int k = 0; k < FIELDS; k++) {
         *fields[k] = w[k];
     }

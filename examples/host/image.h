@@ -5,12 +5,15 @@
 // written whole beside the old one and then takes its name.
 //
 //   bytes    what, in words of four bytes, the lowest byte first
-//   0        the letters ENTRYST1
+//   0        the letters ENTRYST2
 //   8        number of words of the store, n
 //   12       number of records of the table
 //   16       CRC-32 of all that follows
 //   20       the n words of the store
 //   20 + 4n  the records, fields in the header file's order
+//
+// Files with the letters ENTRYST1 are older: their records lack the order of
+// begins, and they are turned down.
 //
 // The soundness test sees damage to the structure, but any value of an entry
 // is sound: the sum sees those too.

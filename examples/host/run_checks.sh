@@ -11,7 +11,7 @@
 #   dump.txt       the image that it saves in the middle, and the holders of four keys
 #   middle.dot     the same image as a picture; docs/middle.svg is drawn from it
 #   damaged.txt    the same image with a member's chain that leads into itself, in full
-#   parts.txt      the image damaged in ten ways, one for each part of soundness; each can be drawn too
+#   parts.txt      the image damaged in eleven ways, one for each part of soundness; each can be drawn too
 #   short.txt      images that are cut short must be turned down
 #   words.txt      wrong options and files, with the reasons, and a script whose answers are others
 set -eu
@@ -55,9 +55,9 @@ part() {
     [ "$(tail -n 1 "$folder/damaged.dot")" = "}" ] || echo "--dot: not whole"
 }
 
-# Where things lie in this image: 32 entries, so record i starts at word 112 + 20 (i - 1); 1792 words, then 13 a session.
+# Where things lie in this image: 32 entries, so record i starts at word 112 + 20 (i - 1); 1792 words, then 14 a session.
 record() { echo $((112 + 20 * ($1 - 1) + $2)); }
-session() { echo $((1792 + 13 * $1 + $2)); }
+session() { echo $((1792 + 14 * $1 + $2)); }
 
 parts() {
     part 1 83                      # R
@@ -70,6 +70,7 @@ parts() {
     part "$(record 9 2)" 1         # a locate holder that has not begun
     part 5 1                       # free chain that starts at a node
     part "$(session 6 12)" 0       # take-backs that nothing reaches
+    part "$(session 3 13)" 1       # session 6's number in the order of begins
 }
 
 # hold NAME: what comes in is compared with a file in expected/, or written to it.
@@ -88,7 +89,7 @@ hold() {
 
 # Every prefix of an image, and every file that is none, is turned down with exit status 2.
 turned_down() {
-    for size in 0 7 19 20 21 1000 8071; do
+    for size in 0 7 19 20 21 1000 8139; do
         head -c "$size" "$image" >"$folder/damaged.image"
         status=0
         "$folder/dump" "$folder/damaged.image" >/dev/null || status=$?

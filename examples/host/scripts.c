@@ -19,8 +19,7 @@
 // C of them.
 //
 // An answer is its word and numbers: refused has two, done of a tidy too, done of a locate has the pairs
-// key:entry behind its count. Behind the answer of a day call stands the place, - for none. Where several
-// parties may be named, wait has them all: wait 1,3.
+// key:entry behind its count. Behind the answer of a day call stands the place, - for none.
 #include "scripts.h"
 #include "store_host.h"
 
@@ -338,25 +337,6 @@ static int play_call(struct player *p, char *call)
     return !p->wrong;
 }
 
-// Whether the answer is the one that a line has: word by word, where any party of `1,3` will do.
-static int is_answer(const char *said, const char *line)
-{
-    while (*said != 0 && *line != 0) {
-        size_t length = strcspn(said, " "), room = strcspn(line, " ");
-        const char *end = line + room, *at = line;
-        while (strcspn(at, " ,") != length || strncmp(at, said, length) != 0) {
-            at += strcspn(at, " ,");
-            if (at == end) {
-                return 0;
-            }
-            at += 1;
-        }
-        said += length + (said[length] == ' ');
-        line += room + (line[room] == ' ');
-    }
-    return *said == 0 && *line == 0;
-}
-
 // 1 where the answer is another than the line's.
 static int play_line(struct player *p, const char *name, unsigned number, char *line)
 {
@@ -372,7 +352,7 @@ static int play_line(struct player *p, const char *name, unsigned number, char *
         printf("%s:%u: no such call: %s\n", name, number, line);
         return 1;
     }
-    if (is_answer(p->said, answer + 3)) {
+    if (strcmp(p->said, answer + 3) == 0) {
         return 0;
     }
     printf("%s:%u: %s = %s, but it answers %s\n", name, number, line, answer + 3, p->said);

@@ -112,6 +112,21 @@ struct entry_store_ask ask_request(uint32_t party, struct request r)
 
 // ---- looking
 
+uint32_t host_line(const struct store_host *h, uint32_t sessions[ENTRY_STORE_SESSIONS])
+{
+    uint32_t count = 0;
+    for (uint32_t p = 1; p <= ENTRY_STORE_SESSIONS; p++) {
+        if (h->table[p].begun != 0) {
+            uint32_t k = count++;
+            for (; k > 0 && h->table[sessions[k - 1]].order > h->table[p].order; k--) {
+                sessions[k] = sessions[k - 1];
+            }
+            sessions[k] = p;
+        }
+    }
+    return count;
+}
+
 uint32_t host_free(const struct store_host *h)
 {
     return entry_store_value_of(entry_store_free(h->words, h->length, h->table, ENTRY_STORE_PARTIES));
@@ -277,6 +292,7 @@ static const char *const parts[] = {
     "the free chain goes only to records that nothing else reaches",
     "every record is reached",
     "the table has " ENTRY_STORE_TEXT(ENTRY_STORE_PARTIES) " records",
+    "no two begun sessions share a number in the order of begins",
 };
 
 const char *part_in_full(uint32_t part)

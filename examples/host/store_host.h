@@ -56,6 +56,9 @@ struct entry_store_answer host_batch(struct store_host *h, const struct entry_st
 struct entry_store_ask ask_call(uint32_t kind, uint32_t party);
 struct entry_store_ask ask_request(uint32_t party, struct request r);
 
+// The begun sessions, the one that began first in front; how many they are. sessions has room for them all.
+uint32_t host_line(const struct store_host *h, uint32_t sessions[ENTRY_STORE_SESSIONS]);
+
 // How many records are free, and who holds a key: session s in locate mode is bit s - 1, in update mode bit
 // 16 + s - 1. The store is sound.
 uint32_t host_free(const struct store_host *h);
@@ -75,8 +78,8 @@ int is_short_wait(const struct store_host *h, uint32_t party);
 int list_grow(struct pair_list *list, uint32_t pairs);
 void list_free(struct pair_list *list);
 
-// Called at each wait with the party in the way: lets others move, and answers
-// whether to try again.
+// Called at each wait with the party that it names (docs/HOST.md, "Whom to
+// phone"): lets others move, and answers whether to try again.
 typedef int (*wait_handler)(void *context, uint32_t party, uint32_t holder);
 
 // Runs a request to its end and gives its last answer: done, a refusal, or a

@@ -60,6 +60,7 @@ idled-same x e =
       high = x .high;
       last = x .last;
       undo = x .undo;
+      order = x .order;
     }
 
 unbegun-idled : (x : Session) → unbegun (idled x) ≡ unbegun x

@@ -3,7 +3,7 @@
 // The caller has tested that store and table are sound (not for format) and that no check of the call's list refuses. Each then does its row, and promises
 // what the crate promises says of a call on sound words (Serves): the answer is the machine's, and store and table mean the machine's next state; of
 // format, that it leaves a fresh store (Formats). A step stands in the crate stepping. It rests on refusals for a party's record, on leaving and aborting
-// for the rows, on endings for session records by value and for the fresh store.
+// for the rows, on endings for session records by value and for the fresh store, on seniority for the order of begins.
 ghost use mathlib.Core.Path.{_≡_};
 ghost use mathlib.Core.List.{[]};
 ghost use lib.ListN.{length};
@@ -21,14 +21,16 @@ use outcomes::Served;
 use sessions::PARTIES;
 use sessions::Session;
 
-// A session begins.
+// A session begins: those that are begun are renumbered, and its number is behind theirs.
 pub fn begin(store: &[u32], t: [Session; PARTIES], p: u32) -> Served
     requires { ⌜ Sound (now store) t × (first-of (begin-list t p) ≡ 0) ⌝ }
     ensures { λ r. ⌜ Serves (C.begin p) (now (store .entry)) t (said (r .answer)) [] (now (store .entry)) (r .table) ⌝ }
 {
+    let ranked = seniority::renumbered(t);
+    let count = seniority::begun_count(t);
     let x = refusals::seat(t, p);
-    let y = endings::begun_session(x);
-    let after = refusals::settle(t, p, y); // begun
+    let y = endings::begun_session(x, count + 1);
+    let after = refusals::settle(ranked, p, y); // begun
     Served {
         table: after,
         answer: Answer::Ok,

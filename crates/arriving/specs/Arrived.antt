@@ -8,6 +8,7 @@ use native.Mathlib.Omega.{arith}
 use lib.Dec.{eqb}
 use borrow.Author.Tests.{eq-eqb, ne-eqb}
 use Rattle.sessions.specs.declared.Session.{Session}
+use Rattle.sessions.specs.Sessions.{tenure}
 use Rattle.machine.specs.Logic.{eqb-is, eqb-not}
 use Rattle.machine.specs.State.{State, enter, change, take, in-stage}
 use Rattle.machine.specs.Steps.{arrived}
@@ -31,11 +32,12 @@ module _ (x : Session) (d : ℕ) where
       go true false c = refl
       go false b c = refl
 
-  pub arrived-begun : arrivedAt x d .begun ≡ x .begun
+  pub arrived-tenure : tenure (arrivedAt x d) ≡ tenure x
   unfolding arrivedAt toTake toSecond toChange
-  arrived-begun = go (eqb (x .code) 5) (eqb (x .target) (x .second)) (eqb (x .first) (x .second))
+  arrived-tenure = go (eqb (x .code) 5) (eqb (x .target) (x .second)) (eqb (x .first) (x .second))
     where
-      go : (a b c : Bool) → cond a (cond b (cond c (staged x 5 (x .target) d (x .high) 0) (staged x 5 (x .target) (x .low) d 0)) (staged x 2 (x .second) d (x .high) (x .last))) (staged x 4 (x .target) d (x .high) (x .last)) .begun ≡ x .begun
+      go : (a b c : Bool)
+          → tenure (cond a (cond b (cond c (staged x 5 (x .target) d (x .high) 0) (staged x 5 (x .target) (x .low) d 0)) (staged x 2 (x .second) d (x .high) (x .last))) (staged x 4 (x .target) d (x .high) (x .last))) ≡ tenure x
       go true true true = refl
       go true true false = refl
       go true false c = refl

@@ -36,6 +36,7 @@ staged x stage target low high last =
       high = high;
       last = last;
       undo = x .undo;
+      order = x .order;
     }
 
 -- An insert or remove changes the group.

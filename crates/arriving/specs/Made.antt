@@ -30,7 +30,7 @@ use Rattle.arriving.specs.Beside.{Beside, made-leaf, stands-beside}
 use Rattle.arriving.specs.Before.{Pred, pred-at}
 use Rattle.arriving.specs.Lists.{snoc}
 use Rattle.arriving.specs.Standing.{descends-at, session-key, session-code}
-use Rattle.arriving.specs.Arrived.{arrived-undo, arrived-begun, arrived-hand, arrived-fits}
+use Rattle.arriving.specs.Arrived.{arrived-undo, arrived-tenure, arrived-hand, arrived-fits}
 use Rattle.arriving.specs.Making.{made-lay, leaves-made, made-has, make-is, made-holds, made-written}
 
 -- A chain that begins has a first record.
@@ -98,7 +98,7 @@ module _ (s : List ℕ) (t : List Session) (A : Stands s t) (p : ℕ) (nz : ¬ (
       record {
         lay = M;
         holds = made-holds s t A p nz P Q B f fr (arrivedAt x a) l (arrived-undo x a) own;
-        means-next = means-hand M t p (arrivedAt x a) (omega (arith, A .holds .seats, l)) (ap (λ b. eqb b 0) (arrived-begun x a)) ∙ ap₂ (λ r v. set-hand p r v) (arrived-hand x a) made-means;
+        means-next = means-hand M t p (arrivedAt x a) (omega (arith, A .holds .seats, l)) (arrived-tenure x a) ∙ ap₂ (λ r v. set-hand p r v) (arrived-hand x a) made-means;
         long = W .long;
         entries = W .entries;
         records = W .records;

@@ -32,7 +32,7 @@ use Rattle.arriving.specs.Site.{site-has}
 use Rattle.finishing.specs.Ended.{end-latch}
 use Rattle.arriving.specs.Handed.{left-hand}
 use Rattle.arriving.specs.Standing.{descends-at, session-code}
-use Rattle.arriving.specs.Arrived.{arrived-undo, arrived-begun, arrived-hand, arrived-fits}
+use Rattle.arriving.specs.Arrived.{arrived-undo, arrived-tenure, arrived-hand, arrived-fits}
 
 -- ---- a descriptor and the node's latch are changed in either order
 
@@ -98,4 +98,4 @@ pin-becomes s t A p l nz e N key =
     let own = arrived-fits x d (B .lay) p σ e (session-code L t (A .holds .seats) (A .sound) p l nz e) (descends-at L t (A .holds .seats) (A .sound) p l e) (B .has k d had)
     (λ q. B .has (x .first) (x .low) (A .holds .hands p l .low (λ z. omega (arith, z, e)) q)) in
     subst (Becomes s s₂ (set t p (arrivedAt x d))) (ap₂ (λ r v. set-hand p r v) (arrived-hand x d) (pinned-same p k σ))
-    (left-hand s t L s₂ (λ z. g (f z)) p (idled x) (arrivedAt x d) B (A .holds .seats) l (arrived-undo x d) (ap (λ b. eqb b 0) (arrived-begun x d)) own)
+    (left-hand s t L s₂ (λ z. g (f z)) p (idled x) (arrivedAt x d) B (A .holds .seats) l (arrived-undo x d) (arrived-tenure x d) own)

@@ -1,5 +1,5 @@
--- Runs, requests and batches in lists of calls: each is a list of ordinary calls, and what the host sees of it tells the same history; so demand 3 holds of
--- every list with them in it.
+-- Runs, requests and batches in lists of calls: each is a list of ordinary calls, and what the host sees of it tells the same history and the same line of
+-- begun sessions; so demand 3 holds of every list with them in it.
 use mathlib.Core.Path.{_≡_, refl, sym, ap, subst, _∙_}
 use mathlib.Core.List.{List, [], _∷_, _++_}
 use Prim.Native.Nat.{ℕ, zero, suc}
@@ -8,6 +8,7 @@ use lib.ListN.{length, replicate, drop}
 use Rattle.sessions.specs.declared.Session.{Session}
 use Rattle.serial.specs.Calls.{Turn, Told, nothing, tell, told, Run, stop, next, Demand-3}
 use Rattle.serial.specs.Calls as C
+use Rattle.serial.specs.Line.{in-line, line}
 use Rattle.meaning.specs.Sound.{Sound}
 use Rattle.promises.specs.Relations.{Formats}
 use Rattle.promises.specs.Demands.{Lending, Returns, words}
@@ -60,33 +61,51 @@ module _ (s : List ℕ) (t : List Session) (l : List ℕ) (a : C.Answer) (n : �
   asks-made (K.Request p c e f g b) h = h .made
   asks-made K.Other h = subst (λ z. Run calling (lending s t) [] (lending s′ z)) (sym (h .4)) (subst (λ z. Run calling (lending s t) [] (lending z t)) (sym (h .3)) stop)
 
--- An answer of more tells nothing.
-told-steps : (k p : ℕ) (l : List ℕ) (js : List Turn) (t : Told) → told t (replicate k (step-turn p l C.more l) ++ js) ≡ told t js
-told-steps zero p l js t = refl
-told-steps (suc k) p l js t = told-steps k p l js t
-
-run-told : (n p bound : ℕ) (l : List ℕ) (a : C.Answer) (l′ : List ℕ) → Within bound n a → (h : Told) → told h (steps n p l a l′) ≡ told h (step-turn p l a l′ ∷ [])
-run-told zero p bound l a l′ W h = absurd (omega (arith, W .some))
-run-told (suc k) p bound l a l′ W h = told-steps k p l (step-turn p l a l′ ∷ []) h
-
-request-told : (n p c e f g : ℕ) (l : List ℕ) (a : C.Answer) (l′ : List ℕ) (h : Told) → told h (asks n p c e f g l a l′) ≡ told h (asked n p c e f g l a l′)
-request-told zero p c e f g l a l′ h = refl
-request-told (suc k) p c e f g l a l′ h = told-steps k p l (step-turn p l a l′ ∷ []) (tell (put-turn p c e f g C.ok) h)
-
-module _ (s : List ℕ) (t : List Session) (l : List ℕ) (a : C.Answer) (n : ℕ) (l′ s′ : List ℕ) (t′ : List Session) where
-  pub asks-told : (k : Asking) → Asks k s t l a n l′ s′ t′ → (h : Told) → told h (turns k l a n l′) ≡ told h (seen k l a n l′)
-  asks-told (K.Begin p) d h = refl
-  asks-told (K.Put p c e f g) d h = refl
-  asks-told (K.Step p) d h = refl
-  asks-told (K.Commit p) d h = refl
-  asks-told (K.Abort p) d h = refl
-  asks-told (K.Run p b) d h = run-told n p b l a l′ (d .within) h
-  asks-told (K.Request p c e f g b) d h = request-told n p c e f g l a l′ h
-  asks-told K.Other d h = refl
-
-pub told-append : (ks ls : List Turn) (t : Told) → told t (ks ++ ls) ≡ told (told t ks) ls
+told-append : (ks ls : List Turn) (t : Told) → told t (ks ++ ls) ≡ told (told t ks) ls
 told-append [] ls t = refl
 told-append (k ∷ ks) ls t = told-append ks ls (tell k t)
+
+line-append : (ks ls : List Turn) (l : List ℕ) → line l (ks ++ ls) ≡ line (line l ks) ls
+line-append [] ls l = refl
+line-append (k ∷ ks) ls l = line-append ks ls (in-line l k)
+
+-- Lists of turns that tell the same: the same history, and the same line of begun sessions.
+pub record Alike (ks js : List Turn) : Type 0 where
+  pub tells : (h : Told) → told h ks ≡ told h js
+  pub lines : (l : List ℕ) → line l ks ≡ line l js
+
+pub alike : (ks : List Turn) → Alike ks ks
+alike ks = record { tells = λ h. refl; lines = λ l. refl }
+
+pub alike-append : {ks js ks′ js′ : List Turn} → Alike ks js → Alike ks′ js′ → Alike (ks ++ ks′) (js ++ js′)
+alike-append {ks} {js} {ks′} {js′} a b = record {
+  tells = λ h. told-append ks ks′ h ∙ b .tells (told h ks) ∙ ap (λ z. told z js′) (a .tells h) ∙ sym (told-append js js′ h);
+  lines = λ l. line-append ks ks′ l ∙ b .lines (line l ks) ∙ ap (λ z. line z js′) (a .lines l) ∙ sym (line-append js js′ l);
+}
+
+-- An answer of more tells nothing.
+told-steps : (k p : ℕ) (l : List ℕ) (js : List Turn) → Alike (replicate k (step-turn p l C.more l) ++ js) js
+told-steps zero p l js = alike js
+told-steps (suc k) p l js = let a = told-steps k p l js in record { tells = a .tells; lines = a .lines }
+
+run-told : (n p bound : ℕ) (l : List ℕ) (a : C.Answer) (l′ : List ℕ) → Within bound n a → Alike (steps n p l a l′) (step-turn p l a l′ ∷ [])
+run-told zero p bound l a l′ W = absurd (omega (arith, W .some))
+run-told (suc k) p bound l a l′ W = told-steps k p l (step-turn p l a l′ ∷ [])
+
+request-told : (n p c e f g : ℕ) (l : List ℕ) (a : C.Answer) (l′ : List ℕ) → Alike (asks n p c e f g l a l′) (asked n p c e f g l a l′)
+request-told zero p c e f g l a l′ = alike _
+request-told (suc k) p c e f g l a l′ = alike-append (alike (put-turn p c e f g C.ok ∷ [])) (told-steps k p l (step-turn p l a l′ ∷ []))
+
+module _ (s : List ℕ) (t : List Session) (l : List ℕ) (a : C.Answer) (n : ℕ) (l′ s′ : List ℕ) (t′ : List Session) where
+  pub asks-told : (k : Asking) → Asks k s t l a n l′ s′ t′ → Alike (turns k l a n l′) (seen k l a n l′)
+  asks-told (K.Begin p) d = alike _
+  asks-told (K.Put p c e f g) d = alike _
+  asks-told (K.Step p) d = alike _
+  asks-told (K.Commit p) d = alike _
+  asks-told (K.Abort p) d = alike _
+  asks-told (K.Run p b) d = run-told n p b l a l′ (d .within)
+  asks-told (K.Request p c e f g b) d = request-told n p c e f g l a l′
+  asks-told K.Other d = alike _
 
 -- ---- a batch
 
@@ -108,14 +127,11 @@ module _ {w : List ℕ} where
   batch-run (last {i} {a = a} {s = s} {l = l} {l′ = l′} {s′ = s′} {t = t} {t′ = t′} m e) = asks-made s t l a (m .steps) l′ s′ t′ (asking-at w i) (m .made)
   batch-run (goes {i} {a = a} {s = s} {l = l} {l₁ = l₁} {s₁ = s₁} {t = t} {t₁ = t₁} m e b) = run-append (asks-made s t l a (m .steps) l₁ s₁ t₁ (asking-at w i) (m .made)) (batch-run b)
 
-  pub batch-told : {i : ℕ} {s : List ℕ} {t : List Session} {l rs l′ s′ : List ℕ} {t′ : List Session} (b : Batched w i s t l rs l′ s′ t′) (h : Told)
-      → told h (batch-turns b) ≡ told h (batch-seen b)
+  pub batch-told : {i : ℕ} {s : List ℕ} {t : List Session} {l rs l′ s′ : List ℕ} {t′ : List Session} (b : Batched w i s t l rs l′ s′ t′) → Alike (batch-turns b) (batch-seen b)
   unfolding batch-turns batch-seen
-  batch-told (none e) h = refl
-  batch-told (last {i} {a = a} {s = s} {l = l} {l′ = l′} {s′ = s′} {t = t} {t′ = t′} m e) h = asks-told s t l a (m .steps) l′ s′ t′ (asking-at w i) (m .made) h
-  batch-told (goes {i} {a = a} {s = s} {l = l} {l₁ = l₁} {s₁ = s₁} {t = t} {t₁ = t₁} m e b) h =
-      told-append (turns (asking-at w i) l a (m .steps) l₁) (batch-turns b) h ∙ batch-told b (told h (turns (asking-at w i) l a (m .steps) l₁))
-      ∙ ap (λ z. told z (batch-seen b)) (asks-told s t l a (m .steps) l₁ s₁ t₁ (asking-at w i) (m .made) h) ∙ sym (told-append (seen (asking-at w i) l a (m .steps) l₁) (batch-seen b) h)
+  batch-told (none e) = alike []
+  batch-told (last {i} {a = a} {s = s} {l = l} {l′ = l′} {s′ = s′} {t = t} {t′ = t′} m e) = asks-told s t l a (m .steps) l′ s′ t′ (asking-at w i) (m .made)
+  batch-told (goes {i} {a = a} {s = s} {l = l} {l₁ = l₁} {s₁ = s₁} {t = t} {t₁ = t₁} m e b) = alike-append (asks-told s t l a (m .steps) l₁ s₁ t₁ (asking-at w i) (m .made)) (batch-told b)
 
 -- ---- lists of calls with them in it
 
@@ -141,11 +157,11 @@ serving-run (asks-one {x} {y} k l a n l′ d) = made-return (asks-made (x .store
 serving-run (batches b) = made-return (batch-run b)
 serving-run away = stop
 
-pub serving-told : {x y : Lending} {ks js : List Turn} → Serving x ks js y → (h : Told) → told h ks ≡ told h js
-serving-told (once d) h = refl
-serving-told (asks-one {x} {y} k l a n l′ d) h = asks-told (x .store) (x .table) l a n l′ (y .store) (y .table) k d h
-serving-told (batches b) h = batch-told b h
-serving-told away h = refl
+pub serving-told : {x y : Lending} {ks js : List Turn} → Serving x ks js y → Alike ks js
+serving-told (once d) = alike _
+serving-told (asks-one {x} {y} k l a n l′ d) = asks-told (x .store) (x .table) l a n l′ (y .store) (y .table) k d
+serving-told (batches b) = batch-told b
+serving-told away = alike []
 
 pub words-append : {x y z : Lending} {ks ls : List Turn} → Run words x ks y → Run words y ls z → Run words x (ks ++ ls) z
 words-append stop r = r
@@ -156,13 +172,12 @@ pub servings-run : {x y : Lending} {ks js : List Turn} → Servings x ks js y �
 servings-run over = stop
 servings-run (then s r) = words-append (serving-run s) (servings-run r)
 
--- and what the host sees tells the history that they tell.
-pub servings-told : {x y : Lending} {ks js : List Turn} → Servings x ks js y → (h : Told) → told h ks ≡ told h js
-servings-told over h = refl
-servings-told (then {ks = ks} {js = js} {ks′ = ks′} {js′ = js′} s r) h =
-    told-append ks ks′ h ∙ servings-told r (told h ks) ∙ ap (λ z. told z js′) (serving-told s h) ∙ sym (told-append js js′ h)
+-- and what the host sees tells what they tell.
+pub servings-told : {x y : Lending} {ks js : List Turn} → Servings x ks js y → Alike ks js
+servings-told over = alike []
+servings-told (then s r) = alike-append (serving-told s) (servings-told r)
 
 -- So it keeps demand 3, from a store and table as an accepted format leaves them.
 pub servings-demand-3 : (m : ℕ) (s s′ : List ℕ) (t t′ : List Session) → Formats m s t C.ok s′ t′ → (ks js : List Turn) (y : Lending) → Servings (lending s′ t′) ks js y
     → Demand-3 words (told nothing js) y
-servings-demand-3 m s s′ t t′ F ks js y r = subst (λ h. Demand-3 words h y) (servings-told r nothing) (formatted-calls m s s′ t t′ F ks y (servings-run r))
+servings-demand-3 m s s′ t t′ F ks js y r = subst (λ h. Demand-3 words h y) (servings-told r .tells nothing) (formatted-calls m s s′ t t′ F ks y (servings-run r))

@@ -50,48 +50,51 @@ pub const REFUSED: usize = 42;
 
 // Views compared, keys compared, calls that had to change nothing, replays of committed and of other sessions, finished requests, contents compared,
 // aborts of copies, questions to the checker, damaged copies found sound and unsound, the greatest height and number of descriptors.
-pub const VIEWS: usize = 86;
+pub const VIEWS: usize = 90;
 
-pub const KEYS_SEEN: usize = 87;
+pub const KEYS_SEEN: usize = 91;
 
-pub const UNCHANGED: usize = 89;
+pub const UNCHANGED: usize = 93;
 
-pub const COMMITTED: usize = 90;
+pub const COMMITTED: usize = 94;
 
-pub const UNFINISHED: usize = 91;
+pub const UNFINISHED: usize = 95;
 
-pub const REQUESTS: usize = 92;
+pub const REQUESTS: usize = 96;
 
-pub const CONTENTS: usize = 93;
+pub const CONTENTS: usize = 97;
 
-pub const COPIES_ABORTED: usize = 94;
+pub const COPIES_ABORTED: usize = 98;
 
-pub const CHECKED: usize = 95;
+pub const CHECKED: usize = 99;
 
-pub const DAMAGED_SOUND: usize = 96;
+pub const DAMAGED_SOUND: usize = 100;
 
-pub const DAMAGED_UNSOUND: usize = 97;
+pub const DAMAGED_UNSOUND: usize = 101;
 
-pub const HEIGHT: usize = 98;
+pub const HEIGHT: usize = 102;
 
-pub const DESCRIPTORS: usize = 99;
+pub const DESCRIPTORS: usize = 103;
 
 // Of the day calls that were not refused: those that put a request, those that were a step; the steps that finished a request before the day's last, and
 // the last.
-pub const DAY_PUTS: usize = 100;
+pub const DAY_PUTS: usize = 104;
 
-pub const DAY_STEPS: usize = 101;
+pub const DAY_STEPS: usize = 105;
 
-pub const DAY_REQUESTS: usize = 102;
+pub const DAY_REQUESTS: usize = 106;
 
-pub const DAYS: usize = 103;
+pub const DAYS: usize = 107;
+
+// How often the parties were given other numbers in the order of begins.
+pub const SPREAD: usize = 108;
 
 // The first difference: round and call, the number of the store and that of the model; how many differences there are; what differs first.
-pub const FIRST: usize = 104;
+pub const FIRST: usize = 109;
 
-pub const DIFFERENCES: usize = 108;
+pub const DIFFERENCES: usize = 113;
 
-pub const WHAT: usize = 109;
+pub const WHAT: usize = 114;
 
 // What may differ.
 pub const WORD: u32 = 1;
@@ -145,6 +148,8 @@ pub const LOGICAL_GROUP: u32 = 24;
 pub const DAMAGE: u32 = 25;
 
 pub const PLACE: u32 = 26;
+
+pub const ORDER: u32 = 27;
 
 fn tell_first(b: &mut Book, what: u32, left: u32, right: u32) {
     copy(b, ROUND, FIRST, 2);

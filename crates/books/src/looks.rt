@@ -1,4 +1,4 @@
-// Looks: store and model compared whole: free count, entries, holders and members of keys, the shape of the tree.
+// Looks: store and model compared whole: free count, entries, holders and members of keys, the shape of the tree, the order of begins.
 use crate::book::DESCRIPTORS;
 use crate::book::ENTRIES;
 use crate::book::EXCLUSIVE;
@@ -11,6 +11,7 @@ use crate::book::LEVELS;
 use crate::book::LOCATE;
 use crate::book::Model;
 use crate::book::NODES;
+use crate::book::ORDER;
 use crate::book::RANGE;
 use crate::book::SHARE;
 use crate::book::STORED_KEYS;
@@ -19,6 +20,7 @@ use crate::book::VALUE;
 use crate::book::VIEWS;
 use crate::book::raise;
 use crate::book::same;
+use crate::seats::order;
 use schedules::book::Book;
 use schedules::book::count;
 use schedules::book::get;
@@ -30,6 +32,7 @@ use schedules::reading::field;
 use schedules::reading::length;
 use schedules::reading::members;
 use schedules::reading::nodes;
+use schedules::side::PARTIES;
 use schedules::side::Side;
 use schedules::side::word;
 use std::num::wrapping_add_u32;
@@ -157,8 +160,18 @@ fn see_tree(s: &Side, a: &Model, b: &mut Book) {
     raise(b, DESCRIPTORS, length(s, reading::FIRST));
 }
 
+// The numbers of all parties in the order of begins.
+fn see_orders(s: &Side, a: &Model, b: &mut Book) {
+    let mut p = 0;
+    while p < PARTIES {
+        same(b, ORDER, order(s, p), naive::order(a, p));
+        p += 1;
+    }
+}
+
 pub fn see(s: &Side, a: &Model, b: &mut Book) {
     count(b, VIEWS);
+    see_orders(s, a, b);
     see_tree(s, a, b);
     see_entries(s, a, b);
     see_keys(s, a, b);

@@ -45,8 +45,10 @@ fn tell_label(n: u32) {
  descriptors tidied\n tidies that declined\n tidies with nothing above\n inserts that added
  inserts of a member\n removes that took out\n removes of an absent one\n reads\n writes\n locates
  keys taken with their gap\n waits for an entry\n waits for a key\n waits for a short lock
+ waits with several sessions in the way\n waits with two short locks in the way
+ of both, waits that name another than the lowest party
  values taken back\n inserts taken back\n removes taken back\n aborts with a request in hand
- commits with take-back records
+ commits with take-back records\n begins that gave a session another number
  whole comparisons of entries, tree and free count\n comparisons of a key's holders and members
  comparisons of the lists\n waits and refusals that changed no word
  committed sessions run on the logical model\n aborted sessions run on a copy of it
@@ -54,7 +56,7 @@ fn tell_label(n: u32) {
  stores sound to the checker\n copies with a word changed sound to both judges
  copies with a word changed refused by both, by 2\n levels of nodes at most\n descriptors at most
  requests put by day calls\n steps by day calls\n requests of a day finished before its last
- days finished
+ days finished\n tables lent with other numbers in the same order
  round of the first difference\n call in it\n number of the store\n number of the model\n differences
 ",
         n,
@@ -91,17 +93,18 @@ the logical value of an entry
 the logical members of a key
 the soundness of a damaged copy
 the place of a day
+the number of a party in the order of begins
 ",
         what,
     );
 }
 
-// The number of line n: from 25 to 53 an event of the model; 56 is how often the lists were compared, which is at each call.
+// The number of line n: from 25 to 57 an event of the model; 60 is how often the lists were compared, which is at each call.
 fn number(a: &Model, b: &Book, n: u32) -> u32 {
-    if 24 < n && n < 54 {
+    if 24 < n && n < 58 {
         return naive::counted(a, n - 25);
     }
-    if n == 56 {
+    if n == 60 {
         return get(b, LINES);
     }
     get(b, LINES + wide(n))
@@ -121,10 +124,10 @@ fn tell_rows(a: &Model, b: &Book, from: u32, end: u32) {
 }
 
 pub fn report(a: &Model, b: &Book) {
-    tell_rows(a, b, 0, 72);
+    tell_rows(a, b, 0, 77);
     if get(b, DIFFERENCES) != 0 {
-        tell_rows(a, b, 72, 76);
+        tell_rows(a, b, 77, 81);
         tell_what(get(b, WHAT));
     }
-    tell_row(a, b, 76);
+    tell_row(a, b, 81);
 }

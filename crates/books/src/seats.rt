@@ -1,4 +1,5 @@
 // Seats: the session table of a side.
+use schedules::side::ORDER;
 use schedules::side::SESSION_WORDS;
 use schedules::side::Side;
 use schedules::side::TABLE;
@@ -28,6 +29,7 @@ fn seat(s: &Side, p: usize) -> Session {
         high: seat_word(s, p, 10),
         last: seat_word(s, p, 11),
         undo: seat_word(s, p, 12),
+        order: seat_word(s, p, ORDER),
     }
 }
 
@@ -57,7 +59,8 @@ fn field(x: Session, k: usize) -> u32 {
         9 => x.low,
         10 => x.high,
         11 => x.last,
-        _ => x.undo,
+        12 => x.undo,
+        _ => x.order,
     }
 }
 
@@ -68,6 +71,19 @@ pub fn set_table(s: &mut Side, t: [Session; PARTIES]) {
         set_word(s, i, field(x, i % SESSION_WORDS));
         i += 1;
     }
+}
+
+// Where the number of party p in the order of begins stands.
+fn order_place(p: u32) -> usize {
+    SESSION_WORDS * (wide(p) % PARTIES) + ORDER
+}
+
+pub fn order(s: &Side, p: u32) -> u32 {
+    word(s, order_place(p))
+}
+
+pub fn set_order(s: &mut Side, p: u32, x: u32) {
+    set_word(s, order_place(p), x);
 }
 
 // Is session p begun?

@@ -7,9 +7,10 @@ use Prim.Native.Nat.{ℕ, zero, suc, _+_, _-_, _*_}
 use Prim.Native.String.{String}
 use lib.ListN.{replicate}
 use Rattle.machine.specs.Tree.{Node}
-use Rattle.machine.specs.State.{State, at, top, set-hand}
+use Rattle.machine.specs.Holders.{width}
+use Rattle.machine.specs.State.{State, at, top, idle, with-table, set-hand}
 use Rattle.machine.specs.Calls.{format, begin, put, step}
-use Rattle.cases.specs.Rows.{Told, ok, more, wait, waits, done, found, tidied, refused, short, Line, does, goes, _⇒_, puts, b, r, w, i, d, l, t, s, g, c, a, by, low, over, tens, planted, well, free, records, entry, group, gone, tree, Start, formats, from, Row, row, result, expected}
+use Rattle.cases.specs.Rows.{Told, ok, more, wait, done, found, tidied, refused, short, Line, does, goes, _⇒_, puts, b, r, w, i, d, l, t, s, g, c, a, by, low, over, tens, begun-from, planted, well, begun, free, records, entry, group, gone, tree, Start, formats, from, Row, row, result, expected}
 
 -- ---- starting states, all with 3 entries; n records are free
 
@@ -155,8 +156,8 @@ locks =
     ∷ row "a session's own locks are not in its way" store
     (r 1 1 ⇒ done 0 ∷ w 1 1 7 ⇒ done 0 ∷ r 1 1 ⇒ done 7 ∷ l 1 10 10 ⇒ done 0 ∷ i 1 1 10 ⇒ done 1 ∷ l 1 10 10 ⇒ found ((10, 1) ∷ []) ∷ [])
     (entry 1 7 1 1 ∷ group 10 1 1 0 0 (1 ∷ []) ∷ free 6 ∷ [])
-    ∷ row "two in the way, of a write" store (r 1 1 ⇒ done 0 ∷ r 2 1 ⇒ done 0 ∷ r 16 1 ⇒ done 0 ∷ w 2 1 7 ⇒ waits (1 ∷ 16 ∷ []) ∷ []) (entry 1 0 32771 0 ∷ [])
-    ∷ row "two in the way, of an insert" store (l 1 10 10 ⇒ done 0 ∷ l 3 10 10 ⇒ done 0 ∷ i 2 1 10 ⇒ waits (1 ∷ 3 ∷ []) ∷ []) (group 10 5 0 0 1 [] ∷ [])
+    ∷ row "two in the way, of a write" store (r 1 1 ⇒ done 0 ∷ r 2 1 ⇒ done 0 ∷ r 16 1 ⇒ done 0 ∷ w 2 1 7 ⇒ wait 1 ∷ []) (entry 1 0 32771 0 ∷ [])
+    ∷ row "two in the way, of an insert" store (l 1 10 10 ⇒ done 0 ∷ l 3 10 10 ⇒ done 0 ∷ i 2 1 10 ⇒ wait 1 ∷ []) (group 10 5 0 0 1 [] ∷ [])
     ∷ row "the one who waits goes on after a commit" store (l 1 10 20 ⇒ done 0 ∷ i 2 1 10 ⇒ wait 1 ∷ s 2 ⇒ wait 1 ∷ c 1 ⇒ ok ∷ s 2 ⇒ done 1 ∷ [])
     (group 10 0 2 0 0 (1 ∷ []) ∷ group 20 0 0 0 0 [] ∷ [])
     ∷ []
@@ -235,12 +236,12 @@ tidies =
 
 -- ---- latches (document 01: short locks)
 
--- Session p's locate of k stands at a node. No call leads to a latched root over a lone node, but it is sound.
+-- Session p's locate of k stands at a node; p's at a root over a lone node, with latch word v. No call leads to a latched root over a lone node, but it is sound.
 abbrev standing : ℕ → ℕ → State → State
 standing p k x = set-hand p (some (record { code = 5; entry = 0; first = k; second = k; stage = at k })) x
 
-abbrev latched : ℕ → State
-latched v = standing 1 10 (planted 3 2 1 (over (by 1) (low v (tens 0 4) top ∷ [])))
+abbrev latched : ℕ → ℕ → State
+latched p v = standing p 10 (planted 3 2 1 (over (by p) (low v (tens 0 4) top ∷ [])))
 
 abbrev latches : List (Row String)
 latches =
@@ -263,15 +264,17 @@ latches =
     (tree 1 (over (by 0) (trio 0 3 (by 1) 4)) ∷ free 0 ∷ [])
     ∷ row "the neighbour of a node of 4 is not in the way" (two 0 (trio 0 4 0 4)) (along 2 1 (l 1 10 10) ++ along 2 0 (t 0 49))
     (tree 1 (over 0 (trio (by 1) 4 (by 0) 4)) ∷ free 0 ∷ [])
-    ∷ row "neighbour and son: two in the way" (two 0 (trio 0 4 0 3)) (along 2 2 (l 2 10 10) ++ along 2 1 (l 1 50 50) ++ along 1 0 (t 0 49) ++ s 0 ⇒ waits (2 ∷ 1 ∷ []) ∷ [])
+    ∷ row "left neighbour and son: the left one's is named, whoever began first" (two 0 (trio 0 4 0 3)) (along 2 2 (l 2 10 10) ++ along 2 1 (l 1 50 50) ++ along 1 0 (t 0 49) ++ s 0 ⇒ wait 2 ∷ [])
     (tree 1 (over (by 0) (trio (by 2) 4 (by 1) 3)) ∷ free 0 ∷ [])
+    ∷ row "son and right neighbour: the left one's is named, whoever began first" (two 0 (trio 0 3 0 4)) (along 2 2 (l 2 10 10) ++ along 2 1 (l 1 40 40) ++ along 1 0 (t 0 9) ++ s 0 ⇒ wait 2 ∷ [])
+    (tree 1 (over (by 0) (trio (by 2) 3 (by 1) 4)) ∷ free 0 ∷ [])
     ∷ row "a son that is moved is not in the way" (three 0 (uppers 0 6 0 3)) (along 3 1 (l 1 160 160) ++ along 2 0 (t 0 189))
     (tree 2 (over 0 (over 0 (lows 0 5) ∷ over (by 0) (low (by 1) (tens 15 3) 175 ∷ lows 6 3) ∷ upper-last 9)) ∷ free 0 ∷ [])
-    ∷ row "a root to be dropped" (from (latched 0)) (l 2 20 20 ⇒ wait 1 ∷ []) (tree 1 (over (by 1) (low 0 (tens 0 4) top ∷ [])) ∷ free 2 ∷ [])
-    ∷ row "the son of a root to be dropped" (from (latched 0)) (l 2 20 20 ⇒ wait 1 ∷ s 1 ⇒ more ∷ s 2 ⇒ wait 1 ∷ []) (tree 1 (over 0 (low (by 1) (tens 0 4) top ∷ [])) ∷ free 2 ∷ [])
-    ∷ row "root and son released, and the root dropped" (from (latched 0)) (l 2 20 20 ⇒ wait 1 ∷ s 1 ⇒ more ∷ s 1 ⇒ more ∷ s 2 ⇒ more ∷ []) (tree 0 (low (by 2) (tens 0 4) top) ∷ free 3 ∷ [])
-    ∷ row "a root to be dropped and its son: two in the way" (from (standing 3 20 (latched (by 3))))
-    (l 2 20 20 ⇒ waits (1 ∷ 3 ∷ []) ∷ []) (tree 1 (over (by 1) (low (by 3) (tens 0 4) top ∷ [])) ∷ free 2 ∷ [])
+    ∷ row "a root to be dropped" (from (latched 1 0)) (l 2 20 20 ⇒ wait 1 ∷ []) (tree 1 (over (by 1) (low 0 (tens 0 4) top ∷ [])) ∷ free 2 ∷ [])
+    ∷ row "the son of a root to be dropped" (from (latched 1 0)) (l 2 20 20 ⇒ wait 1 ∷ s 1 ⇒ more ∷ s 2 ⇒ wait 1 ∷ []) (tree 1 (over 0 (low (by 1) (tens 0 4) top ∷ [])) ∷ free 2 ∷ [])
+    ∷ row "root and son released, and the root dropped" (from (latched 1 0)) (l 2 20 20 ⇒ wait 1 ∷ s 1 ⇒ more ∷ s 1 ⇒ more ∷ s 2 ⇒ more ∷ []) (tree 0 (low (by 2) (tens 0 4) top) ∷ free 3 ∷ [])
+    ∷ row "a root to be dropped and its son: the root's is named, whoever began first" (from (standing 1 20 (latched 3 (by 1))))
+    (l 2 20 20 ⇒ wait 3 ∷ []) (tree 1 (over (by 3) (low (by 1) (tens 0 4) top ∷ [])) ∷ free 2 ∷ [])
     ∷ row "a lone son that the housekeeper has just joined" (two 0 (low 0 (tens 0 4) 35 ∷ low 0 (tens 4 3) top ∷ [])) (along 2 0 (t 0 49) ++ l 1 10 10 ⇒ wait 0 ∷ [])
     (tree 1 (over 0 (low (by 0) (tens 0 7) top ∷ [])) ∷ free 1 ∷ [])
     ∷ row "wait before 11: a full root" (one 1 (tens 0 8)) (along 1 0 (t 0 0) ++ l 1 35 35 ⇒ wait 0 ∷ []) (tree 0 (low (by 0) (tens 0 8) top) ∷ free 1 ∷ [])
@@ -296,6 +299,37 @@ ends =
     ∷ row "abort between a locate's two descents" store (along 2 1 (l 1 5 15) ++ a 1 ⇒ ok ∷ []) (group 5 0 0 0 0 [] ∷ gone 15 ∷ free 8 ∷ [])
     ∷ row "the others' locks stay" store (l 1 10 20 ⇒ done 0 ∷ l 2 10 20 ⇒ done 0 ∷ r 1 1 ⇒ done 0 ∷ r 2 1 ⇒ done 0 ∷ c 1 ⇒ ok ∷ [])
     (group 10 2 0 2 0 [] ∷ group 20 2 0 0 0 [] ∷ entry 1 0 2 0 ∷ [])
+    ∷ []
+
+-- ---- the order of begins
+
+-- Sessions 3, 1 and 2 begin in this order.
+abbrev order : String → List (Line × Told) → List ℕ → Row String
+order n ls ns = row n (formats 3 225 ok) (b 3 ⇒ ok ∷ b 1 ⇒ ok ∷ b 2 ⇒ ok ∷ ls) (begun ns ∷ [])
+
+-- Sessions 1, 2 and 4 are begun, with these numbers.
+abbrev numbered : ℕ → ℕ → ℕ → Start
+numbered x y z =
+    let rest = begun-from z 1 ++ replicate (width - 4) idle in
+    from (with-table (idle ∷ (begun-from x 1 ++ begun-from y 1 ++ idle ∷ rest)) (planted 3 9 0 (low 0 (tens 0 4) top)))
+
+abbrev begins : List (Row String)
+begins =
+    order "begun in turn" [] (1 ∷ 2 ∷ 2 ∷ 3 ∷ 3 ∷ 1 ∷ [])
+    ∷ order "a request, a step and a commit number nobody" (r 2 1 ⇒ done 0 ∷ c 3 ⇒ ok ∷ []) (1 ∷ 2 ∷ 2 ∷ 3 ∷ [])
+    ∷ order "who commits and begins again is the last" (c 3 ⇒ ok ∷ b 3 ⇒ ok ∷ []) (1 ∷ 1 ∷ 2 ∷ 2 ∷ 3 ∷ 3 ∷ [])
+    ∷ order "who aborts and begins again is the last" (a 1 ⇒ ok ∷ b 1 ⇒ ok ∷ []) (1 ∷ 3 ∷ 2 ∷ 2 ∷ 3 ∷ 1 ∷ [])
+    ∷ order "one ends, another begins" (c 1 ⇒ ok ∷ b 16 ⇒ ok ∷ []) (2 ∷ 2 ∷ 3 ∷ 1 ∷ 16 ∷ 3 ∷ [])
+    ∷ order "a refused begin numbers nobody" (c 3 ⇒ ok ∷ b 1 ⇒ refused 5 ∷ b 0 ⇒ refused 4 ∷ b 17 ⇒ refused 4 ∷ []) (1 ∷ 2 ∷ 2 ∷ 3 ∷ [])
+    ∷ order "format ends all" (does (format 2 182) ⇒ ok ∷ b 4 ⇒ ok ∷ []) (4 ∷ 1 ∷ [])
+    ∷ order "of two sharers the one that began first is named" (r 1 1 ⇒ done 0 ∷ r 3 1 ⇒ done 0 ∷ w 2 1 7 ⇒ wait 3 ∷ []) (1 ∷ 2 ∷ 2 ∷ 3 ∷ 3 ∷ 1 ∷ [])
+    ∷ order "of two locators too" (l 1 10 10 ⇒ done 0 ∷ l 3 10 10 ⇒ done 0 ∷ i 2 1 10 ⇒ wait 3 ∷ []) (1 ∷ 2 ∷ 2 ∷ 3 ∷ 3 ∷ 1 ∷ [])
+    ∷ order "who began first, committed and began again is no longer named" (c 3 ⇒ ok ∷ b 3 ⇒ ok ∷ r 3 1 ⇒ done 0 ∷ r 1 1 ⇒ done 0 ∷ w 2 1 7 ⇒ wait 1 ∷ []) (1 ∷ 1 ∷ 2 ∷ 2 ∷ 3 ∷ 3 ∷ [])
+    ∷ order "when the one named ends, the next is named" (r 1 1 ⇒ done 0 ∷ r 3 1 ⇒ done 0 ∷ w 2 1 7 ⇒ wait 3 ∷ c 3 ⇒ ok ∷ g 2 ⇒ wait 1 ∷ []) (1 ∷ 2 ∷ 2 ∷ 3 ∷ [])
+    ∷ order "the asker's own number plays no part" (r 1 1 ⇒ done 0 ∷ r 2 1 ⇒ done 0 ∷ r 3 1 ⇒ done 0 ∷ w 3 1 7 ⇒ wait 1 ∷ []) (1 ∷ 2 ∷ 2 ∷ 3 ∷ 3 ∷ 1 ∷ [])
+    ∷ row "any numbers are sound" (numbered top 0 7) (r 1 1 ⇒ done 0 ∷ []) (begun (1 ∷ top ∷ 2 ∷ 0 ∷ 4 ∷ 7 ∷ []) ∷ [])
+    ∷ row "the lowest number is named, whatever it is" (numbered top 0 7) (r 1 1 ⇒ done 0 ∷ r 4 1 ⇒ done 0 ∷ w 2 1 7 ⇒ wait 4 ∷ []) (entry 1 0 9 0 ∷ [])
+    ∷ row "any numbers become ranks" (numbered top 0 7) (b 3 ⇒ ok ∷ []) (begun (1 ∷ 3 ∷ 2 ∷ 1 ∷ 3 ∷ 4 ∷ 4 ∷ 2 ∷ []) ∷ [])
     ∷ []
 
 -- ---- refusals by number, with the calls as they come
@@ -338,7 +372,7 @@ formatting =
     ∷ []
 
 abbrev pub directed : List (Row String)
-directed = roots ++ levels ++ mends ++ makes ++ locks ++ changes ++ locates ++ tidies ++ latches ++ ends ++ refusing ++ formatting
+directed = roots ++ levels ++ mends ++ makes ++ locks ++ changes ++ locates ++ tidies ++ latches ++ ends ++ begins ++ refusing ++ formatting
 
 pub directed-cases : map result directed ≡ map expected directed
 unfolding result

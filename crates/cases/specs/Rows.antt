@@ -1,6 +1,6 @@
 -- The form of a table of cases. A row: its name, where it starts, lines with what each answers, and what is seen in the end.
 -- `result` is what comes of a row, all of it by `call`; `expected` is what the row says.
-use mathlib.Core.Bool.{Bool, true, false, cond, _&&_}
+use mathlib.Core.Bool.{Bool, true, false, cond, not, _&&_, _||_}
 use mathlib.Core.List.{List, [], _∷_, _++_, map}
 use mathlib.Core.Option.{none}
 use Prim.Native.Nat.{ℕ, zero, suc, _+_, _*_}
@@ -8,11 +8,11 @@ use lib.Dec.{leb, eqb}
 use lib.ListN.{length, replicate}
 use Rattle.machine.specs.Tree.{Node, T, mapE, sumE, leaves, leafAt}
 use Rattle.machine.specs.Holders.{width, bitOf, including, without, filter, blockers, latch-word, latch-blockers}
-use Rattle.machine.specs.State.{Desc, State, Answer, top, no-entry, idle, entryOf, sessionOf, stored, lowest-from, gap-below, descOf, on-entry, on-session, on-tree, on-leaf, on-leaves, with-member, without-member, set-hand, add-undo, fresh}
+use Rattle.machine.specs.State.{Desc, Session, State, Answer, top, no-entry, idle, entryOf, sessionOf, stored, lowest-from, gap-below, descOf, on-entry, on-session, on-tree, on-leaf, on-leaves, with-member, without-member, set-hand, add-undo, fresh}
 use Rattle.machine.specs.State as State
 use Rattle.machine.specs.Descent.{node, on-last, bound-of, halves, joined, moved-right, moved-left, mended, put-in, taken-out, at-latch, on-latch, unlatched}
-use Rattle.machine.specs.Steps.{pinned, unpin, unlatch, ended, goes-on, finished, guarded, entry-blockers, group-blockers, read-step, written, write-step, entry-step, insert-step, remove-step, change-step, pairs-of, memberships, last-take, take-desc, take-step, arrived, enter-step, stepped, taking-part, descended, level-step, pin-step, make-step, removable, tidy-step, lowest-step, stand-step, at-step, first-step, next-step}
-use Rattle.machine.specs.Calls.{Call, format, begin, put, step, commit, abort, refusing, first-stage, accepted, leave, undo, undo-all, end-hand, begins, commits, aborts, steps, call}
+use Rattle.machine.specs.Steps.{pinned, unpin, unlatch, ended, goes-on, finished, guarded, entry-blockers, group-blockers, read-step, written, write-step, entry-step, insert-step, remove-step, change-step, pairs-of, memberships, last-take, take-desc, take-step, arrived, enter-step, stepped, taking-part, descended, level-step, pin-step, make-step, removable, tidy-step, lowest-step, stand-step, at-step, first-step, next-step, oldest, settled}
+use Rattle.machine.specs.Calls.{Call, format, begin, put, step, commit, abort, refusing, first-stage, accepted, leave, undo, undo-all, end-hand, earlier, begun-many, renumbered, begins, commits, aborts, steps, call}
 
 -- ---- what a line answers: the answer, and the pairs that it writes in the list
 
@@ -25,12 +25,9 @@ ok = (State.ok, [])
 abbrev pub more : Told
 more = (State.more, [])
 
--- One party is in the way; several.
+-- The party that is named.
 abbrev pub wait : ℕ → Told
 wait p = (State.wait (p ∷ []), [])
-
-abbrev pub waits : List ℕ → Told
-waits ps = (State.wait ps, [])
 
 abbrev pub done : ℕ → Told
 done n = (State.done (n ∷ []), [])
@@ -132,17 +129,23 @@ abbrev pub size : (h : ℕ) → T ℕ ℕ h → ℕ
 size zero x = 1
 size (suc h) x = suc (sumE (size h) (x .sons))
 
--- M entries without value, n free records, a tree of empty groups, all sessions begun and holding nothing.
+-- k begun sessions that hold nothing, with numbers from n on in the order of begins.
+abbrev pub begun-from : ℕ → ℕ → List Session
+begun-from n zero = []
+begun-from n (suc k) = record { begun = true; order = n; hand = none; undos = [] } ∷ begun-from (suc n) k
+
+-- M entries without value, n free records, a tree of empty groups, all sessions begun in turn and holding nothing.
 abbrev pub planted : ℕ → ℕ → (h : ℕ) → (T ℕ ℕ (suc h) × ℕ) → State
 planted m n h x = record {
   entries = replicate m no-entry;
   root = record { height = h; node = on-all (λ k. record { key = k; locate = 0; update = 0; gap = 0; pins = 0; members = [] }) (suc h) (x .0) };
   free = n;
-  table = idle ∷ replicate width (record { begun = true; hand = none; undos = [] });
+  table = idle ∷ begun-from 1 width;
   records = n + size (suc h) (x .0);
 }
 
--- A state so written is as document 01 asks: at least 8 records, boundaries that separate, 3 to 8 sons at a node, 1 to 8 at the root.
+-- A state so written is as document 01 asks: at least 8 records, boundaries that separate, 3 to 8 sons at a node, 1 to 8 at the root; and no two begun
+-- sessions share a number.
 abbrev pub in-turn : {A : Type 0} → (ℕ → ℕ → A → Bool) → ℕ → ℕ → List (A × ℕ) → Bool
 in-turn q lo hi [] = eqb lo (suc hi)
 in-turn q lo hi (x ∷ xs) = let rest = in-turn q (suc (x .1)) hi xs in q lo (x .1) (x .0) && rest
@@ -151,8 +154,16 @@ abbrev pub shaped : (h least lo hi : ℕ) → T ℕ ℕ h → Bool
 shaped zero least lo hi k = leb lo k && leb k hi
 shaped (suc h) least lo hi x = leb least (length (x .sons)) && leb (length (x .sons)) 8 && in-turn (shaped h 3) lo hi (x .sons)
 
+abbrev pub shared : ℕ → List Session → Bool
+shared n [] = false
+shared n (x ∷ xs) = let rest = shared n xs in (x .begun && eqb (x .order) n) || rest
+
+abbrev pub distinct : List Session → Bool
+distinct [] = true
+distinct (x ∷ xs) = let rest = distinct xs in not (x .begun && shared (x .order) xs) && rest
+
 abbrev pub well : State → Bool
-well x = leb 8 (x .records) && shaped (suc (x .root .height)) 1 0 top (keys-of x)
+well x = leb 8 (x .records) && shaped (suc (x .root .height)) 1 0 top (keys-of x) && distinct (x .table)
 
 -- ---- what is seen of a state
 
@@ -189,6 +200,14 @@ gone k = at-key k []
 -- The whole tree: latch words, keys, boundaries.
 abbrev pub tree : (h : ℕ) → (T ℕ ℕ (suc h) × ℕ) → Fact
 tree h y = ((λ x. shape (x .root .height) (keys-of x)), shape h (y .0))
+
+-- The begun sessions by party, each with its number in the order of begins.
+abbrev pub begun-in : ℕ → List Session → List ℕ
+begun-in p [] = []
+begun-in p (x ∷ xs) = let rest = begun-in (suc p) xs in cond (x .begun) (p ∷ x .order ∷ rest) rest
+
+abbrev pub begun : List ℕ → Fact
+begun ns = ((λ x. numbers (begun-in 0 (x .table))), numbers ns)
 
 -- ---- rows
 
@@ -256,7 +275,7 @@ told-at (from x) = []
 
 -- To unfold it is to unfold the whole machine.
 unfoldable pub result : {N : Type 0} → Row N → N × List Told × List Seen
-unfolding until perform perform-all started leaves leafAt bitOf including without blockers latch-blockers entryOf sessionOf stored lowest-from gap-below descOf on-entry on-session on-tree on-leaf on-leaves with-member without-member set-hand add-undo fresh halves joined moved-right moved-left mended put-in taken-out at-latch on-latch unlatched pinned unpin unlatch ended goes-on finished guarded entry-blockers group-blockers read-step written write-step entry-step insert-step remove-step change-step pairs-of memberships last-take take-desc take-step arrived enter-step stepped taking-part descended level-step pin-step make-step removable tidy-step lowest-step stand-step at-step first-step next-step refusing first-stage accepted leave undo undo-all end-hand begins commits aborts steps call
+unfolding until perform perform-all started leaves leafAt bitOf including without blockers latch-blockers entryOf sessionOf stored lowest-from gap-below descOf on-entry on-session on-tree on-leaf on-leaves with-member without-member set-hand add-undo fresh halves joined moved-right moved-left mended put-in taken-out at-latch on-latch unlatched pinned unpin unlatch ended goes-on finished guarded entry-blockers group-blockers read-step written write-step entry-step insert-step remove-step change-step pairs-of memberships last-take take-desc take-step arrived enter-step stepped taking-part descended level-step pin-step make-step removable tidy-step lowest-step stand-step at-step first-step next-step oldest settled refusing first-stage accepted leave undo undo-all end-hand earlier begun-many renumbered begins commits aborts steps call
 result y =
     let o = started (y .start) in
     let q = perform-all (y .lines) (o .1) in

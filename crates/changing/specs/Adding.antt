@@ -15,7 +15,7 @@ use Rattle.undos.specs.Undo as U
 use Rattle.undos.specs.Undo.{encodeUndo, undoAdded}
 use Rattle.chain.specs.Free.{popFree}
 use Rattle.sessions.specs.declared.Session.{Session}
-use Rattle.sessions.specs.Sessions.{session-at}
+use Rattle.sessions.specs.Sessions.{session-at, tenure}
 use Rattle.machine.specs.Holders.{width}
 use Rattle.machine.specs.State.{added, on-desc, with-free, group-desc, with-member, set-hand, add-undo}
 use Rattle.machine.specs.Sound.{times}
@@ -41,7 +41,7 @@ use Rattle.changing.specs.Logged.{Logged, Logs, logged, own-once, own-wi
 
 module _ (s : List ℕ) (t : List Session) (L : Lay) (H : Holds s t L) (Z : Sizes L) (o : Rising L) (k d : ℕ) (P : AtKey L k d) (p : ℕ) (party : suc p ≤ width) (e : ℕ)
     (others : (q : ℕ) → suc q ≤ width → ¬ (suc q ≡ suc p) → All (λ u. ¬ (undo-entry (u .undo) ≡ e)) (L .undos (suc q)))
-    (y : Session) (begun : y .begun ≡ session-at t (suc p) .begun) (stage : y .stage ≡ 0)
+    (y : Session) (tenure-kept : tenure y ≡ tenure (session-at t (suc p))) (stage : y .stage ≡ 0)
     (a b : ℕ) (f : List ℕ) (fr : L .free ≡ a ∷ b ∷ f) (absent : member-of e (L .members (P .leaf .num)) ≡ 0) (undo : y .undo ≡ b) where
   abbrev m : ℕ
   m = M-of s
@@ -276,7 +276,7 @@ module _ (s : List ℕ) (t : List Session) (L : Lay) (H : Holds s t L) (Z : Size
     older = mine-same s t L H Z o k d P p party s4 W C mine-off;
     free = free4;
     count = λ i. omega (arith, free-times i);
-    begun = begun;
+    tenure-kept = tenure-kept;
     stage = stage;
     head = undo;
     own-named = (

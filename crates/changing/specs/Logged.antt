@@ -10,7 +10,7 @@ use borrow.Author.Tests.{eq-eqb}
 use Rattle.words.specs.Store.{wordOf}
 use Rattle.words.specs.Header.{headerWord, freePlace}
 use Rattle.sessions.specs.declared.Session.{Session}
-use Rattle.sessions.specs.Sessions.{session-at}
+use Rattle.sessions.specs.Sessions.{session-at, tenure}
 use Rattle.machine.specs.Tree.{leaves}
 use Rattle.machine.specs.Holders.{width}
 use Rattle.machine.specs.State.{State, top, on-desc, with-free, group-desc, set-hand, add-undo}
@@ -134,7 +134,7 @@ module _ (s : List ℕ) (t : List Session) (L : Lay) (H : Holds s t L) (Z : Size
       pub older : All (SameAt s s′ (M-of s)) mine
       pub free : Chained s′ (M-of s) (headerWord s′ freePlace) f
       pub count : (i : ℕ) → times i (firsts ms) + (times i (new .num ∷ []) + times i f) ≡ times i (firsts c) + times i (L .free)
-      pub begun : y .begun ≡ session-at t (suc p) .begun
+      pub tenure-kept : tenure y ≡ tenure (session-at t (suc p))
       pub stage : y .stage ≡ 0
       pub head : y .undo ≡ new .num
       pub own-named : Named (leaves-in L) (new ∷ L .undos (suc p)) (lists-in lay′)
@@ -194,7 +194,7 @@ module _ (s : List ℕ) (t : List Session) (L : Lay) (H : Holds s t L) (Z : Size
             rising = ord-leaf (P .around) l l′ refl 0 top (subst (λ u. Ord n 0 top (erase n u)) (P .is) o);
             sizes = record { some = Z .some; entries = Z .entries; least = Z .least; most = Z .most };
             has = has′;
-            is = logged-state L t (fill (P .around) l′) (l .num) ms p new f (L .entries) y (omega (arith, party, H .seats)) (G .begun) (hand-none y (G .stage))
+            is = logged-state L t (fill (P .around) l′) (l .num) ms p new f (L .entries) y (omega (arith, party, H .seats)) (G .tenure-kept) (hand-none y (G .stage))
                 ∙ ap (λ σ. set-hand (suc p) none (add-undo (suc p) (new .undo) (with-free (length f) σ))) (means-desc L t k d P (group-desc F) l′ refl);
             among = W;
             written = changed-written s s′ W (G .changed);

@@ -43,7 +43,7 @@ use Rattle.members.specs.Members.{putMember, takeMember, unpinAt}
 use Rattle.undo_log.specs.Undoing.{logAdded, logTaken}
 use Rattle.endings.specs.Table.{loggedBy, idled}
 use Rattle.scans.specs.Scans.{memberOf}
-use Rattle.long_locks.specs.LongLocks.{NarrowDesc, lowest-in, lowest-none, lowest-some, key-narrow}
+use Rattle.long_locks.specs.LongLocks.{NarrowDesc, lowest-in, lowest-same, lowest-none, key-narrow}
 use Rattle.grouping.specs.GroupWords.{Within}
 use Rattle.changing.specs.Changing.{holdAndEnd, changeBlocker, keepStep, addedWords, addStep, takenWords, takeStep, refuseStep, waitStep, hasTwo, roomStep, insertStep, removeStep, codeStep, changeAt, changeStep}
 use Rattle.changing.specs.Logs.{key-desc}
@@ -192,20 +192,18 @@ module _ (s : List ℕ) (t : List Session) (A : Stands s t) (p : ℕ) (party : s
   unfolding group-blockers
   nobody z = lowest-none K.group strong (suc p) (l .desc .locate) (l .desc .update) (narrow .locate) (narrow .update) (sym same-blocker ∙ z)
 
-  somebody : ¬ (changeBlocker s m (l .num) (suc p) ≡ 0) → elem (changeBlocker s m (l .num) (suc p)) (group-blockers strong (suc p) (l .desc)) ≡ true
+  somebody : changeBlocker s m (l .num) (suc p) ≡ first-of (group-blockers strong (suc p) (l .desc))
   unfolding group-blockers
-  somebody n =
-      ap (λ q. elem q (group-blockers strong (suc p) (l .desc))) same-blocker
-      ∙ lowest-some K.group strong (suc p) (l .desc .locate) (l .desc .update) (narrow .locate) (narrow .update) (λ z. n (same-blocker ∙ z))
+  somebody = same-blocker ∙ lowest-same K.group strong (suc p) (l .desc .locate) (l .desc .update) (narrow .locate) (narrow .update)
 
   -- What a step is to the machine.
   abbrev To : Stepped → Outcome → Type 0
   To z out = Moves s t (suc p) (z .words) (z .session) (said (z .answer)) out
 
-  wait-to : (q : ℕ) (bs : List ℕ) → elem q bs ≡ true → (need : ℕ) (out : Outcome) → To (waitStep s x q) (guarded bs need (suc p) r σ out)
+  wait-to : (q : ℕ) (bs : List ℕ) → ¬ (q ≡ 0) → q ≡ first-of bs → (need : ℕ) (out : Outcome) → To (waitStep s x q) (guarded bs need (suc p) r σ out)
   unfolding waitStep guarded
-  wait-to q [] z need out = absurd (true≢false z refl)
-  wait-to q (b ∷ bs) z need out = wait-moves s t A (suc p) q b bs z
+  wait-to q [] n z need out = absurd (n z)
+  wait-to q (b ∷ bs) n z need out = wait-moves s t A (suc p) q b bs z
 
   keep-to : To (keepStep s m (suc p) x (l .num)) (finished (suc p) r (0 ∷ []) (updating-state (suc p) r σ))
   unfolding keepStep finished request-in
@@ -317,10 +315,10 @@ module _ (s : List ℕ) (t : List Session) (A : Stands s t) (p : ℕ) (party : s
       go true = insert-to free
       go false = remove-to free
 
-  wait-any : (q : ℕ) → elem q (group-blockers strong (suc p) (l .desc)) ≡ true
+  wait-any : (q : ℕ) → ¬ (q ≡ 0) → q ≡ first-of (group-blockers strong (suc p) (l .desc))
       → To (waitStep s x q) (cond (eqb (x .code) 3) (insert-step (suc p) r (l .desc) σ) (remove-step (suc p) r (l .desc) σ))
   unfolding insert-step remove-step
-  wait-any q h = go (eqb (x .code) 3) (elem (r .entry) (l .desc .members))
+  wait-any q n h = go (eqb (x .code) 3) (elem (r .entry) (l .desc .members))
     where
       bs : List ℕ
       bs = group-blockers strong (suc p) (l .desc)
@@ -328,9 +326,9 @@ module _ (s : List ℕ) (t : List Session) (A : Stands s t) (p : ℕ) (party : s
       go : (b i : Bool) → To (waitStep s x q)
           (cond b (cond i (guarded bs 0 (suc p) r σ (finished (suc p) r (0 ∷ []) (updating-state (suc p) r σ))) (guarded bs 2 (suc p) r σ (finished (suc p) r (1 ∷ []) (inserted-state (suc p) r σ))))
           (guarded bs 0 (suc p) r σ (cond i (finished (suc p) r (1 ∷ []) (removed-state (suc p) r σ)) (finished (suc p) r (0 ∷ []) (updating-state (suc p) r σ)))))
-      go true true = wait-to q bs h 0 (finished (suc p) r (0 ∷ []) (updating-state (suc p) r σ))
-      go true false = wait-to q bs h 2 (finished (suc p) r (1 ∷ []) (inserted-state (suc p) r σ))
-      go false i = wait-to q bs h 0 (cond i (finished (suc p) r (1 ∷ []) (removed-state (suc p) r σ)) (finished (suc p) r (0 ∷ []) (updating-state (suc p) r σ)))
+      go true true = wait-to q bs n h 0 (finished (suc p) r (0 ∷ []) (updating-state (suc p) r σ))
+      go true false = wait-to q bs n h 2 (finished (suc p) r (1 ∷ []) (inserted-state (suc p) r σ))
+      go false i = wait-to q bs n h 0 (cond i (finished (suc p) r (1 ∷ []) (removed-state (suc p) r σ)) (finished (suc p) r (0 ∷ []) (updating-state (suc p) r σ)))
 
   at-to : To (changeAt s m (R-of s) (suc p) x (l .num)) (cond (eqb (x .code) 3) (insert-step (suc p) r (l .desc) σ) (remove-step (suc p) r (l .desc) σ))
   unfolding changeAt
@@ -345,7 +343,7 @@ module _ (s : List ℕ) (t : List Session) (A : Stands s t) (p : ℕ) (party : s
 
       go : Dec (q ≡ 0) → To (cond (eqb q 0) (codeStep s m (suc p) x (l .num) (member-of e c)) (waitStep s x q)) out
       go (yes z) = rw (eq-eqb q 0 z) (code-to (nobody z))
-      go (no n) = rw (ne-eqb q 0 n) (wait-any q (somebody n))
+      go (no n) = rw (ne-eqb q 0 n) (wait-any q n somebody)
 
   all-to : To (changeStep s m (R-of s) (suc p) x) (change-step (suc p) r σ)
   unfolding changeStep change-step request-in

@@ -12,7 +12,7 @@ use Rattle.words.specs.Header.{headerWord, freePlace}
 use Rattle.undos.specs.Undo as U
 use Rattle.undos.specs.Undo.{encodeUndo, undoTaken}
 use Rattle.sessions.specs.declared.Session.{Session}
-use Rattle.sessions.specs.Sessions.{session-at}
+use Rattle.sessions.specs.Sessions.{session-at, tenure}
 use Rattle.machine.specs.Holders.{width}
 use Rattle.machine.specs.State.{taken, on-desc, with-free, group-desc, without-member, set-hand, add-undo}
 use Rattle.machine.specs.Sound.{times}
@@ -47,7 +47,7 @@ last-some (j ∷ a) n = last-of j a
 
 module _ (s : List ℕ) (t : List Session) (L : Lay) (H : Holds s t L) (Z : Sizes L) (o : Rising L) (k d : ℕ) (P : AtKey L k d) (p : ℕ) (party : suc p ≤ width) (e : ℕ)
     (others : (q : ℕ) → suc q ≤ width → ¬ (suc q ≡ suc p) → All (λ u. ¬ (undo-entry (u .undo) ≡ e)) (L .undos (suc q)))
-    (y : Session) (begun : y .begun ≡ session-at t (suc p) .begun) (stage : y .stage ≡ 0)
+    (y : Session) (tenure-kept : tenure y ≡ tenure (session-at t (suc p))) (stage : y .stage ≡ 0)
     (i : ℕ) (R : Split e i (L .members (P .leaf .num))) (undo : y .undo ≡ i) where
   abbrev m : ℕ
   m = M-of s
@@ -235,7 +235,7 @@ module _ (s : List ℕ) (t : List Session) (L : Lay) (H : Holds s t L) (Z : Size
     older = mine-same s t L H Z o k d P p party s2 W C mine-off;
     free = free2;
     count = λ j. omega (arith, members-times j, ap (times j) left, times-append j (firsts A) (firsts B));
-    begun = begun;
+    tenure-kept = tenure-kept;
     stage = stage;
     head = undo;
     own-named = (

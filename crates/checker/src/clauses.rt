@@ -1,6 +1,7 @@
-// Clauses: the paragraph's clauses by number, in its order, and what each asks of records, parties and entries.
+// Clauses: the paragraph's clauses by number, in its order, and what each asks of records, parties and entries; last the clause that M-101 adds.
 use super::holders::agree;
 use super::holders::are_begun;
+use super::orders::are_apart;
 use super::reach::BEFORE;
 use super::reach::DESCRIPTOR;
 use super::reach::FROM;
@@ -92,7 +93,9 @@ pub const UNDO_LOCKS: u32 = 28;
 
 pub const UNDONE: u32 = 29;
 
-pub const CLAUSES: u32 = 30;
+pub const ORDERS: u32 = 30;
+
+pub const CLAUSES: u32 = 31;
 
 // Does the membership in record i, at place j, keep clause c?
 fn member_keeps(s: &[u32], list: &List, n: u32, c: u32, j: u32, i: u32) -> bool {
@@ -181,6 +184,7 @@ pub fn keeps(s: &[u32], t: &Table, list: &List, n: u32, c: u32) -> bool {
         ROOT => item(list, 0, KIND) == NODE,
         // "key 0 is stored"
         ZERO_STORED => found(s, list, n, DESCRIPTOR, 0, 0) != 0,
+        ORDERS => are_apart(t),
         _ => {
             all_items_keep(s, t, list, n, c)
                 && all_parties_keep(s, t, list, n, c)

@@ -7,7 +7,7 @@ pub const PARTIES: u32 = 17;
 
 pub const ROWS: usize = PARTIES as usize;
 
-const ROW_WORDS: usize = 13;
+const ROW_WORDS: usize = 14;
 
 pub type Table = [[u32; ROW_WORDS]; ROWS];
 
@@ -38,6 +38,8 @@ pub const LAST: usize = 11;
 
 pub const UNDO: usize = 12;
 
+pub const ORDER: usize = 13;
+
 // The stages of a request in hand.
 pub const NONE: u32 = 0;
 
@@ -66,6 +68,7 @@ fn row(x: Session) -> [u32; ROW_WORDS] {
         x.high,
         x.last,
         x.undo,
+        x.order,
     ]
 }
 

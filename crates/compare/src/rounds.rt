@@ -13,9 +13,22 @@ use choices::kinds::first_call;
 use choices::kinds::start;
 use schedules::book::Book;
 use schedules::book::get;
+use schedules::random::chance;
 use schedules::random::random;
 use schedules::side::SESSIONS;
 use schedules::side::Side;
+use turns::numbers::spread;
+
+// One of so many calls is made on a table with other numbers in the order of begins.
+const SPREADS: u32 = 50;
+
+fn turn(s: &mut Side, a: &mut Model, b: &mut Book, i: u32) {
+    if chance(b, 1, SPREADS) {
+        spread(s, a, b);
+    }
+    let c = next(s, a, b, i);
+    make(s, a, b, c);
+}
 
 fn turns(s: &mut Side, a: &mut Model, b: &mut Book) {
     let n = get(b, TURNS);
@@ -24,8 +37,7 @@ fn turns(s: &mut Side, a: &mut Model, b: &mut Book) {
         if get(b, IS_STOPPED) != 0 {
             return;
         }
-        let c = next(s, a, b, i);
-        make(s, a, b, c);
+        turn(s, a, b, i);
         i += 1;
     }
 }

@@ -41,6 +41,7 @@ fn session(w: &Words, p: u32) -> Session {
         high: field(w, p, 10),
         last: field(w, p, 11),
         undo: field(w, p, 12),
+        order: field(w, p, 13),
     }
 }
 

@@ -19,6 +19,7 @@ idled x =
       high = x .high;
       last = x .last;
       undo = x .undo;
+      order = x .order;
     }
 
 -- no request in hand, and record i the newest undo record
@@ -38,11 +39,12 @@ loggedBy x i =
       high = x .high;
       last = x .last;
       undo = i;
+      order = x .order;
     }
 
--- as begun says, with no request in hand and no undo record
-abbrev pub marked : ℕ → Session → Session
-marked begun x =
+-- as begun and order say, with no request in hand and no undo record
+abbrev pub marked : ℕ → ℕ → Session → Session
+marked begun order x =
     record {
       begun = begun;
       code = x .code;
@@ -57,13 +59,15 @@ marked begun x =
       high = x .high;
       last = x .last;
       undo = 0;
+      order = order;
     }
 
 unfoldable pub unbegun : Session → Session
-unbegun x = marked 0 x
+unbegun x = marked 0 0 x
 
-unfoldable pub newlyBegun : Session → Session
-newlyBegun x = marked 1 x
+-- with its place in the order of begins
+unfoldable pub newlyBegun : Session → ℕ → Session
+newlyBegun x number = marked 1 number x
 
 -- the request, its first stage, and the key that its descent goes to
 unfoldable pub requested : Session → ℕ → ℕ → ℕ → ℕ → ℕ → ℕ → Session
@@ -82,4 +86,5 @@ requested x code entry first second stage target =
       high = 0;
       last = 0;
       undo = x .undo;
+      order = x .order;
     }

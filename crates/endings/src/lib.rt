@@ -172,6 +172,7 @@ pub fn fresh_session() -> Session
         high: 0,
         last: 0,
         undo: 0,
+        order: 0,
     }
 }
 
@@ -199,16 +200,18 @@ pub fn ended_session(mut x: Session) -> Session
     x.begun = 0;
     x.stage = 0;
     x.undo = 0;
+    x.order = 0;
     x
 }
 
-// The session begins.
-pub fn begun_session(mut x: Session) -> Session
-    ensures { λ r. ⌜ r ≡ newlyBegun x ⌝ }
+// The session begins, and number is its place in the order of begins.
+pub fn begun_session(mut x: Session, number: u32) -> Session
+    ensures { λ r. ⌜ r ≡ newlyBegun x number ⌝ }
 {
     x.begun = 1;
     x.stage = 0;
     x.undo = 0;
+    x.order = number;
     x
 }
 
@@ -238,5 +241,6 @@ pub fn put_session(
         high: 0,
         last: 0,
         undo: x.undo,
+        order: x.order,
     }
 }

@@ -18,6 +18,7 @@ use Rattle.machine.specs.Steps.{answer, ended, goes-on, finished, guarded, entr
 use Rattle.machine.specs.Calls.{Call, format, begin, put, step, commit, abort, call, steps, records-for, format-checks, begin-checks, put-checks, step-checks, commit-checks, abort-checks, accepted, begins, commits, aborts}
 use Rattle.machine.specs.Checks.{refusing-numbers}
 use Rattle.machine.specs.Descents.{guard-cases, latch-cases}
+use Rattle.machine.specs.Waits.{settled-step}
 use Rattle.machine.specs.Demand.{Tells, call-of}
 use Rattle.meaning.specs.Reading.{meaning}
 use Rattle.meaning.specs.Sound.{Sound}
@@ -122,7 +123,7 @@ next-brief n p r s (take x) = take-brief n p r (or-none (lowest-from x (stored s
 steps-brief : (p n : ℕ) (o : Option Request) (s : State) → Brief (steps p n o s)
 unfolding steps
 steps-brief p n none s = refl
-steps-brief p n (some r) s = next-brief n p r s (r .stage)
+steps-brief p n (some r) s = settled-step Brief n p r s (next-brief n p r s (r .stage)) (λ b e. refl)
 
 call-brief : (c : Call) (s : State) → Brief (call c s)
 unfolding call

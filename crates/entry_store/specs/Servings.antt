@@ -1,5 +1,5 @@
 -- Lists of calls with runs, requests, batches and day calls among them, as a C program sees them: answers, steps and places are read off the numbers. Demand 3
--- of them.
+-- of them, and the order of begins.
 use mathlib.Core.Path.{_≡_, refl, sym, ap, subst, _∙_}
 use mathlib.Core.Bool.{Bool, true, false, cond}
 use mathlib.Core.List.{List, [], _∷_, _++_}
@@ -13,6 +13,7 @@ use Rattle.sessions.specs.Sessions.{parties}
 use Rattle.serial.specs.Calls.{Turn, nothing, told, Run, stop, next, Demand-3}
 use Rattle.serial.specs.Calls as C
 use Rattle.serial.specs.Locks.{Kind, Mode}
+use Rattle.serial.specs.Line.{line}
 use Rattle.machine.specs.State.{fresh}
 use Rattle.machine.specs.Calls.{records-for}
 use Rattle.machine.specs.Ledger.{no-locks, ledger-after}
@@ -24,6 +25,7 @@ use Rattle.outcomes.specs.declared.DayAnswer.the-variants as Day
 use Rattle.outcomes.specs.Said.{said, day-said, day-place}
 use Rattle.promises.specs.Demands.{Lending, words}
 use Rattle.promises.specs.Holding.{holders-in}
+use Rattle.promises.specs.Line.{InLine}
 use Rattle.promises.specs.Runs.{calling, put-turn, step-turn, steps}
 use Rattle.promises.specs.Runs as R
 use Rattle.asking.specs.declared.Asking.{Asking}
@@ -44,7 +46,7 @@ use Rattle.store.specs.Listed.{Listed, RanBy, AskedBy}
 use Rattle.store.specs.Batched as SB
 use Rattle.store.specs.Days.{handed-by, DayBy, served-calls}
 use Rattle.store.specs.Turns.{Sound-lent, sound-long, Loan, TurnedAway}
-use Rattle.store.specs.Servings.{SeenOf, Returned, LoanRefused, Away, Returneds, returneds-demand-3, returneds-holders}
+use Rattle.store.specs.Servings.{SeenOf, Returned, LoanRefused, Away, Returneds, returneds-demand-3, returneds-holders, returneds-line}
 use Rattle.store.specs.Servings as L
 use Rattle.packing.specs.Packed.{unpacked, unpacked-day, PacksMade, made-steps, made-answer, day-unpacked, day-place-read}
 use Rattle.entry_store.specs.Brief.{brief, calls-brief}
@@ -264,3 +266,8 @@ pub givings-holders : (m : ℕ) (x x′ : Lending) (h : Told Formatted (x .store
     → (ks : List Turn) × ((t : C.Told) → told t ks ≡ told t js)
     × ((k : Kind) (i : Mode) (q z : ℕ) → holders-in y k i q z ≡ ledger-after no-locks (calls-on (length (x .store)) ks) (fresh m (records-for m (length (x .store)))) k i q z)
 givings-holders m x x′ h js y r = returneds-holders m (h .answer) x x′ (h .does) (format-ok m x x′ h) js y (givings r)
+
+-- And by calls and numbers alone the begun sessions stand in their line.
+pub givings-line : (m : ℕ) (x x′ : Lending) (h : Told Formatted (x .store) (x .table) m 0 (x′ .store) (x′ .table)) → (js : List Turn) (y : Lending) → Givings x′ js y
+    → InLine (line [] js) (y .table)
+givings-line m x x′ h js y r = returneds-line m (h .answer) x x′ (h .does) (format-ok m x x′ h) js y (givings r)

@@ -1,5 +1,5 @@
 -- Lists of calls as a C program sees them: its calls, the numbers that they returned and its lists, with the answers read off the numbers (`unpacked`). Demand 3
--- of them, and demand 2's holders over them.
+-- of them, demand 2's holders and the order of begins over them.
 use mathlib.Core.Path.{_≡_, refl, sym, ap, subst, _∙_}
 use mathlib.Core.Bool.{true}
 use mathlib.Core.List.{List, [], _∷_, _++_, map}
@@ -14,6 +14,7 @@ use Rattle.serial.specs.Calls as C
 use Rattle.serial.specs.Serial.{true≢false}
 use Rattle.serial.specs.Locks.{Kind, Mode, weak}
 use Rattle.serial.specs.Locks as Locks
+use Rattle.serial.specs.Line.{line}
 use Rattle.machine.specs.State.{fresh}
 use Rattle.machine.specs.Calls.{records-for}
 use Rattle.machine.specs.Ledger.{no-locks, ledger-after}
@@ -24,11 +25,12 @@ use Rattle.outcomes.specs.Said.{said}
 use Rattle.promises.specs.Relations.{Calls}
 use Rattle.promises.specs.Demands.{Lending, words}
 use Rattle.promises.specs.Holding.{holders-in}
+use Rattle.promises.specs.Line.{InLine}
 use Rattle.store.specs.declared.Ask.{Ask}
 use Rattle.store.specs.Lent.{Formatted, Begun, Put, Committed, Aborted}
 use Rattle.store.specs.Turns.{turn, Lends, formats, begins, puts, steps, commits, aborts, Loan, TurnedAway, Lendings, lent-demand-3}
 use Rattle.store.specs.Turns as L
-use Rattle.store.specs.Holding.{lent-holders-run, lent-located-run}
+use Rattle.store.specs.Holding.{lent-holders-run, lent-located-run, lent-line}
 use Rattle.packing.specs.Packed.{unpacked, unpacked-packed, Small, Worded, Packs}
 use Rattle.entry_store.specs.Brief.{brief, calls-brief, formats-brief}
 use Rattle.entry_store.specs.Exported.{Told, Stepped}
@@ -177,3 +179,8 @@ module _ (m : ℕ) (x x′ : Lending) (h : Told Formatted (x .store) (x .table) 
   exported-located-run before k after y r =
       lent-located-run m (h .answer) x x′ (h .does) format-ok (map turn-of before) (turn-of k) (map turn-of after) y
       (subst (λ l. Lendings x′ l y) (told-append before (k ∷ after)) (lendings r))
+
+  -- By all calls and numbers alone the begun sessions stand in their line: a record is begun exactly if its session stands in it, and of two begun sessions the
+  -- one with the lower number stands earlier.
+  pub exported-line : (ks : List Exchange) (y : Lending) → Exchanges x′ ks y → InLine (line [] (map turn-of ks)) (y .table)
+  exported-line ks y r = lent-line m (h .answer) x x′ (h .does) format-ok (map turn-of ks) y (lendings r)

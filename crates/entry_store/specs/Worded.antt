@@ -1,6 +1,6 @@
 -- The value of every answer is a word, where the values that were written are: it fits the number that C gets. Of the machine, from every sound state.
 use mathlib.Core.Path.{_≡_, refl, sym, ap, subst, _∙_}
-use mathlib.Core.Bool.{Bool, true, false, cond, _&&_}
+use mathlib.Core.Bool.{Bool, true, false, cond, _&&_, or-false}
 use mathlib.Core.List.{List, [], _∷_, _++_}
 use mathlib.Core.Logic.{_⊎_, inl, inr}
 use mathlib.Core.Option.{Option, none, some}
@@ -25,7 +25,8 @@ use Rattle.machine.specs.Looks.{begun-party, sound-ordered, stored-most}
 use Rattle.machine.specs.Descents.{guard-cases, latch-cases}
 use Rattle.machine.specs.Focus.{latches-plug}
 use Rattle.machine.specs.InTheWay.{LongLock, ShortLock, LoneLatched, Son, Neighbour, Involved, InTheWay}
-use Rattle.machine.specs.Conflicts.{waits-exactly}
+use Rattle.machine.specs.Waits.{settled-step}
+use Rattle.machine.specs.Conflicts.{waits-exactly, blockers-exactly}
 use Rattle.machine.specs.Housekeeping.{lvs}
 use Rattle.machine.specs.Demand.{Tells}
 use Rattle.packing.specs.Packed.{Worded}
@@ -250,12 +251,17 @@ module _ (s : State) (S : Sound s) (values : (e : ℕ) → Word (entryOf e s .va
       go (done (n ∷ ns)) i w b e = subst Worded (sym e) w
       go (refused n k) i w b e = subst Worded (sym e) w
 
+  wait-word : (b : ℕ) → Word b → Tellable (answer (wait (b ∷ [])) s)
+  wait-word b w c e = subst Worded (sym (e .2)) (subst Word (sym (eqb-is (e .0) b (sym (or-false (eqb (e .0) b)) ∙ e .1))) w)
+
   steps-word : (p n : ℕ) (h : Option Request) → sessionOf p s .hand ≡ h → Tellable (steps p n h s)
   unfolding steps
   steps-word p n none e = λ b i. subst Worded (sym i) tt
   steps-word p n (some r) e =
-      step-word (next-step n p r s (r .stage)) (next-wordy n p r (r .stage) e (S .standing p r e))
-      (λ ps i q j. let l = way-party s S p r (r .stage) q (waits-exactly n p r s S e .lists ps i q .0 j) in omega (arith, l))
+      let party : (q : ℕ) → InTheWay p r s (r .stage) q → Word q = λ q W. let l = way-party s S p r (r .stage) q W in omega (arith, l) in
+      settled-step Tellable n p r s
+      (step-word (next-step n p r s (r .stage)) (next-wordy n p r (r .stage) e (S .standing p r e)) (λ ps i q j. party q (waits-exactly n p r s S e .lists ps i q .0 j)))
+      (λ b i. wait-word b (party b (blockers-exactly S p r e b .0 i)))
 
   pub call-worded : (c : Call) → Tellable (call c s)
   unfolding call

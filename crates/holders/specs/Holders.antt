@@ -1,6 +1,6 @@
 -- Holders words of entries and groups, the begun sessions as a holders word, and the holders of every entry.
 use mathlib.Core.List.{List}
-use mathlib.Core.Bool.{Bool, true, cond, not, _&&_, _||_}
+use mathlib.Core.Bool.{Bool, true, cond, _&&_, _||_}
 use Prim.Native.Nat.{ℕ, zero, suc, _+_, _-_}
 use lib.Dec.{eqb, leb}
 use lib.Bits.{bitAnd, bitOr}
@@ -9,7 +9,7 @@ use Rattle.words.specs.Entries.{entryWord}
 use Rattle.locks.specs.Rule.{agreesOf}
 use Rattle.locks.specs.Holders.{word-bits, held-by, holders}
 use Rattle.sessions.specs.declared.Session.{Session}
-use Rattle.sessions.specs.Sessions.{parties, session-at}
+use Rattle.sessions.specs.Sessions.{parties, session-at, isBegun}
 
 -- ---- two words
 
@@ -45,9 +45,6 @@ withFrom f t word p (suc n) = withFrom f t (cond (f (session-at t p)) (held-by p
 
 unfoldable pub sessionsWith : (Session → Bool) → List Session → ℕ
 sessionsWith f t = withFrom f t 0 1 (parties - 1)
-
-unfoldable pub isBegun : Session → Bool
-isBegun s = not (eqb (s .begun) 0)
 
 unfoldable pub begunMask : List Session → ℕ
 begunMask t = sessionsWith isBegun t

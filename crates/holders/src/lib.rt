@@ -8,9 +8,9 @@ ghost use mathlib.Core.Bool.{cond, _&&_, _||_};
 ghost use Prim.Native.Nat.{_≤_, _<_};
 ghost use Rattle.locks.specs.Rule.{agreesOf};
 ghost use Rattle.locks.specs.Holders.{held-by};
-ghost use Rattle.sessions.specs.Sessions.{parties};
+ghost use Rattle.sessions.specs.Sessions.{parties, isBegun};
 ghost use Rattle.marks.specs.Marks.{HasRecords};
-ghost use Rattle.holders.specs.Holders.{within, lone, alone, agree, holdersOk, isBegun, begunMask, entriesFrom};
+ghost use Rattle.holders.specs.Holders.{within, lone, alone, agree, holdersOk, begunMask, entriesFrom};
 use sessions::PARTIES;
 use sessions::Session;
 

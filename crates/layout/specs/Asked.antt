@@ -1,6 +1,5 @@
 -- The request in hand as a session record has it, and steps that wait.
 use mathlib.Core.Path.{_≡_, refl, sym, ap, subst, _∙_}
-use mathlib.Core.Bool.{true}
 use mathlib.Core.List.{List, [], _∷_}
 use mathlib.Core.Option.{some}
 use Prim.Native.Nat.{ℕ, zero, suc, _<_}
@@ -9,7 +8,6 @@ use borrow.Author.Tests.{ne-eqb}
 use Rattle.sessions.specs.declared.Session.{Session}
 use Rattle.sessions.specs.Sessions.{session-at}
 use Rattle.serial.specs.Calls as C
-use Rattle.machine.specs.Holders.{elem}
 use Rattle.machine.specs.State.{Request, wait, sessionOf}
 use Rattle.machine.specs.Steps.{answer}
 use Rattle.meaning.specs.Reading.{hand-of, stage-of}
@@ -43,10 +41,10 @@ becomes-same s t A p = record {
   rest = refl;
 }
 
--- A step that waits names one of the parties in the way.
-pub wait-moves : (s : List ℕ) (t : List Session) (A : Stands s t) (p q b : ℕ) (bs : List ℕ) → elem q (b ∷ bs) ≡ true
+-- A step that waits names the first of the parties in the way.
+pub wait-moves : (s : List ℕ) (t : List Session) (A : Stands s t) (p q b : ℕ) (bs : List ℕ) → q ≡ b
     → Moves s t p s (session-at t p) (C.wait q) (answer (wait (b ∷ bs)) (means (A .lay) t))
-wait-moves s t A p q b bs e = record { becomes = becomes-same s t A p; tells = (q, e, refl) }
+wait-moves s t A p q b bs e = record { becomes = becomes-same s t A p; tells = ap C.wait e }
 
 -- The machine's request of a party is the one that its record has.
 hand-session : (u : ℕ → List Undone) (p : ℕ) (x : Session) → session-in u p x .hand ≡ hand-of x

@@ -9,6 +9,7 @@ pub mod Written
 pub mod Keep
 pub mod Groups
 pub mod Places
+pub mod Ranks
 pub mod Chains
 pub mod Walks
 pub mod Ordering

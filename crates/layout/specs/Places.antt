@@ -10,7 +10,7 @@ use lib.Dec.{eqb}
 use lib.ListN.{length, getD, set}
 use borrow.Author.Tests.{eq-eqb, ne-eqb}
 use Rattle.sessions.specs.declared.Session.{Session}
-use Rattle.sessions.specs.Sessions.{session-at}
+use Rattle.sessions.specs.Sessions.{session-at, tenure}
 use Rattle.machine.specs.Tree.{leaves, mapE, mapE-append, sumE, sumE-append, Seg, Hit, hit}
 use Rattle.machine.specs.Holders.{width, latch-word}
 use Rattle.machine.specs.State.{Desc, Tree, idle, sessionOf, set-hand, on-session, on-tree, on-leaf, on-desc, with-root, with-table, top}
@@ -50,11 +50,11 @@ module _ (u : ℕ → List Undone) where
   hand-is zero x = refl
   hand-is (suc p) x = refl
 
-  -- A session record with the same mark differs in its request alone.
-  hand-put : (p : ℕ) (x x′ : Session) → eqb (x′ .begun) 0 ≡ eqb (x .begun) 0
-      → session-in u p x′ ≡ record { begun = session-in u p x .begun; hand = hand-of x′; undos = session-in u p x .undos }
+  -- A session record with the same mark and number differs in its request alone.
+  hand-put : (p : ℕ) (x x′ : Session) → tenure x′ ≡ tenure x
+      → session-in u p x′ ≡ record { begun = session-in u p x .begun; order = session-in u p x .order; hand = hand-of x′; undos = session-in u p x .undos }
   hand-put zero x x′ e = refl
-  hand-put (suc p) x x′ e = ap (λ b. record { begun = not b; hand = hand-of x′; undos = session-in u (suc p) x .undos }) e
+  hand-put (suc p) x x′ e = ap (λ (b : ℕ × ℕ). record { begun = not (eqb (b .0) 0); order = b .1; hand = hand-of x′; undos = session-in u (suc p) x .undos }) e
 
 pub session-means : (L : Lay) (t : List Session) (p : ℕ) → p < length t → sessionOf p (means L t) ≡ session-in (L .undos) p (session-at t p)
 unfolding sessionOf means
@@ -69,12 +69,12 @@ means-session L t p x′ =
     ap (λ l. with-table l (means L t)) (sessions-set (L .undos) 0 p t x′ ∙ ap (λ n. set (sessions-in (L .undos) 0 t) p (session-in (L .undos) n x′)) e)
 
 -- Another request in hand.
-pub means-hand : (L : Lay) (t : List Session) (p : ℕ) (x′ : Session) → p < length t → eqb (x′ .begun) 0 ≡ eqb (session-at t p .begun) 0 → means L (set t p x′) ≡ set-hand p (hand-of x′) (means L t)
+pub means-hand : (L : Lay) (t : List Session) (p : ℕ) (x′ : Session) → p < length t → tenure x′ ≡ tenure (session-at t p) → means L (set t p x′) ≡ set-hand p (hand-of x′) (means L t)
 unfolding set-hand on-session
 means-hand L t p x′ l e =
     means-session L t p x′
     ∙ ap (λ z. with-table (set (means L t .table) p z) (means L t))
-    (hand-put (L .undos) p (session-at t p) x′ e ∙ ap (λ y. record { begun = y .begun; hand = hand-of x′; undos = y .undos }) (sym (session-means L t p l)))
+    (hand-put (L .undos) p (session-at t p) x′ e ∙ ap (λ y. record { begun = y .begun; order = y .order; hand = hand-of x′; undos = y .undos }) (sym (session-means L t p l)))
 
 -- ---- the node where a party stands
 

@@ -1,5 +1,6 @@
 -- The rows of format, begin, put and commit on words.
 pub mod Words
+pub mod Renumbered
 pub mod Begun
 pub mod Asking
 pub mod Left

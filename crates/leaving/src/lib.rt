@@ -1,10 +1,10 @@
 // Leaving: what format, begin, put and commit do, on the words of a store and on a session record by value.
 //
 // Put works out a request's first stage and the key that its descent goes to; commit frees the session's undo records and takes it out of
-// every word of holders. Format is endings::fresh_store and begin endings::begun_session. Each function promises that its result, or
-// the store it leaves, EQUALS a definition of specs/Words. The theorems over layouts: FreshRow (format), Begun (begin), Asking (put),
-// LeaveRow and FreedRow (the two parts of commit; abort ends with the first), Commit. It rests on the crates words, scans, undo_log and
-// endings, and for the theorems on layout and what lies below it.
+// every word of holders. Format is endings::fresh_store; begin is endings::begun_session, set in a table that seniority::renumbered has
+// numbered. Each function promises that its result, or the store it leaves, EQUALS a definition of specs/Words. The theorems over
+// layouts: FreshRow (format), Begun (begin), Asking (put), LeaveRow and FreedRow (the two parts of commit; abort ends with the first),
+// Commit. It rests on the crates words, scans, undo_log and endings, and for the theorems on seniority, layout and what lies below it.
 ghost use mathlib.Core.Path.{_≡_};
 ghost use Rattle.leaving.specs.Words.{choice, ChoiceReady, tidyAim, aimOf, asked, PutReady, leaveAll, LeaveReady, commitWords, CommitReady};
 use sessions::Session;

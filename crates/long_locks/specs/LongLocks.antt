@@ -1,9 +1,8 @@
 -- Who is in the way of a long lock, as the lock words say it and as the machine says it: the two lists are the same, where no bit beyond the sessions is set.
 -- In a sound state no such bit is set.
 use mathlib.Core.Path.{_≡_, refl, sym, ap, ap₂, subst, _∙_}
-use mathlib.Core.Bool.{Bool, true, false, cond, not, _&&_, _||_, and-false, or-true}
+use mathlib.Core.Bool.{Bool, true, false, cond, not, _&&_, _||_, and-false}
 use mathlib.Core.List.{List, [], _∷_, _++_, map-append}
-use mathlib.Core.Logic.{inl, inr}
 use Prim.Native.Nat.{ℕ, zero, suc, _+_, _-_, _≤_, _<_}
 use native.Mathlib.Omega.{arith}
 use lib.Dec.{eqb}
@@ -15,9 +14,9 @@ use Rattle.serial.specs.Locks as K
 use Rattle.locks.specs.Rule.{agreesOf}
 use Rattle.locks.specs.Holders as W
 use Rattle.locks.specs.Holders.{word-bits, first-of}
-use Rattle.locks.specs.Lists.{In, same-passing, first-in, first-none}
-use Rattle.machine.specs.Logic.{eqb-yes}
-use Rattle.machine.specs.Holders.{width, holds, count-from, filter, in-the-way, blockers, elem}
+use Rattle.locks.specs.Lists.{same-passing, first-none}
+use Rattle.locks.specs.Blockers.{conflicts-holders}
+use Rattle.machine.specs.Holders.{width, holds, count-from, filter, in-the-way, blockers}
 use Rattle.machine.specs.State.{Desc, State, idle, entryOf, sessionOf}
 use Rattle.machine.specs.Steps.{rule}
 use Rattle.machine.specs.Gaps.{locators, updaters, gaps, reads-locate, reads-gap}
@@ -81,19 +80,21 @@ same-blockers k m p hw hs a b =
     far : (t : ℕ) → width < t → in-the-way rule k m p hw hs t ≡ false
     far t l = ap₂ (λ x y. not (eqb t p) && ((x && not (rule k weak m)) || (y && not (rule k strong m)))) (a t l) (b t l) ∙ and-false (not (eqb t p))
 
--- ---- the answer of lowest_blocker
+-- The sessions of the word of conflicts are the machine's list.
+pub same-conflicts : (k : Kind) (m : Mode) (p hw hs : ℕ) → W.holders width (W.conflicts (kind-number k) (mode-number m) p hw hs) ≡ blockers rule k m p hw hs
+unfolding W.blockers blockers
+same-conflicts k m p hw hs =
+    conflicts-holders width (kind-number k) (mode-number m) p hw hs
+    ∙ same-passing (W.in-the-way (kind-number k) (mode-number m) p hw hs) (in-the-way rule k m p hw hs) 1 width (λ t l. same-way k m p hw hs t)
 
-elem-in : (q : ℕ) (l : List ℕ) → In q l → elem q l ≡ true
-unfolding In
-elem-in q [] h = absurd h
-elem-in q (x ∷ l) (inl e) = ap (λ b. b || elem q l) (eqb-yes q x e)
-elem-in q (x ∷ l) (inr h) = ap (λ b. eqb q x || b) (elem-in q l h) ∙ or-true (eqb q x)
+-- ---- the answer of lowest_blocker
 
 -- The lowest session in the way, 0 if none is.
 unfoldable pub lowest-in : Kind → Mode → ℕ → ℕ → ℕ → ℕ
 lowest-in k m p hw hs = first-of (W.blockers word-bits (kind-number k) (mode-number m) p hw hs)
 
 module _ (k : Kind) (m : Mode) (p hw hs : ℕ) (a : Narrow hw) (b : Narrow hs) where
+  -- It is the first of those in the way.
   pub lowest-same : lowest-in k m p hw hs ≡ first-of (blockers rule k m p hw hs)
   unfolding lowest-in
   lowest-same = ap first-of (same-blockers k m p hw hs a b)
@@ -102,12 +103,6 @@ module _ (k : Kind) (m : Mode) (p hw hs : ℕ) (a : Narrow hw) (b : Narrow hs) w
   pub lowest-none : lowest-in k m p hw hs ≡ 0 → blockers rule k m p hw hs ≡ []
   unfolding blockers
   lowest-none e = first-none (in-the-way rule k m p hw hs) 1 width (omega arith) (sym lowest-same ∙ e)
-
-  -- Else it is one of those in the way.
-  pub lowest-some : ¬ (lowest-in k m p hw hs ≡ 0) → elem (lowest-in k m p hw hs) (blockers rule k m p hw hs) ≡ true
-  lowest-some n =
-      subst (λ q. elem q (blockers rule k m p hw hs) ≡ true) (sym lowest-same)
-      (elem-in (first-of (blockers rule k m p hw hs)) (blockers rule k m p hw hs) (first-in (blockers rule k m p hw hs) (λ e. n (lowest-same ∙ e))))
 
 -- ---- in a sound state no bit beyond the sessions is set
 

@@ -34,6 +34,7 @@ use Rattle.machine.specs.Moves.{Moves, quiet, tidied, began, committed, 
 use Rattle.machine.specs.Safety.{safe-of}
 use Rattle.machine.specs.Ledger.{is-ok}
 use Rattle.machine.specs.Demand.{fresh-formatted}
+use Rattle.machine.specs.Waits.{settled-step}
 
 -- ---- the logical part of a state
 
@@ -162,7 +163,7 @@ call-cases P p n s S plain fits short =
   where
     go : (h : Option Request) → sessionOf p s .hand ≡ h → P (steps p n h s)
     go none e = plain more s refl
-    go (some r) e = step-cases P p r s plain n (r .stage) (S .standing p r e) (fits r e) (short r e)
+    go (some r) e = settled-step P n p r s (step-cases P p r s plain n (r .stage) (S .standing p r e) (fits r e) (short r e)) (λ b _. plain (wait (b ∷ [])) s refl)
 
 -- A call may write the list: a step of a locate that is done.
 abbrev pub may-write : Call → State → Answer → Bool

@@ -17,7 +17,7 @@ use Rattle.machine.specs.Tree.{pick, Seg, Below, Cmp, cmp, low, high, pi
 use Rattle.machine.specs.State.{Desc, Tree, Request, State, entryOf, same}
 use Rattle.machine.specs.Descent.{Sons, pick-pair, sons-of, node, lone-son, drop-lone}
 use Rattle.machine.specs.Steps.{entry-blockers, group-blockers, root-blockers, root-left, taking-part, level-blockers, son-at}
-use Rattle.machine.specs.InTheWay.{Son, Neighbour, Involved, LoneLatched}
+use Rattle.machine.specs.InTheWay.{Son, Neighbour, Involved, LoneLatched, Free}
 
 -- ---- long locks
 
@@ -158,7 +158,7 @@ latch-blocks p q (w ∷ ws) = go (eqb w 0) refl (eqb w (latch-word p)) refl (ele
     go false e false f false k (no d) ih =
         let n = eqb-not w 0 e in rw (eqb-no q (w - 1) (λ z. d (omega (arith, z, n)))) (later d ih)
 
-two-are : (w a b : ℕ) → elem w (a ∷ b ∷ []) ≡ true → (a ≡ w) ⊎ (b ≡ w)
+pub two-are : (w a b : ℕ) → elem w (a ∷ b ∷ []) ≡ true → (a ≡ w) ⊎ (b ≡ w)
 two-are w a b e = at (eqb w a) refl (eqb w b) refl e
   where
     at : (c : Bool) → eqb w a ≡ c → (d : Bool) → eqb w b ≡ d → (c || (d || false)) ≡ true → (a ≡ w) ⊎ (b ≡ w)
@@ -213,7 +213,7 @@ root-blocks p s q = let b = latch-blocks p q (s .root .node .latch ∷ root-left
 -- ---- one level down
 
 -- The son that a descent finds is the son on the path, where there is one.
-son-hit : (x h : ℕ) (es : Sons (suc h)) (S : Son x es) → son-at x h es ≡ S .son
+pub son-hit : (x h : ℕ) (es : Sons (suc h)) (S : Son x es) → son-at x h es ≡ S .son
 son-hit x h es S = ap (pick x (node 0 []) same) (S .among) ∙ pick-hit x (node 0 []) same (S .before) (S .son) (S .bound) (S .behind) (S .passed) (S .reached)
 
 abbrev behind-one : {A : Type 0} {x : ℕ} {es : List (A × ℕ)} (a : A × ℕ) → a .1 < x → Son x es → Son x (a ∷ es)
@@ -240,9 +240,35 @@ son-found x h q (a ∷ es) e = go (cmp x (a .1)) e (son-found x h q es)
 abbrev pub words-of : (h : ℕ) → (Tree (suc h) × ℕ) → (Tree (suc h) × ℕ) → List ℕ
 words-of h a b = a .0 .latch ∷ b .0 .latch ∷ []
 
+words-are : (h w : ℕ) (a b : Tree (suc h) × ℕ) → elem w (words-of h a b) ≡ true → (a .0 .latch ≡ w) ⊎ (b .0 .latch ≡ w)
+words-are h w a b e = at (eqb w (a .0 .latch)) refl (eqb w (b .0 .latch)) refl
+  where
+    at : (c : Bool) → eqb w (a .0 .latch) ≡ c → (d : Bool) → eqb w (b .0 .latch) ≡ d → (a .0 .latch ≡ w) ⊎ (b .0 .latch ≡ w)
+    at true i d j = inl (sym (eqb-is w (a .0 .latch) i))
+    at false i true j = inr (sym (eqb-is w (b .0 .latch) j))
+    at false i false j = absurd (true≢false e (rw (i, j) refl))
+
+pub words-left : (h : ℕ) (a b : Tree (suc h) × ℕ) → elem (a .0 .latch) (words-of h a b) ≡ true
+words-left h a b = at (eqb (a .0 .latch) (b .0 .latch)) refl
+  where
+    at : (c : Bool) → eqb (a .0 .latch) (b .0 .latch) ≡ c → elem (a .0 .latch) (words-of h a b) ≡ true
+    at true i = simp (eqb-yes (a .0 .latch) (a .0 .latch) refl, i)
+    at false i = simp (eqb-yes (a .0 .latch) (a .0 .latch) refl, i)
+
+pub words-right : (h : ℕ) (a b : Tree (suc h) × ℕ) → elem (b .0 .latch) (words-of h a b) ≡ true
+words-right h a b = at (eqb (b .0 .latch) (a .0 .latch)) refl
+  where
+    at : (c : Bool) → eqb (b .0 .latch) (a .0 .latch) ≡ c → elem (b .0 .latch) (words-of h a b) ≡ true
+    at true i = simp (eqb-yes (b .0 .latch) (b .0 .latch) refl, i)
+    at false i = simp (eqb-yes (b .0 .latch) (b .0 .latch) refl, i)
+
 -- Of the pair, one is the son on the path and the other its neighbour.
 abbrev OfPair : (x h w : ℕ) (es : Sons (suc h)) → Type 0
 OfPair x h w es = (S : Son x es) × (t : Tree (suc h)) × (t .latch ≡ w) × ((t ≡ S .son) ⊎ Neighbour S t)
+
+pub snoc-of : {X : Type 0} (a : X) (l : List X) → (pre : List X) × (c : X) × (a ∷ l ≡ pre ++ c ∷ [])
+snoc-of a [] = ([], a, refl)
+snoc-of a (b ∷ l) = let z = snoc-of b l in (a ∷ z .0, z .1, ap (λ k. a ∷ k) (z .2))
 
 module _ (Q : (h : ℕ) → ℕ → ℕ → Tree (suc h) → Type 0) (le : (h l u : ℕ) (a : Tree (suc h)) → Q h l u a → l ≤ suc u) where
   pair-found : (x h w lo e : ℕ) (es : Sons (suc h)) → Seg (Q h) lo e es → elem w (pick-pair x [] (words-of h) es) ≡ true → OfPair x h w es
@@ -269,22 +295,18 @@ module _ (Q : (h : ℕ) → ℕ → ℕ → Tree (suc h) → Type 0) (le : (h l 
           which (inr (inr c)) = absurd (omega (arith, k, o .0 .reached, ap (first-bound 0) (o .0 .among ∙ ap (λ l. l ++ (o .0 .son, o .0 .bound) ∷ o .0 .behind) (c .0))))
 
       go : Cmp x (b .1) → elem w (pick-pair x [] (words-of h) (a ∷ b ∷ es)) ≡ true → (elem w (pick-pair x [] (words-of h) (b ∷ es)) ≡ true → OfPair x h w (b ∷ es)) → OfPair x h w (a ∷ b ∷ es)
-      go (low k) i f = here (cmp x (a .1)) k (two-are w (a .0 .latch) (b .0 .latch) (rw (leb-yes x (b .1) k) at i))
+      go (low k) i f = here (cmp x (a .1)) k (words-are h w a b (rw (leb-yes x (b .1) k) at i))
       go (high k) i f = past k (f (rw (leb-no x (b .1) k) at i))
 
   -- The pair that the housekeeper mends: with the left neighbour, or for the first son the right one.
-  left-pair : (x h : ℕ) (pre : Sons (suc h)) (c d : Tree (suc h) × ℕ) (post : Sons (suc h)) → Below x (pre ++ c ∷ []) → x ≤ d .1
+  pub left-pair : (x h : ℕ) (pre : Sons (suc h)) (c d : Tree (suc h) × ℕ) (post : Sons (suc h)) → Below x (pre ++ c ∷ []) → x ≤ d .1
       → pick-pair x [] (words-of h) ((pre ++ c ∷ []) ++ d ∷ post) ≡ words-of h c d
   left-pair x h [] c d post b k = rw (leb-yes x (d .1) k) refl
   left-pair x h (a ∷ []) c d post b k = rw (leb-no x (c .1) (b .1 .0)) (left-pair x h [] c d post (b .1) k)
   left-pair x h (a ∷ e ∷ pre) c d post b k = rw (leb-no x (e .1) (b .1 .0)) (left-pair x h (e ∷ pre) c d post (b .1) k)
 
-  right-pair : (x h lo e : ℕ) (c d : Tree (suc h) × ℕ) (post : Sons (suc h)) → Seg (Q h) lo e (c ∷ d ∷ post) → x ≤ c .1 → pick-pair x [] (words-of h) (c ∷ d ∷ post) ≡ words-of h c d
+  pub right-pair : (x h lo e : ℕ) (c d : Tree (suc h) × ℕ) (post : Sons (suc h)) → Seg (Q h) lo e (c ∷ d ∷ post) → x ≤ c .1 → pick-pair x [] (words-of h) (c ∷ d ∷ post) ≡ words-of h c d
   right-pair x h lo e c d post s k = rw (leb-yes x (d .1) (omega (arith, le h (suc (c .1)) (d .1) (d .0) (s .1 .0), k))) refl
-
-  snoc-of : {X : Type 0} (a : X) (l : List X) → (pre : List X) × (c : X) × (a ∷ l ≡ pre ++ c ∷ [])
-  snoc-of a [] = ([], a, refl)
-  snoc-of a (b ∷ l) = let z = snoc-of b l in (a ∷ z .0, z .1, ap (λ k. a ∷ k) (z .2))
 
   pair-back : (x h lo e : ℕ) (es : Sons (suc h)) → Seg (Q h) lo e es → ¬ (length es ≡ 1) → (S : Son x es) (t : Tree (suc h)) → (t ≡ S .son) ⊎ Neighbour S t
       → elem (t .latch) (pick-pair x [] (words-of h) es) ≡ true
@@ -306,23 +328,23 @@ module _ (Q : (h : ℕ) → ℕ → ℕ → Tree (suc h) → Type 0) (le : (h l 
       own : (l m : Sons (suc h)) → b ≡ l → rest ≡ m → elem (S .son .latch) (pick-pair x [] (words-of h) (l ++ d ∷ m)) ≡ true
       own [] [] i j = absurd (n (ap length (S .among) ∙ ap (λ l. length (l ++ d ∷ rest)) i ∙ ap (λ l. length (d ∷ l)) j))
       own [] (c ∷ m) i j = ap (elem (S .son .latch)) (right-pair x h lo e d c m (subst (λ l. Seg (Q h) lo e (d ∷ l)) j (subst (λ l. Seg (Q h) lo e (l ++ d ∷ rest)) i s′)) (S .reached))
-          ∙ two-first (S .son .latch) (S .son .latch) (c .0 .latch) refl
+          ∙ words-left h d c
       own (a ∷ l) m i j = let z = snoc-of a l in
           ap (λ y. elem (S .son .latch) (pick-pair x [] (words-of h) (y ++ d ∷ m))) (z .2)
           ∙ ap (elem (S .son .latch)) (left-pair x h (z .0) (z .1) d m (subst (Below x) (i ∙ z .2) (S .passed)) (S .reached))
-          ∙ two-second (S .son .latch) (z .1 .0 .latch) (S .son .latch) refl
+          ∙ words-right h (z .1) d
 
       go : (t ≡ S .son) ⊎ Neighbour S t → elem (t .latch) (pick-pair x [] (words-of h) (b ++ d ∷ rest)) ≡ true
       go (inl i) = subst (λ y. elem (y .latch) (pick-pair x [] (words-of h) (b ++ d ∷ rest)) ≡ true) (sym i) (own b rest refl refl)
       go (inr (inl c)) =
           ap (λ y. elem (t .latch) (pick-pair x [] (words-of h) (y ++ d ∷ rest))) (c .2)
-          ∙ ap (elem (t .latch)) (left-pair x h (c .0) (t, c .1) d rest (subst (Below x) (c .2) (S .passed)) (S .reached)) ∙ two-first (t .latch) (t .latch) (S .son .latch) refl
+          ∙ ap (elem (t .latch)) (left-pair x h (c .0) (t, c .1) d rest (subst (Below x) (c .2) (S .passed)) (S .reached)) ∙ words-left h (t, c .1) d
       go (inr (inr c)) =
           let v : ℕ = c .1 .0 in
           let post : Sons (suc h) = c .1 .1 in
           let f : b ++ d ∷ rest ≡ d ∷ (t, v) ∷ post = ap (λ y. y ++ d ∷ rest) (c .0) ∙ ap (λ y. d ∷ y) (c .1 .2) in
           ap (λ y. elem (t .latch) (pick-pair x [] (words-of h) y)) f
-          ∙ ap (elem (t .latch)) (right-pair x h lo e d (t, v) post (subst (Seg (Q h) lo e) f s′) (S .reached)) ∙ two-second (t .latch) (S .son .latch) (t .latch) refl
+          ∙ ap (elem (t .latch)) (right-pair x h lo e d (t, v) post (subst (Seg (Q h) lo e) f s′) (S .reached)) ∙ words-right h d (t, v)
 
   -- The guard of a level. The housekeeper's parent has no lone son.
   pub level-blocks : (p x h lo e : ℕ) (es : Sons (suc h)) → Seg (Q h) lo e es → (p ≡ 0 → ¬ (length es ≡ 1)) → (q : ℕ)
@@ -370,29 +392,26 @@ module _ (Q : (h : ℕ) → ℕ → ℕ → Tree (suc h) → Type 0) (le : (h l 
 
   -- Nobody in the way: the nodes that take part have no latch, or the party's own.
   module _ (p x h lo e : ℕ) (es : Sons (suc h)) (s : Seg (Q h) lo e es) (n : p ≡ 0 → ¬ (length es ≡ 1)) (nobody : level-blockers p x h es (son-at x h es) ≡ []) where
-    abbrev Own : ℕ → Type 0
-    Own w = (w ≡ 0) ⊎ (w ≡ latch-word p)
-
-    involved-free : (t : Tree (suc h)) → Involved p x h es t → Own (t .latch)
+    involved-free : (t : Tree (suc h)) → Involved p x h es t → Free p (t .latch)
     involved-free t I = go (t .latch) refl
       where
-        go : (w : ℕ) → t .latch ≡ w → Own w
+        go : (w : ℕ) → t .latch ≡ w → Free p w
         go zero i = inl refl
         go (suc q) i = at (ℕ-discrete q p)
           where
-            at : Dec (q ≡ p) → Own (suc q)
+            at : Dec (q ≡ p) → Free p (suc q)
             at (yes j) = inr (ap suc j)
             at (no j) = absurd (true≢false (level-blocks p x h lo e es s n q .1 (j, (t, I, i))) (ap (elem q) nobody))
 
-    pub son-free : Own (son-at x h es .latch)
+    pub son-free : Free p (son-at x h es .latch)
     son-free = go (son-at x h es .latch) refl
       where
-        go : (w : ℕ) → son-at x h es .latch ≡ w → Own w
+        go : (w : ℕ) → son-at x h es .latch ≡ w → Free p w
         go zero i = inl refl
-        go (suc q) i = let S = son-found x h q es i in subst Own i (involved-free (son-at x h es) (S, inl (son-hit x h es S)))
+        go (suc q) i = let S = son-found x h q es i in subst (Free p) i (involved-free (son-at x h es) (S, inl (son-hit x h es S)))
 
-    pub pair-free : p ≡ 0 → sons-of (son-at x h es) ≡ 3 → (w : ℕ) → elem w (pick-pair x [] (words-of h) es) ≡ true → Own w
-    pair-free z three w i = let o = pair-found x h w lo e es s i in subst Own (o .2) (involved-free (o .1) (o .0, which (o .0) (o .1) (o .3)))
+    pub pair-free : p ≡ 0 → sons-of (son-at x h es) ≡ 3 → (w : ℕ) → elem w (pick-pair x [] (words-of h) es) ≡ true → Free p w
+    pair-free z three w i = let o = pair-found x h w lo e es s i in subst (Free p) (o .2) (involved-free (o .1) (o .0, which (o .0) (o .1) (o .3)))
       where
         which : (S : Son x es) (t : Tree (suc h)) → (t ≡ S .son) ⊎ Neighbour S t → (t ≡ S .son) ⊎ ((p ≡ 0) × (sons-of (S .son) ≡ 3) × Neighbour S t)
         which S t (inl j) = inl j

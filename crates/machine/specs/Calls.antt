@@ -9,8 +9,8 @@ use lib.ListN.{length}
 -- R by the length of the store: the crate words'.
 pub use Rattle.words.specs.Sizes.{records-for}
 use Rattle.machine.specs.Holders.{width, left-by}
-use Rattle.machine.specs.State.{Entry, Desc, Stage, start, enter, Request, Undo, added, taken, State, more, refused, Outcome, top, idle, sessionOf, stored, lowest-from, with-entries, with-free, on-entry, on-session, on-tree, on-leaves, on-desc, hold-desc, group-desc, with-member, without-member, set-hand, fresh, value, ok}
-use Rattle.machine.specs.Steps.{ended, next-step, answer}
+use Rattle.machine.specs.State.{Entry, Desc, Stage, start, enter, Request, Undo, added, taken, Session, State, more, refused, Outcome, top, idle, sessionOf, stored, lowest-from, with-entries, with-free, with-table, on-entry, on-session, on-tree, on-leaves, on-desc, hold-desc, group-desc, with-member, without-member, set-hand, fresh, value, ok}
+use Rattle.machine.specs.Steps.{ended, next-step, answer, settled}
 
 pub data Call : Type 0 where
   -- M, and how many words the store has.
@@ -116,8 +116,33 @@ unfoldable pub end-hand : ℕ → Option Request → State → State
 end-hand p none s = s
 end-hand p (some r) s = ended p r s
 
+-- How many begun sessions have a lower number.
+unfoldable pub earlier : ℕ → List Session → ℕ
+earlier n [] = 0
+earlier n (t ∷ ts) = let rest = earlier n ts in cond (t .begun && ltb (t .order) n) (suc rest) rest
+
+-- How many are begun.
+unfoldable pub begun-many : List Session → ℕ
+begun-many [] = 0
+begun-many (t ∷ ts) = let rest = begun-many ts in cond (t .begun) (suc rest) rest
+
+-- The rank of a begun session: 1 and how many began before it; and of one that begins: 1 and how many are begun.
+abbrev pub rank : List Session → Session → ℕ
+rank ts t = suc (earlier (t .order) ts)
+
+abbrev pub last-rank : List Session → ℕ
+last-rank ts = suc (begun-many ts)
+
+-- A begun session's number becomes its rank.
+abbrev pub ranked : List Session → Session → Session
+ranked ts t = cond (t .begun) (record { begun = t .begun; order = rank ts t; hand = t .hand; undos = t .undos }) t
+
+unfoldable pub renumbered : State → State
+renumbered s = with-table (map (ranked (s .table)) (s .table)) s
+
+-- The begun sessions are numbered anew, and the one that begins is the last of them.
 unfoldable pub begins : ℕ → State → State
-begins p s = on-session p (λ t. record { begun = true; hand = t .hand; undos = t .undos }) s
+begins p s = on-session p (λ t. record { begun = true; order = last-rank (s .table); hand = t .hand; undos = t .undos }) (renumbered s)
 
 unfoldable pub commits : ℕ → State → State
 commits p s = leave p (with-free (s .free + length (sessionOf p s .undos)) s)
@@ -127,7 +152,7 @@ aborts p s = leave p (undo-all (sessionOf p s .undos) (end-hand p (sessionOf p s
 
 unfoldable pub steps : ℕ → ℕ → Option Request → State → Outcome
 steps p n none s = answer more s
-steps p n (some r) s = next-step n p r s (r .stage)
+steps p n (some r) s = settled s (r .stage) (next-step n p r s (r .stage))
 
 -- ---- the calls
 

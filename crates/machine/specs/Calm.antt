@@ -18,12 +18,12 @@ use Rattle.machine.specs.Calls.{request-checks}
 use Rattle.machine.specs.View.{plain, seen, holders, update-word, Same, same-refl, set-hand-same}
 use Rattle.machine.specs.Sound.{gap-word, stored-in, pins-in, total, ListedTo, of-hand, times, pins-by, Passes, Changing, Descends, to-change, to-first, to-choice, Stands, Undoable, cells, Keyed, to-second}
 use Rattle.machine.specs.Effect.{Effect}
-use Rattle.machine.specs.Table.{with-hand, hand-put, hand-other, hand-many, hand-seat, session-same}
+use Rattle.machine.specs.Table.{tenure, with-hand, hand-put, hand-other, hand-many, hand-seat, session-same}
 use Rattle.machine.specs.Housekeeping.{Like, same-like, like-trans, like-unseen, lvs, seen-plain, seen-group}
 use Rattle.machine.specs.Totals.{hand-pins}
 use Rattle.machine.specs.Checks.{checks-kept}
 use Rattle.machine.specs.Looks.{stored-map, listed-map, begun-of}
-use Rattle.machine.specs.Effects.{Remains, stands-kept, undoable-kept, keyed-after}
+use Rattle.machine.specs.Effects.{Remains, stands-kept, undoable-kept, apart-kept, keyed-after}
 
 -- ---- the tree
 
@@ -167,6 +167,7 @@ module _ (p : ℕ) (s v : State) (r : Request) (h : Option Request) (K : Keyed s
     hand-begun = λ n b. absurd (true≢false (begun-of s (K .unbegun-hand) p r e n) (sym (t-like .begun-same p) ∙ b));
     undos-begun = λ b. t-like .undos-same p ∙ K .unbegun-undos p (sym (t-like .begun-same p) ∙ b);
     zero-unmarked = λ z. t-like .begun-same p ∙ subst (λ q. sessionOf q s .begun ≡ false) (sym z) (K .zero-unmarked);
+    apart = apart-kept p s t (K .orders) (effect .others) (ap tenure t-session);
     checked = λ o q. checks-kept p (o .code) (o .entry) (o .first) (o .second) s t (ap length (t-like .entries-same)) (fine o (sym t-hand ∙ q) .0);
     standing = λ o q. fine o (sym t-hand ∙ q) .1;
     undoable = own-undos;

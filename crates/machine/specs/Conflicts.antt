@@ -12,7 +12,7 @@ use Rattle.serial.specs.Locks.{Kind, Mode, weak, strong, lock-rule}
 use Rattle.serial.specs.Locks as L
 use Rattle.machine.specs.Logic.{eqb-yes, eqb-no, eqb-is, eqb-not, leb-is, leb-not}
 use Rattle.machine.specs.Holders.{holds, latch-word, elem}
-use Rattle.machine.specs.Tree.{pick-hit}
+use Rattle.machine.specs.Tree.{Seg, pick-hit}
 use Rattle.machine.specs.State.{Desc, Tree, Stage, start, enter, change, take, Request, State, wait, Outcome, or-none, sessionOf, stored, entryOf, lowest-from, descOf, top, at}
 use Rattle.machine.specs.Descent.{at-latch, on-latch, sons-of}
 use Rattle.machine.specs.Steps.{entry-blockers, group-blockers, level-blockers, son-at, next-step, answer}
@@ -28,7 +28,7 @@ use Rattle.machine.specs.Looks.{fit-of, kept-of, kept-stored, change-sto
 use Rattle.machine.specs.Nearest.{takes-of}
 use Rattle.machine.specs.Focus.{focused, shaped-plug}
 use Rattle.machine.specs.Latched.{on-latch-plug}
-use Rattle.machine.specs.Waits.{WaitsFor, step-blockers, stand-blockers, step-waits, waiting}
+use Rattle.machine.specs.Waits.{WaitsFor, step-blockers, stand-blockers, step-waits, waiting, elem-first}
 
 -- ---- the node where a party stands
 
@@ -166,20 +166,28 @@ module _ {s : State} (S : Sound s) (p : ℕ) (r : Request) (e : sessionOf p s .h
       changes = λ f. ap (on-latch (latch-word p) x f (suc (s .root .height))) (A .is) ∙ on-latch-plug (latch-word p) x f (A .around) u (A .way) (A .clear) (A .latch);
     }
 
-    two : (h : ℕ) (u : Tree (suc (suc h))) → At p x s (suc h) u → p ≡ 0 → ¬ (sons-of u ≡ 1)
-    two h u A z = go (subst (λ y. Room s y (suc h) (sons-of u)) z (room (suc h) u A))
+    -- The housekeeper's parent has no lone son.
+    pub not-lone : (h : ℕ) (u : Tree (suc (suc h))) → At p x s (suc h) u → p ≡ 0 → ¬ (sons-of u ≡ 1)
+    not-lone h u A z = go (subst (λ y. Room s y (suc h) (sons-of u)) z (room (suc h) u A))
       where
         go : Room s 0 (suc h) (sons-of u) → ¬ (sons-of u ≡ 1)
         go (inl a) b = omega (arith, a, b)
         go (inr (a, inl c)) b = omega (arith, c)
         go (inr (a, inr c)) b = c b
 
+    pub sons-follow : (h : ℕ) (u : Tree (suc (suc h))) → At p x s (suc h) u → (lo : ℕ) × (hi : ℕ) × Seg (Shaped (suc h) 3) lo hi (u .sons)
+    unfolding Shaped
+    sons-follow h u A = let Z = shaped-plug (A .around) 1 0 top u (subst (Shaped (suc (s .root .height)) 1 0 top) (A .is) (S .shaped)) in (Z .lo′, suc (Z .hi′), Z .sub .3)
+
     level : (h : ℕ) (u : Tree (suc (suc h))) → At p x s (suc h) u → (q : ℕ)
         → (elem q (level-blockers p x h (u .sons) (son-at x h (u .sons))) ≡ true) ↔ (¬ (q ≡ p) × ((t : Tree (suc h)) × Involved p x h (u .sons) t × (t .latch ≡ latch-word q)))
-    unfolding Shaped
-    level h u A q =
-        let Z = shaped-plug (A .around) 1 0 top u (subst (Shaped (suc (s .root .height)) 1 0 top) (A .is) (S .shaped)) in
-        level-blocks (λ h. Shaped (suc h) 3) (λ h. shaped-le (suc h) 3) p x h (Z .lo′) (suc (Z .hi′)) (u .sons) (Z .sub .3) (two h u A) q
+    level h u A q = let Z = sons-follow h u A in
+        level-blocks (λ h. Shaped (suc h) 3) (λ h. shaped-le (suc h) 3) p x h (Z .0) (Z .1) (u .sons) (Z .2) (not-lone h u A) q
+
+    -- Above the lowest node the guard is that of the level.
+    pub level-guard : (h : ℕ) (u : Tree (suc (suc h))) → At p x s (suc h) u → step-blockers p r s (at x) ≡ level-blockers p x h (u .sons) (son-at x h (u .sons))
+    unfolding step-blockers stand-blockers
+    level-guard h u A = found [] (stand-blockers p x) (suc h) u A
 
     at-node : (q : ℕ) → Exactly (at x) (step-blockers p r s (at x)) q
     unfolding step-blockers
@@ -211,10 +219,7 @@ module _ {s : State} (S : Sound s) (p : ℕ) (r : Request) (e : sessionOf p s .h
     where
       go : (bs : List ℕ) → ((q : ℕ) → Exactly (r .stage) bs q) → (bs ≡ []) ↔ ((q : ℕ) → ¬ InTheWay p r s (r .stage) q)
       go [] f = ((λ _ q W. true≢false (f q .1 W) refl), λ _. refl)
-      go (b ∷ bs) f = ((λ i. absurd (true≢false (first b bs) (ap (elem b) i))), λ h. absurd (h b (f b .0 (first b bs))))
-        where
-          first : (b : ℕ) (bs : List ℕ) → elem b (b ∷ bs) ≡ true
-          first b bs = rw (eqb-yes b b refl) refl
+      go (b ∷ bs) f = ((λ i. absurd (true≢false (elem-first b bs) (ap (elem b) i))), λ h. absurd (h b (f b .0 (elem-first b bs))))
 
 -- An outcome of a step of party p at stage g: it waits exactly if some party is in the way, for exactly these, and then nothing is changed.
 pub record WaitsExactly (p : ℕ) (r : Request) (s : State) (g : Stage) (o : Outcome) : Type 0 where
@@ -229,7 +234,7 @@ exactly-from p r s g [] o w f = record {
   unchanged = λ ps h. absurd (true≢false (ap waiting h) w);
 }
 exactly-from p r s g (b ∷ bs) o w f = record {
-  waits = ((λ _. (b, f b .0 (rw (eqb-yes b b refl) refl))), λ _. (b ∷ bs, ap (λ x. x .answer) w));
+  waits = ((λ _. (b, f b .0 (elem-first b bs))), λ _. (b ∷ bs, ap (λ x. x .answer) w));
   lists = λ ps h q. subst (λ l. (elem q l ≡ true) ↔ InTheWay p r s g q) (listed (b ∷ bs) ps (sym (ap (λ x. x .answer) w) ∙ h)) (f q);
   unchanged = λ ps h. ap (λ x. x .next) w;
 }

@@ -56,7 +56,7 @@ call-of (C.step p l) w = step p (length l)
 call-of (C.commit p) w = commit p
 call-of (C.abort p) w = abort p
 
--- An answer tells the machine's: wait names one of the parties in the way.
+-- An answer tells the machine's: wait names one of its list, of which a step as it is settled has one.
 abbrev pub Tells : Answer → C.Answer → Type 0
 Tells ok a = a ≡ C.ok
 Tells more a = a ≡ C.more

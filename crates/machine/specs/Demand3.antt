@@ -27,46 +27,46 @@ use Rattle.machine.specs.Ending.{fresh-sound}
 use Rattle.machine.specs.Keeping.{keeps}
 use Rattle.machine.specs.Moves.{abort-accepted, moves}
 use Rattle.machine.specs.Safety.{safe-of}
-use Rattle.machine.specs.Waits.{waiting, WaitsFor, step-blockers, step-waits}
+use Rattle.machine.specs.Waits.{waiting, WaitsFor, step-blockers, step-waits, settled-step}
 use Rattle.machine.specs.Demand.{Lent, call-of, Tells, list-after, Performs, machine, tell-of, tells-told, told-alike, ListOf, Told-so, Told-new, call-told, fresh-formatted, hand-put, as-told}
 use Rattle.machine.specs.Told.{call-hands}
 
 -- ---- a wait names somebody
 
-abbrev pub Named : Answer → Type 0
-Named ok = Unit {0}
-Named more = Unit {0}
-Named (wait []) = ⊥
-Named (wait (p ∷ ps)) = Unit {0}
-Named (done ns) = Unit {0}
-Named (refused n k) = Unit {0}
+abbrev pub Somebody : Answer → Type 0
+Somebody ok = Unit {0}
+Somebody more = Unit {0}
+Somebody (wait []) = ⊥
+Somebody (wait (p ∷ ps)) = Unit {0}
+Somebody (done ns) = Unit {0}
+Somebody (refused n k) = Unit {0}
 
-no-wait : (a : Answer) → waiting a ≡ false → Named a
+no-wait : (a : Answer) → waiting a ≡ false → Somebody a
 no-wait ok e = tt
 no-wait more e = tt
 no-wait (wait ps) e = absurd (true≢false {b = true} refl e)
 no-wait (done ns) e = tt
 no-wait (refused n k) e = tt
 
-waits-named : (s : State) (bs : List ℕ) (o : Outcome) → WaitsFor s bs o → Named (o .answer)
+waits-named : (s : State) (bs : List ℕ) (o : Outcome) → WaitsFor s bs o → Somebody (o .answer)
 waits-named s [] o h = no-wait (o .answer) h
-waits-named s (b ∷ bs) o h = subst (λ z. Named (z .answer)) (sym h) tt
+waits-named s (b ∷ bs) o h = subst (λ z. Somebody (z .answer)) (sym h) tt
 
-steps-named : (p n : ℕ) (s : State) (h : Option Request) → Named (steps p n h s .answer)
+steps-named : (p n : ℕ) (s : State) (h : Option Request) → Somebody (steps p n h s .answer)
 unfolding steps
 steps-named p n s none = tt
-steps-named p n s (some r) = waits-named s (step-blockers p r s (r .stage)) (next-step n p r s (r .stage)) (step-waits n p r s (r .stage))
+steps-named p n s (some r) = settled-step (λ o. Somebody (o .answer)) n p r s (waits-named s (step-blockers p r s (r .stage)) (next-step n p r s (r .stage)) (step-waits n p r s (r .stage))) (λ b _. tt)
 
-pub call-named : (c : Call) (s : State) → Named (call c s .answer)
+pub call-named : (c : Call) (s : State) → Somebody (call c s .answer)
 unfolding call
-call-named (format m w) s = refusing-cases (λ o. Named (o .answer)) (format-checks m w) s (answer ok (fresh m (records-for m w))) (λ n. tt) (λ k. tt)
-call-named (begin p) s = refusing-cases (λ o. Named (o .answer)) (begin-checks p s) s (answer ok (begins p s)) (λ n. tt) (λ k. tt)
-call-named (put p c e f g) s = refusing-cases (λ o. Named (o .answer)) (put-checks p c e f g s) s (answer ok (accepted p c e f g s)) (λ n. tt) (λ k. tt)
-call-named (step p n) s = refusing-cases (λ o. Named (o .answer)) (step-checks p s) s (steps p n (sessionOf p s .hand) s) (λ i. tt) (λ k. steps-named p n s (sessionOf p s .hand))
-call-named (commit p) s = refusing-cases (λ o. Named (o .answer)) (commit-checks p s) s (answer ok (commits p s)) (λ n. tt) (λ k. tt)
-call-named (abort p) s = refusing-cases (λ o. Named (o .answer)) (abort-checks p s) s (answer ok (aborts p s)) (λ n. tt) (λ k. tt)
+call-named (format m w) s = refusing-cases (λ o. Somebody (o .answer)) (format-checks m w) s (answer ok (fresh m (records-for m w))) (λ n. tt) (λ k. tt)
+call-named (begin p) s = refusing-cases (λ o. Somebody (o .answer)) (begin-checks p s) s (answer ok (begins p s)) (λ n. tt) (λ k. tt)
+call-named (put p c e f g) s = refusing-cases (λ o. Somebody (o .answer)) (put-checks p c e f g s) s (answer ok (accepted p c e f g s)) (λ n. tt) (λ k. tt)
+call-named (step p n) s = refusing-cases (λ o. Somebody (o .answer)) (step-checks p s) s (steps p n (sessionOf p s .hand) s) (λ i. tt) (λ k. steps-named p n s (sessionOf p s .hand))
+call-named (commit p) s = refusing-cases (λ o. Somebody (o .answer)) (commit-checks p s) s (answer ok (commits p s)) (λ n. tt) (λ k. tt)
+call-named (abort p) s = refusing-cases (λ o. Somebody (o .answer)) (abort-checks p s) s (answer ok (aborts p s)) (λ n. tt) (λ k. tt)
 
-told-of : (a : Answer) → Named a → (b : C.Answer) × Tells a b
+told-of : (a : Answer) → Somebody a → (b : C.Answer) × Tells a b
 told-of ok n = (C.ok, refl)
 told-of more n = (C.more, refl)
 told-of (wait []) n = absurd n

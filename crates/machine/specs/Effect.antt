@@ -42,6 +42,8 @@ pub record Own (p : ℕ) (t : State) : Type 0 where
   pub hand-begun : ¬ (p ≡ 0) → sessionOf p t .begun ≡ false → sessionOf p t .hand ≡ none
   pub undos-begun : sessionOf p t .begun ≡ false → sessionOf p t .undos ≡ []
   pub zero-unmarked : p ≡ 0 → sessionOf p t .begun ≡ false
+  -- No other begun session has its number in the order of begins.
+  pub apart : (q : ℕ) → ¬ (p ≡ q) → sessionOf p t .begun ≡ true → sessionOf q t .begun ≡ true → ¬ (sessionOf p t .order ≡ sessionOf q t .order)
   pub checked : (r : Request) → sessionOf p t .hand ≡ some r → Passes (request-checks p (r .code) (r .entry) (r .first) (r .second) t)
   pub standing : (r : Request) → sessionOf p t .hand ≡ some r → Stands p t r (r .stage)
   pub undoable : Undoable p t (sessionOf p t .undos) (cells t)

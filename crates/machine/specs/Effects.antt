@@ -20,6 +20,7 @@ use Rattle.machine.specs.View.{holders, update-word, seen}
 use Rattle.machine.specs.Sound.{gap-word, stored-in, Passes, Changing, Choice, Descends, to-change, to-first, to-choice, Stands, Cells, cells, set-cell, Holding, Undoable, Keyed, to-second}
 use Rattle.machine.specs.Effect.{Effect, Own}
 use Rattle.machine.specs.Bits.{holds-none}
+use Rattle.machine.specs.Table.{tenure}
 use Rattle.machine.specs.Housekeeping.{lvs}
 use Rattle.machine.specs.Checks.{tidy-zero, checks-kept}
 
@@ -114,6 +115,30 @@ each p P own others q = go (ℕ-discrete p q)
     go (yes e) = subst P e own
     go (no n) = others q n
 
+-- A party that keeps its mark and its number has it alone, as before.
+pub apart-kept : (p : ℕ) (s t : State) → ((a b : ℕ) → sessionOf a s .begun ≡ true → sessionOf b s .begun ≡ true → sessionOf a s .order ≡ sessionOf b s .order → a ≡ b)
+    → ((q : ℕ) → ¬ (p ≡ q) → sessionOf q t ≡ sessionOf q s) → tenure (sessionOf p t) ≡ tenure (sessionOf p s)
+    → (q : ℕ) → ¬ (p ≡ q) → sessionOf p t .begun ≡ true → sessionOf q t .begun ≡ true → ¬ (sessionOf p t .order ≡ sessionOf q t .order)
+apart-kept p s t k others own q n u v e =
+    n (k p q (sym (ap (λ x. x .0) own) ∙ u) (sym (ap (λ x. x .begun) (others q n)) ∙ v) (sym (ap (λ x. x .1) own) ∙ e ∙ ap (λ x. x .order) (others q n)))
+
+-- So no two share one.
+orders-after : (p : ℕ) (s t : State) → Keyed s → Effect p s t → Own p t
+    → (a b : ℕ) → sessionOf a t .begun ≡ true → sessionOf b t .begun ≡ true → sessionOf a t .order ≡ sessionOf b t .order → a ≡ b
+orders-after p s t K E O a b = go (ℕ-discrete p a) (ℕ-discrete p b)
+  where
+    Shares : ℕ → ℕ → Type 0
+    Shares x y = sessionOf x t .begun ≡ true → sessionOf y t .begun ≡ true → sessionOf x t .order ≡ sessionOf y t .order → x ≡ y
+
+    go : Dec (p ≡ a) → Dec (p ≡ b) → Shares a b
+    go (yes e) (yes f) = λ u v w. sym e ∙ f
+    go (yes e) (no n) = subst (λ x. Shares x b) e (λ u v w. absurd (O .apart b n u v w))
+    go (no n) (yes f) = subst (Shares a) f (λ u v w. absurd (O .apart a n v u (sym w)))
+    go (no m) (no n) = λ u v w.
+        let x = E .others a m in
+        let y = E .others b n in
+        K .orders a b (sym (ap (λ z. z .begun) x) ∙ u) (sym (ap (λ z. z .begun) y) ∙ v) (sym (ap (λ z. z .order) x) ∙ w ∙ ap (λ z. z .order) y)
+
 pub keyed-after : (p : ℕ) (s t : State) → Keyed s → Effect p s t → Own p t → Keyed t
 keyed-after p s t K E O = record {
   sizes = subst (λ m. (1 ≤ m) × (m ≤ 1024) × (8 ≤ t .records) × (t .records ≤ 4096)) (sym (E .many))
@@ -134,6 +159,7 @@ keyed-after p s t K E O = record {
       (λ x n h. ap (λ y. y .undos) (E .others x n) ∙ K .unbegun-undos x (sym (ap (λ y. y .begun) (E .others x n)) ∙ h));
   zero-unmarked = each p (λ x. x ≡ 0 → sessionOf x t .begun ≡ false) (O .zero-unmarked)
       (λ x n z. ap (λ y. y .begun) (E .others x n) ∙ subst (λ y. sessionOf y s .begun ≡ false) (sym z) (K .zero-unmarked)) 0 refl;
+  orders = orders-after p s t K E O;
   pins-match = O .pins-match;
   checked = each p (λ x. (r : Request) → sessionOf x t .hand ≡ some r → Passes (request-checks x (r .code) (r .entry) (r .first) (r .second) t)) (O .checked)
       (λ x n r h. checks-kept x (r .code) (r .entry) (r .first) (r .second) s t (E .many) (K .checked x r (sym (ap (λ y. y .hand) (E .others x n)) ∙ h)));

@@ -16,11 +16,11 @@ use Rattle.machine.specs.Logic.{eqb-yes, eqb-no, neither, not-false, eqb
 use Rattle.machine.specs.Tree.{leaves}
 use Rattle.machine.specs.State.{Desc, Stage, start, enter, Request, Session, State, top, no-entry, idle, sessionOf, fresh, lowest-from, with-table, on-session, on-desc, pin-desc, set-hand, in-stage, at, stored, ok}
 use Rattle.machine.specs.Steps.{answer, pinned, unpin, unlatch, ended}
-use Rattle.machine.specs.Calls.{call, format, begin, put, begin-checks, put-checks, format-checks, records-for, request-checks, has-begun, in-hand, no-party, no-session, first-stage, tidy-from, accepted, begins}
+use Rattle.machine.specs.Calls.{call, format, begin, put, begin-checks, put-checks, format-checks, records-for, request-checks, has-begun, in-hand, no-party, no-session, first-stage, tidy-from, accepted, last-rank, renumbered, begins}
 use Rattle.machine.specs.View.{holders, group-in, released-same, frame-holders}
 use Rattle.machine.specs.Sound.{stored-in, pins-in, total, nodes, Shaped, of-hand, times, pins-by, latch-count, stands, Passes, to-first, to-choice, Stands, cells, Undoable, Sound, Formed, Latches, Keyed, formed-of, latches-of, keyed-of, sound-from}
 use Rattle.machine.specs.Effect.{Effect, Own}
-use Rattle.machine.specs.Table.{with-hand, hand-seat, session-put, session-other, released, released-root, released-table, ended-own}
+use Rattle.machine.specs.Table.{with-hand, as-begun, hand-seat, session-put, session-other, released, released-root, released-table, ended-own, renumbered-kept, renumbered-many}
 use Rattle.machine.specs.Housekeeping.{Ordered, lvs, unlatch-leaves}
 use Rattle.machine.specs.Keys.{Kept}
 use Rattle.machine.specs.Totals.{total-set, total-least, total-none}
@@ -32,6 +32,7 @@ use Rattle.machine.specs.Alike.{unlatch-formed, ended-formed}
 use Rattle.machine.specs.Latch.{hand-stands, hand-latches, ended-latches}
 use Rattle.machine.specs.Effects.{Remains, stands-kept, undoable-kept, keyed-after}
 use Rattle.machine.specs.Calm.{calm-refl, calm-then, none-keyed}
+use Rattle.machine.specs.Renumbering.{number-most, renumbered-sound}
 
 -- ---- a session record alone
 
@@ -40,6 +41,7 @@ pub record Sits (p : ℕ) (x : Session) (s : State) : Type 0 where
   pub undos-same : x .undos ≡ sessionOf p s .undos
   pub begun-more : sessionOf p s .begun ≡ true → x .begun ≡ true
   pub zero-unmarked : p ≡ 0 → x .begun ≡ false
+  pub apart : (q : ℕ) → ¬ (p ≡ q) → x .begun ≡ true → sessionOf q s .begun ≡ true → ¬ (x .order ≡ sessionOf q s .order)
   pub hand-begun : ¬ (p ≡ 0) → x .begun ≡ false → x .hand ≡ none
   pub pins-same : (k : ℕ) → pins-by k (sessionOf p s) ≡ pins-by k x
   pub checked : (r : Request) → x .hand ≡ some r → Passes (request-checks p (r .code) (r .entry) (r .first) (r .second) s)
@@ -99,6 +101,7 @@ module _ (p : ℕ) (x : Session) (s : State) (S : Sound s) (h : p < length (s .t
       hand-begun = λ n e. ap (λ y. y .hand) mine ∙ I .hand-begun n (sym (ap (λ y. y .begun) mine) ∙ e);
       undos-begun = λ e. ap (λ y. y .undos) mine ∙ I .undos-same ∙ S .unbegun-undos p (was-unbegun e);
       zero-unmarked = λ e. ap (λ y. y .begun) mine ∙ I .zero-unmarked e;
+      apart = λ q n u v e. I .apart q n (sym (ap (λ y. y .begun) mine) ∙ u) (sym (ap (λ y. y .begun) (theirs q n)) ∙ v) (sym (ap (λ y. y .order) mine) ∙ e ∙ ap (λ y. y .order) (theirs q n));
       checked = λ r e. I .checked r (sym (ap (λ y. y .hand) mine) ∙ e);
       standing = λ r e. let o = sym (ap (λ y. y .hand) mine) ∙ e in stands-kept p s seated seat-remains r (r .stage) (I .checked r o .0) (I .standing r o);
       undoable = subst (λ us. Undoable p seated us (cells s)) (sym (ap (λ y. y .undos) mine ∙ I .undos-same))
@@ -146,6 +149,7 @@ fits-sits p r s S F = record {
   undos-same = refl;
   begun-more = λ e. e;
   zero-unmarked = λ e. subst (λ q. sessionOf q s .begun ≡ false) (sym e) (S .zero-unmarked);
+  apart = λ q n u v e. n (S .orders p q u v e);
   hand-begun = λ n e. absurd (true≢false (F .begun n) e);
   pins-same = F .pins-same;
   checked = λ y e. subst (λ y. Passes (request-checks p (y .code) (y .entry) (y .first) (y .second) s)) (Option·some-injective r y e) (F .checked);
@@ -171,26 +175,31 @@ restage-sound p r g s S e was is pins st =
 
 pub begin-sound : (p : ℕ) (s : State) → Sound s → no-session p ≡ false → has-begun p s ≡ false → Sound (begins p s)
 unfolding begins on-session
-begin-sound p s S a b = seat-sound p x s S (party-seat p s (S .seats) (session-number p a .1)) (record {
+begin-sound p s S a b = seat-sound p x t (renumbered-sound s S) (party-seat p t (renumbered-many s ∙ S .seats) (session-number p a .1)) (record {
   undos-same = refl;
   begun-more = λ e. refl;
   zero-unmarked = λ e. absurd (session-number p a .0 e);
+  apart = λ q n u v e. let i = number-most q s (sym (renumbered-kept (λ y. y .begun) (λ n y. refl) q s) ∙ v) in
+      let o : last-rank (s .table) ≡ sessionOf q (renumbered s) .order = e in omega (arith, o, i);
   hand-begun = λ n e. idle-hand;
   pins-same = λ k. refl;
   checked = λ r e. absurd (nothing r e);
   standing = λ r e. absurd (nothing r e);
 }) unlatched unlatched
   where
+    t : State
+    t = renumbered s
+
     x : Session
-    x = record { begun = true; hand = sessionOf p s .hand; undos = sessionOf p s .undos }
+    x = as-begun (last-rank (s .table)) (sessionOf p t)
 
-    idle-hand : sessionOf p s .hand ≡ none
-    idle-hand = unbegun-hand S p (session-number p a .0) (session-unbegun p s b)
+    idle-hand : sessionOf p t .hand ≡ none
+    idle-hand = renumbered-kept (λ y. y .hand) (λ n y. refl) p s ∙ unbegun-hand S p (session-number p a .0) (session-unbegun p s b)
 
-    unlatched : hand-stands (sessionOf p s .hand) ≡ 0
+    unlatched : hand-stands (sessionOf p t .hand) ≡ 0
     unlatched = ap hand-stands idle-hand
 
-    nothing : (r : Request) → sessionOf p s .hand ≡ some r → ⊥
+    nothing : (r : Request) → sessionOf p t .hand ≡ some r → ⊥
     nothing r e = Option·none-ne-some r (sym idle-hand ∙ e)
 
 -- ---- put
@@ -318,6 +327,7 @@ module _ (m r : ℕ) where
     unbegun-hand = λ p e. ap (λ y. y .hand) (fresh-session m r (suc p));
     unbegun-undos = λ p e. ap (λ y. y .undos) (fresh-session m r p);
     zero-unmarked = ap (λ y. y .begun) (fresh-session m r 0);
+    orders = λ p q e. absurd (true≢false e (ap (λ y. y .begun) (fresh-session m r p)));
     pins-match = λ k. no-pins (eqb 0 k) ∙ sym (total-none (pins-by k) idle refl (suc width));
     latches-match = λ p. ap (λ b. cond {A = ℕ} b 1 0 + 0) (eqb·zero-suc p) ∙ sym (ap (λ y. hand-stands (y .hand)) (fresh-session m r p));
     placed = λ p q x e f. no-hand p q e;

@@ -13,13 +13,13 @@ use Rattle.serial.specs.Locks as L
 use Rattle.serial.specs.LockMachine.{Store, Opened, Ended, Committed}
 use Rattle.machine.specs.Holders.{holds, left-by, elem}
 use Rattle.machine.specs.Tree.{mapE, flat, leaves}
-use Rattle.machine.specs.State.{Tree, Session, State, no-entry, idle, entryOf, sessionOf, with-free, on-session, on-tree, on-leaves, hold-desc, Desc}
-use Rattle.machine.specs.Calls.{entry-left, leave, begins, commits}
+use Rattle.machine.specs.State.{Tree, State, no-entry, idle, entryOf, sessionOf, with-free, on-session, on-tree, on-leaves, hold-desc, Desc}
+use Rattle.machine.specs.Calls.{entry-left, leave, renumbered, begins, commits}
 use Rattle.machine.specs.Gaps.{by-tri, reads, reads-locate, reads-update}
 use Rattle.machine.specs.Gaps as G
 use Rattle.machine.specs.View.{seen, group-in, locate-word, update-word, log-entry, items, holders, view, Same, same-items, same-holders, free-same, holder-words, frame-holders, frame-items}
 use Rattle.machine.specs.Bits.{left-same, left-other, left-le}
-use Rattle.machine.specs.Table.{session-put, session-other, session-kept, leave-own, leave-other}
+use Rattle.machine.specs.Table.{leave-own, leave-other, renumbered-kept, begins-own, begins-other, begins-kept}
 use Rattle.machine.specs.Keeps.{flat-same}
 use Rattle.machine.specs.Order.{lv}
 use Rattle.machine.specs.Groups.{words, group-map, map-flat}
@@ -28,16 +28,14 @@ use Rattle.machine.specs.Housekeeping.{lvs, seen-words, seen-group}
 -- ---- begin
 
 pub begin-opened : (p : ℕ) (s : State) → p < length (s .table) → sessionOf p s .begun ≡ false → Opened p (view s) (view (begins p s))
-unfolding begins on-session
-begin-opened p s h w =
-    let f : Session → Session = λ t. record { begun = true; hand = t .hand; undos = t .undos } in
-    record {
-      was = w;
-      now = ap (λ x. x .begun) (session-put p f s h);
-      begun-others = λ t n. ap (λ x. x .begun) (session-other p t f s n);
-      stays = λ t. record { holds-kept = λ k m z. frame-holders s (begins p s) refl refl k m t z; log-kept = ap (map log-entry) (session-kept (λ x. x .undos) p f s (λ x. refl) t) };
-      db-kept = frame-items s (begins p s) refl refl;
-    }
+unfolding begins renumbered on-session
+begin-opened p s h w = record {
+  was = w;
+  now = ap (λ x. x .begun) (begins-own p s h);
+  begun-others = λ t n. ap (λ x. x .begun) (begins-other p t s n) ∙ renumbered-kept (λ x. x .begun) (λ i x. refl) t s;
+  stays = λ t. record { holds-kept = λ k m z. frame-holders s (begins p s) refl refl k m t z; log-kept = ap (map log-entry) (begins-kept (λ x. x .undos) (λ i x. refl) (λ i x. refl) p t s) };
+  db-kept = frame-items s (begins p s) refl refl;
+}
 
 -- ---- leaving
 

@@ -15,13 +15,14 @@ use Rattle.machine.specs.Holders.{latch-word, elem}
 use Rattle.machine.specs.Tree.{pick, pick-hit}
 use Rattle.machine.specs.State.{Entry, Desc, Tree, Stage, start, enter, change, take, Request, State, Answer, more, wait, done, refused, Outcome, no-desc, same, or-none, sessionOf, stored, lowest-from, descOf, gap-below, on-entry, on-tree, in-stage, set-hand, on-session, at, ok}
 use Rattle.machine.specs.Descent.{Sons, at-latch, on-latch}
-use Rattle.machine.specs.Steps.{ended, goes-on, finished, guarded, group-blockers, read-step, write-step, excluded-state, unlatch, updating-state, removed-state, passed-state, entry-step, insert-step, remove-step, change-step, memberships, last-take, take-desc, take-step, arrived, root-blockers, root-need, root-splits, whole-root, halved-root, enter-step, level-state, level-step, descended, son-at, pinned-state, pin-step, made-state, make-step, removable, tidied-state, tidy-step, lowest-step, stand-step, at-step, first-step, next-step, answer}
+use Rattle.machine.specs.Steps.{ended, goes-on, finished, guarded, group-blockers, read-step, write-step, excluded-state, unlatch, updating-state, removed-state, passed-state, entry-step, insert-step, remove-step, change-step, memberships, last-take, take-desc, take-step, arrived, root-blockers, root-need, root-splits, whole-root, halved-root, enter-step, level-state, level-step, descended, son-at, pinned-state, pin-step, made-state, make-step, removable, tidied-state, tidy-step, lowest-step, stand-step, at-step, first-step, next-step, answer, settled}
 use Rattle.machine.specs.Sound.{Sound, Descends, to-change, to-first, to-second, to-choice, Stands}
 use Rattle.machine.specs.Context.{Ctx, hole, down, plug, OnWay, Clear, Focus, Focused}
 use Rattle.machine.specs.Table.{hand-seat, hand-put}
 use Rattle.machine.specs.Descents.{pick-cases}
 use Rattle.machine.specs.Nearest.{takes-of}
 use Rattle.machine.specs.Focus.{focused}
+use Rattle.machine.specs.Waits.{settled-step}
 
 -- ---- how far a request is
 
@@ -225,7 +226,6 @@ module _ (p : ℕ) (r : Request) (s : State) (S : Sound s) (e : sessionOf p s .h
       (to-stage (take x) (take (suc (d .key))) (passed-state p d s) (held (take (suc (d .key))) (passed-state p d s) refl) (inr (refl, inr (omega arith))))
       (either (Steps-on (take x)) (leb (2 * length (memberships (r .first) (r .second) (stored s))) n) _ _ tt tt))
 
-  -- Every step of every party: after more the request is ahead.
   step-on : (n : ℕ) (g : Stage) → r .stage ≡ g → Steps-on g (next-step n p r s g)
   unfolding next-step
   step-on n start q = first-on q
@@ -234,5 +234,6 @@ module _ (p : ℕ) (r : Request) (s : State) (S : Sound s) (e : sessionOf p s .h
   step-on n change q = change-on
   step-on n (take x) q = take-on n x q
 
-  pub step-forward : (n : ℕ) → Steps-on (r .stage) (next-step n p r s (r .stage))
-  step-forward n = step-on n (r .stage) refl
+  -- Every step of every party: after more the request is ahead.
+  pub step-forward : (n : ℕ) → Steps-on (r .stage) (settled s (r .stage) (next-step n p r s (r .stage)))
+  step-forward n = settled-step (Steps-on (r .stage)) n p r s (step-on n (r .stage) refl) (λ b _. tt)

@@ -16,8 +16,8 @@ use Rattle.serial.specs.Locks.{Kind, Mode, weak, strong}
 use Rattle.serial.specs.Locks as L
 use Rattle.machine.specs.Logic.{leb-yes, leb-no, eqb-yes, eqb-no, leb-is, leb-not, either}
 use Rattle.machine.specs.Holders.{holds, held-by, elem}
-use Rattle.machine.specs.State.{Entry, Desc, Stage, start, enter, change, take, Request, State, refused, top, or-none, entryOf, sessionOf, stored, lowest-from, descOf, on-entry, on-session, on-tree, on-desc, hold-desc, group-desc, same, with-member, without-member, add-undo, Outcome, at}
-use Rattle.machine.specs.Steps.{share-by, exclude-by, ended, goes-on, finished, guarded, read-step, written, write-step, entry-step, updating-state, inserted-state, removed-state, insert-step, remove-step, change-step, memberships, passed-state, located-state, last-take, take-desc, take-step, first-step, next-step}
+use Rattle.machine.specs.State.{Entry, Desc, Stage, start, enter, change, take, Request, State, wait, refused, top, or-none, entryOf, sessionOf, stored, lowest-from, descOf, on-entry, on-session, on-tree, on-desc, hold-desc, group-desc, same, with-member, without-member, add-undo, Outcome, at}
+use Rattle.machine.specs.Steps.{share-by, exclude-by, ended, goes-on, finished, guarded, read-step, written, write-step, entry-step, updating-state, inserted-state, removed-state, insert-step, remove-step, change-step, memberships, passed-state, located-state, last-take, take-desc, take-step, first-step, next-step, answer}
 use Rattle.machine.specs.Gaps.{by-tri, locators}
 use Rattle.machine.specs.View.{seen, locate-word, update-word, holders, same-refl, same-holders, ended-same, frame-holders, entry-holders}
 use Rattle.machine.specs.Sound.{stored-in, of-hand, Sound}
@@ -205,7 +205,7 @@ finished-grows p r ns s t g h = grows-then s t (finished p r ns t .next) g h (sa
 goes-grows : (p : ℕ) (r : Request) (st : Stage) (s t : State) (g : Ledger) → GrowsBy s t g → GrowsBy s (goes-on p r st t .next) g
 goes-grows p r st s t g h = grows-then s t (goes-on p r st t .next) g h (same-holders t (goes-on p r st t .next) (goes-same p r st t t (same-refl t)))
 
-abbrev StepGrows : ℕ → Request → State → Outcome → Type 0
+abbrev pub StepGrows : ℕ → Request → State → Outcome → Type 0
 StepGrows p r s o = GrowsBy s (o .next) (step-grants p r (keys s) (r .stage) (o .answer))
 
 read-grows : (m i f g : ℕ) (s : State) → i < length (s .entries) → StepGrows (suc m) (asked 1 (suc i) f g start) s (read-step (suc m) (asked 1 (suc i) f g start) s)
@@ -333,6 +333,18 @@ ready-grows n m s S r h (descends c e f g x w) = like-grows s _ (at-step-like (s
 ready-grows n m s S r h (inserts e f g K w) = insert-grows m e f g s K
 ready-grows n m s S r h (removes e f g K w) = remove-grows m e f g s K
 ready-grows n m s S r h (takes e f g x K q u needs) = take-grows n m e f g x s (or-none (lowest-from x (stored s))) refl K u (take-stored S (suc m) (asked 5 e f g (take x)) x h refl .1)
+
+-- A wait grants nothing.
+pub wait-grows : (p : ℕ) (r : Request) (s : State) (b : ℕ) → StepGrows p r s (answer (wait (b ∷ [])) s)
+unfolding step-grants
+wait-grows p r s b = go (r .stage)
+  where
+    go : (g : Stage) → GrowsBy s s (step-grants p r (keys s) g (wait (b ∷ [])))
+    go start = alike-grows s s (λ k m q z. refl)
+    go (enter x) = alike-grows s s (λ k m q z. refl)
+    go (at x) = alike-grows s s (λ k m q z. refl)
+    go change = alike-grows s s (λ k m q z. refl)
+    go (take x) = alike-grows s s (λ k m q z. refl)
 
 -- No step of the housekeeper grants anything.
 pub tidy-grows : (n : ℕ) (s : State) → Sound s → (r : Request) → Tidying s r → StepGrows 0 r s (next-step n 0 r s (r .stage))

@@ -12,20 +12,22 @@ use Rattle.machine.specs.Logic.{either}
 use Rattle.machine.specs.Holders.{held-by, latch-word, elem}
 use Rattle.machine.specs.Tree.{pick}
 use Rattle.machine.specs.State.{Entry, Desc, Tree, Stage, start, enter, change, take, Request, Undo, State, Answer, more, wait, done, refused, Outcome, no-desc, or-none, sessionOf, stored, lowest-from, gap-below, descOf, on-entry, on-tree, on-desc, hold-desc, same, in-stage, add-undo, at, ok}
-use Rattle.machine.specs.Steps.{unlatch, ended, goes-on, finished, guarded, read-step, written, write-step, entry-step, insert-step, remove-step, change-step, last-take, take-desc, take-step, enter-step, level-step, pin-step, make-step, tidy-step, lowest-step, stand-step, at-step, first-step, next-step, memberships, removable, halved-root, whole-root, root-blockers, root-need, root-splits, tidied-state, answer}
-use Rattle.machine.specs.Table.{session-same, session-kept, with-undo, undo-many, hand-put, hand-other, hand-many, unlatch-root, ended-own, ended-other, ended-many}
+use Rattle.machine.specs.Steps.{unlatch, ended, goes-on, finished, guarded, read-step, written, write-step, entry-step, insert-step, remove-step, change-step, last-take, take-desc, take-step, enter-step, level-step, pin-step, make-step, tidy-step, lowest-step, stand-step, at-step, first-step, next-step, memberships, removable, halved-root, whole-root, root-blockers, root-need, root-splits, tidied-state, answer, settled}
+use Rattle.machine.specs.Table.{tenure, hand-tenure, ended-tenure, session-same, session-kept, with-undo, undo-many, hand-put, hand-other, hand-many, unlatch-root, ended-own, ended-other, ended-many}
 use Rattle.machine.specs.Descents.{guard-cases, latch-cases}
+use Rattle.machine.specs.Waits.{settled-step}
 
--- Requests in hand, and how many sessions there are, are the same.
+-- Requests in hand, marks and numbers of begun sessions, and how many sessions there are, are the same.
 pub record Kin (s t : State) : Type 0 where
   pub hands : (q : ℕ) → sessionOf q t .hand ≡ sessionOf q s .hand
+  pub tenures : (q : ℕ) → tenure (sessionOf q t) ≡ tenure (sessionOf q s)
   pub many : length (t .table) ≡ length (s .table)
 
 pub kin-table : (s t : State) → t .table ≡ s .table → Kin s t
-kin-table s t e = record { hands = λ q. ap (λ x. x .hand) (session-same s t e q); many = ap length e }
+kin-table s t e = record { hands = λ q. ap (λ x. x .hand) (session-same s t e q); tenures = λ q. ap tenure (session-same s t e q); many = ap length e }
 
 pub kin-trans : {s t u : State} → Kin s t → Kin t u → Kin s u
-kin-trans a b = record { hands = λ q. b .hands q ∙ a .hands q; many = b .many ∙ a .many }
+kin-trans a b = record { hands = λ q. b .hands q ∙ a .hands q; tenures = λ q. b .tenures q ∙ a .tenures q; many = b .many ∙ a .many }
 
 kin-tree : (f : (h : ℕ) → Tree h → Tree h) (s : State) → Kin s (on-tree f s)
 unfolding on-tree
@@ -38,7 +40,7 @@ kin-entry (suc i) f s = kin-table s (on-entry (suc i) f s) refl
 
 pub kin-undo : (p : ℕ) (b : Undo) (s : State) → Kin s (add-undo p b s)
 unfolding add-undo
-kin-undo p b s = record { hands = session-kept (λ x. x .hand) p (with-undo b) s (λ x. refl); many = undo-many p b s }
+kin-undo p b s = record { hands = session-kept (λ x. x .hand) p (with-undo b) s (λ x. refl); tenures = session-kept tenure p (with-undo b) s (λ x. refl); many = undo-many p b s }
 
 kin-unlatch : (p : ℕ) (g : Stage) (s : State) → Kin s (unlatch p g s)
 kin-unlatch p g s = kin-table s (unlatch p g s) (ap (λ t. t .table) (unlatch-root p g s))
@@ -55,6 +57,8 @@ Own p r s (refused n b) t = (ends-request n ≡ true) × (sessionOf p t .hand �
 pub record Handed (p : ℕ) (r : Request) (s : State) (o : Outcome) : Type 0 where
   pub own : Own p r s (o .answer) (o .next)
   pub others : (q : ℕ) → ¬ (p ≡ q) → sessionOf q (o .next) .hand ≡ sessionOf q s .hand
+  -- No step begins or ends a session, or numbers it.
+  pub tenures : (q : ℕ) → tenure (sessionOf q (o .next)) ≡ tenure (sessionOf q s)
   pub many : length (o .next .table) ≡ length (s .table)
 
 module _ (p : ℕ) (r : Request) (s : State) (l : p < length (s .table)) (e : sessionOf p s .hand ≡ some r) where
@@ -66,30 +70,33 @@ module _ (p : ℕ) (r : Request) (s : State) (l : p < length (s .table)) (e : se
   goes g t k = record {
     own = (g, ap (λ x. x .hand) (hand-put p (some (in-stage g r)) t (in-table t k)));
     others = λ q n. ap (λ x. x .hand) (hand-other p q (some (in-stage g r)) t n) ∙ k .hands q;
+    tenures = λ q. hand-tenure p q (some (in-stage g r)) t ∙ k .tenures q;
     many = hand-many p (some (in-stage g r)) t ∙ k .many;
   }
 
   record Emptied (t : State) : Type 0 where
     pub gone : sessionOf p t .hand ≡ none
     pub rest : (q : ℕ) → ¬ (p ≡ q) → sessionOf q t .hand ≡ sessionOf q s .hand
+    pub tenures : (q : ℕ) → tenure (sessionOf q t) ≡ tenure (sessionOf q s)
     pub many : length (t .table) ≡ length (s .table)
 
   emptied : (t : State) → Kin s t → Emptied (ended p r t)
   emptied t k = record {
     gone = ap (λ x. x .hand) (ended-own p r t (in-table t k));
     rest = λ q n. ap (λ x. x .hand) (ended-other p q r t n) ∙ k .hands q;
+    tenures = λ q. ended-tenure p q r t ∙ k .tenures q;
     many = ended-many p r t ∙ k .many;
   }
 
   ends : (ns : List ℕ) (t : State) → Kin s t → Handed p r s (finished p r ns t)
   unfolding finished
-  ends ns t k = let m = emptied t k in record { own = m .gone; others = m .rest; many = m .many }
+  ends ns t k = let m = emptied t k in record { own = m .gone; others = m .rest; tenures = m .tenures; many = m .many }
 
   no-more : (n b : ℕ) → ends-request n ≡ true → Handed p r s (answer (refused n b) (ended p r s))
-  no-more n b w = let m = emptied s (kin-table s s refl) in record { own = (w, m .gone); others = m .rest; many = m .many }
+  no-more n b w = let m = emptied s (kin-table s s refl) in record { own = (w, m .gone); others = m .rest; tenures = m .tenures; many = m .many }
 
   stays : (ps : List ℕ) → Handed p r s (answer (wait ps) s)
-  stays ps = record { own = e; others = λ q n. refl; many = refl }
+  stays ps = record { own = e; others = λ q n. refl; tenures = λ q. refl; many = refl }
 
   guard : (bs : List ℕ) (need : ℕ) (o : Outcome) → Handed p r s o → Handed p r s (guarded bs need p r s o)
   guard bs need o h = guard-cases (Handed p r s) bs need p r s o (λ b w. stays (b ∷ w)) (no-more 11 0 refl) h
@@ -126,7 +133,7 @@ module _ (p : ℕ) (r : Request) (s : State) (l : p < length (s .table)) (e : se
       guard _ 0 _ (either (Handed p r s) (ltb (d .key) (r .second)) _ _
       (goes _ _ (kin-tree _ s))
       (either (Handed p r s) (leb (2 * length (memberships (r .first) (r .second) (stored s))) n) _ _
-      (let m = emptied (on-desc (d .key) (hold-desc (held-by p) same same) s) (kin-tree _ s) in record { own = m .gone; others = m .rest; many = m .many })
+      (let m = emptied (on-desc (d .key) (hold-desc (held-by p) same same) s) (kin-tree _ s) in record { own = m .gone; others = m .rest; tenures = m .tenures; many = m .many })
       (no-more 12 _ refl)))
 
   enter-handed : (x : ℕ) → Handed p r s (enter-step p r x s)
@@ -157,13 +164,16 @@ module _ (p : ℕ) (r : Request) (s : State) (l : p < length (s .table)) (e : se
   at-handed : (x : ℕ) → Handed p r s (at-step p r x s)
   unfolding at-step
   at-handed x = latch-cases (Handed p r s) (latch-word p) x (answer more s) (stand-step p r x s) (suc (s .root .height)) (s .root .node)
-      (record { own = (r .stage, e); others = λ q n. refl; many = refl }) (stand-handed x)
+      (record { own = (r .stage, e); others = λ q n. refl; tenures = λ q. refl; many = refl }) (stand-handed x)
+
+  stage-handed : (n : ℕ) (g : Stage) → Handed p r s (next-step n p r s g)
+  unfolding next-step
+  stage-handed n start = first-handed
+  stage-handed n (enter x) = enter-handed x
+  stage-handed n (at x) = at-handed x
+  stage-handed n change = change-handed
+  stage-handed n (take x) = take-handed n x
 
   -- Every step.
-  pub step-handed : (n : ℕ) (g : Stage) → Handed p r s (next-step n p r s g)
-  unfolding next-step
-  step-handed n start = first-handed
-  step-handed n (enter x) = enter-handed x
-  step-handed n (at x) = at-handed x
-  step-handed n change = change-handed
-  step-handed n (take x) = take-handed n x
+  pub step-handed : (n : ℕ) → Handed p r s (settled s (r .stage) (next-step n p r s (r .stage)))
+  step-handed n = settled-step (Handed p r s) n p r s (stage-handed n (r .stage)) (λ b _. stays (b ∷ []))

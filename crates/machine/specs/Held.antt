@@ -34,10 +34,11 @@ use Rattle.machine.specs.Session.{Ready, reads, writes, to-insert, to-re
 use Rattle.machine.specs.Moves.{Moves, quiet, tidied, stepped, began, committed, aborted, formatted, halted, moves}
 use Rattle.machine.specs.Safety.{safe-of}
 use Rattle.machine.specs.Ledger.{Ledger, no-locks, keys, step-grants, granted, is-ok, ends-at, ended-by, next-ledger, ledger-after}
-use Rattle.machine.specs.Grows.{GrowsBy, alike-grows, ready-grows, tidy-grows, refused-grants}
+use Rattle.machine.specs.Grows.{GrowsBy, StepGrows, alike-grows, ready-grows, wait-grows, tidy-grows, refused-grants}
 use Rattle.machine.specs.Answers.{req-locate}
 use Rattle.machine.specs.Demand.{Lent, as-put, hand-put, call-of, Tells, told-done, Performs, machine, fresh-formatted}
 use Rattle.machine.specs.Demand3.{machine-laws}
+use Rattle.machine.specs.Waits.{settled-step}
 
 -- ---- the other calls
 
@@ -171,8 +172,9 @@ step-ledger p n s S = refusing-cases (λ o. GrowsBy s (o .next) (granted s (step
     go : (q : ℕ) → q ≤ width → has-begun q s ≡ true → (h : Option Request) → sessionOf q s .hand ≡ h
         → GrowsBy s (steps q n h s .next) (of-hand no-locks (λ r. step-grants q r (keys s) (r .stage) (steps q n h s .answer)) h)
     go q le b none e = alike-grows s s (λ k m t z. refl)
-    go zero le b (some r) e = tidy-grows n s S r (safe-of s S .tidying r e)
-    go (suc m) le b (some r) e = ready-grows n m s S r e (safe-of s S .ready m r (session-begun (suc m) s (λ z. omega (arith, z)) b) le e)
+    go zero le b (some r) e = settled-step (StepGrows 0 r s) n 0 r s (tidy-grows n s S r (safe-of s S .tidying r e)) (λ c _. wait-grows 0 r s c)
+    go (suc m) le b (some r) e = settled-step (StepGrows (suc m) r s) n (suc m) r s
+        (ready-grows n m s S r e (safe-of s S .ready m r (session-begun (suc m) s (λ z. omega (arith, z)) b) le e)) (λ c _. wait-grows (suc m) r s c)
 
 -- Every call, from every sound state, at every entry and key z, whatever number that is.
 pub ledger-step : (c : Call) (s : State) → Sound s → (k : Kind) (m : Mode) (q z : ℕ) → holders (call c s .next) k m q z ≡ next-ledger (holders s) s c (call c s) k m q z
@@ -229,7 +231,7 @@ descent-unseen (suc m) n s S h = refusing-cases (λ o. Unseen (view s) (view (o 
     go : suc m ≤ width → sessionOf (suc m) s .begun ≡ true → (v : Option Request) → sessionOf (suc m) s .hand ≡ v → of-hand false (λ r. on-descent (r .stage)) v ≡ true
         → Unseen (view s) (view (steps (suc m) n v s .next))
     go le b none e w = absurd (true≢false w refl)
-    go le b (some r) e w = at-stage r (safe-of s S .ready m r b le e) w
+    go le b (some r) e w = settled-step (λ o. Unseen (view s) (view (o .next))) n (suc m) r s (at-stage r (safe-of s S .ready m r b le e) w) (λ c _. same-unseen s s (same-refl s))
 
 pub descents-keep : (p n : ℕ) (s : State) → Sound s → unseen-step p s ≡ true
     → ((i : Item) → items (call (step p n) s .next) i ≡ items s i) × ((k : Kind) (m : Mode) (q z : ℕ) → holders (call (step p n) s .next) k m q z ≡ holders s k m q z)

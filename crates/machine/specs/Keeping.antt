@@ -32,6 +32,7 @@ use Rattle.machine.specs.GroupLocks.{updating-keyed, updating-formed, in
 use Rattle.machine.specs.Ending.{ended-sound, restage-sound, begin-keeps, put-keeps, format-keeps}
 use Rattle.machine.specs.Leaving.{commit-keeps, abort-keeps}
 use Rattle.machine.specs.Safety.{descent-most}
+use Rattle.machine.specs.Waits.{settled-step}
 
 -- ---- the descriptor where a descent ends
 
@@ -292,8 +293,8 @@ module _ (n : ℕ) (s : State) (S : Sound s) where
   steps-sound : (p : ℕ) (h : Option Request) → sessionOf p s .hand ≡ h → Sound (steps p n h s .next)
   unfolding steps
   steps-sound p none e = S
-  steps-sound zero (some r) e = keeper-sound r e (r .stage) refl
-  steps-sound (suc m) (some r) e = session-sound m r e (r .stage) refl
+  steps-sound zero (some r) e = settled-step (λ o. Sound (o .next)) n 0 r s (keeper-sound r e (r .stage) refl) (λ b _. S)
+  steps-sound (suc m) (some r) e = settled-step (λ o. Sound (o .next)) n (suc m) r s (session-sound m r e (r .stage) refl) (λ b _. S)
 
 -- ---- every call
 

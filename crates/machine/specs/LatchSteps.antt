@@ -22,7 +22,8 @@ use Rattle.machine.specs.Shape.{left-shaped, fills-is}
 use Rattle.machine.specs.Paths.{path-map, path-upto}
 use Rattle.machine.specs.Latched.{bit-yes, bit-no, latched-here, latched-under, under-latched, latched-map, latched-in, on-latch-plug, Others, others-trans}
 use Rattle.machine.specs.Regroup.{grouped-of, no-latches}
-use Rattle.machine.specs.Parts.{Free, free-words, relatched-others, lowest-others, Fits, Swap, halves-swap, swap-paths, swap-counts, swap-own, Lowered, lowered}
+use Rattle.machine.specs.InTheWay.{Free}
+use Rattle.machine.specs.Parts.{free-words, relatched-others, lowest-others, Fits, Swap, halves-swap, swap-paths, swap-counts, swap-own, Lowered, lowered}
 use Rattle.machine.specs.Latch.{hand-stands, Spared, fits-room, arrive-latches, focus-spared, desc-latches, Released, released-latches, released-unpin, own-once, focus-once, focus-released, unlatch-latches}
 
 -- ---- at the lowest node

@@ -128,6 +128,7 @@ module _ (p : ℕ) (s : State) (n : ℕ) (S : Sound s) (h : p < length (s .table
     hand-begun = λ i e. ap (λ x. x .hand) gone-mine;
     undos-begun = λ e. ap (λ x. x .undos) gone-mine;
     zero-unmarked = λ e. ap (λ x. x .begun) gone-mine;
+    apart = λ q i b. absurd (true≢false b (ap (λ x. x .begun) gone-mine));
     checked = λ r e. absurd (nothing r e);
     standing = λ r e. absurd (nothing r e);
     undoable = subst (λ x. Undoable p gone (x .undos) (cells gone)) (sym gone-mine) tt;

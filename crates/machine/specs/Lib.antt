@@ -26,6 +26,7 @@ pub mod Lowest
 pub mod Housekeeping
 pub mod Keys
 pub mod Totals
+pub mod Ranks
 pub mod Checks
 pub mod Looks
 pub mod Nearest
@@ -52,6 +53,7 @@ pub mod Locking
 pub mod EntryLocks
 pub mod GroupLocks
 -- Soundness kept: every call.
+pub mod Renumbering
 pub mod Ending
 pub mod Undoing
 pub mod Leaving
@@ -72,6 +74,7 @@ pub mod Safety
 pub mod Blocking
 pub mod Waits
 pub mod Conflicts
+pub mod Naming
 pub mod Tidying
 pub mod Forward
 pub mod Ledger
@@ -79,6 +82,9 @@ pub mod Grows
 pub mod Held
 pub mod Answers
 pub mod Needs
+-- The order of begins.
+pub mod Begins
+pub mod Line
 -- Demand 3.
 pub mod Demand
 pub mod Told

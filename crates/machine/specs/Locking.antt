@@ -17,13 +17,13 @@ use Rattle.machine.specs.Steps.{rule}
 use Rattle.machine.specs.View.{holders, group-in, seen, view, frame-holders}
 use Rattle.machine.specs.Sound.{gap-word, stored-in, pins-in, ListedTo, UpTo, total, records-used, Shaped, pins-by, Cells, cells, Undoable, Sound, Formed, Keyed, keyed-of}
 use Rattle.machine.specs.Effect.{Effect, Own}
-use Rattle.machine.specs.Table.{undo-put, undo-other, undo-many, hand-seat, session-same}
+use Rattle.machine.specs.Table.{tenure, undo-put, undo-other, undo-many, hand-seat, session-same}
 use Rattle.machine.specs.Housekeeping.{lvs}
 use Rattle.machine.specs.Keys.{Kept}
 use Rattle.machine.specs.Totals.{undo-pins, undo-undos}
 use Rattle.machine.specs.Checks.{checks-kept}
 use Rattle.machine.specs.Looks.{put-stored, put-pins-kept, put-gaps, put-gaps-by, put-listed, hand-begun}
-use Rattle.machine.specs.Effects.{Remains, stands-kept, undoable-kept, keyed-after}
+use Rattle.machine.specs.Effects.{Remains, stands-kept, undoable-kept, apart-kept, keyed-after}
 
 -- ---- what a lock step leaves
 
@@ -60,7 +60,7 @@ pub record Locks (p : ℕ) (s t : State) : Type 0 where
 pub record Seated (p : ℕ) (s t : State) : Type 0 where
   pub seats-same : length (t .table) ≡ length (s .table)
   pub others : (q : ℕ) → ¬ (p ≡ q) → sessionOf q t ≡ sessionOf q s
-  pub begun-same : sessionOf p t .begun ≡ sessionOf p s .begun
+  pub tenure-same : tenure (sessionOf p t) ≡ tenure (sessionOf p s)
   pub hand-same : sessionOf p t .hand ≡ sessionOf p s .hand
   pub pins-total : (k : ℕ) → total (pins-by k) (t .table) ≡ total (pins-by k) (s .table)
 
@@ -68,7 +68,7 @@ pub seated-same : (p : ℕ) (s t : State) → t .table ≡ s .table → Seated p
 seated-same p s t e = record {
   seats-same = ap length e;
   others = λ q n. session-same s t e q;
-  begun-same = ap (λ x. x .begun) (session-same s t e p);
+  tenure-same = ap tenure (session-same s t e p);
   hand-same = ap (λ x. x .hand) (session-same s t e p);
   pins-total = λ k. ap (total (pins-by k)) e;
 }
@@ -93,7 +93,7 @@ module _ (m : ℕ) (r : Request) (s t : State) (S : Sound s) (hand : sessionOf (
   p = suc m
 
   begun : sessionOf p t .begun ≡ true
-  begun = T .begun-same ∙ hand-begun S m r hand
+  begun = ap (λ x. x .0) (T .tenure-same) ∙ hand-begun S m r hand
 
   locks-effect : Effect p s t
   locks-effect = record {
@@ -120,6 +120,7 @@ module _ (m : ℕ) (r : Request) (s t : State) (S : Sound s) (hand : sessionOf (
     hand-begun = λ n h. absurd (true≢false begun h);
     undos-begun = λ h. absurd (true≢false begun h);
     zero-unmarked = λ z. absurd (omega (arith, z));
+    apart = apart-kept p s t (S .orders) (T .others) (T .tenure-same);
     checked = λ q h. checks-kept p (q .code) (q .entry) (q .first) (q .second) s t (W .many) (S .checked p q (sym (T .hand-same) ∙ h));
     standing = λ q h. let i = sym (T .hand-same) ∙ h in stands-kept p s t (locks-remains p s t W) q (q .stage) (S .checked p q i .0) (S .standing p q i);
     undoable = u;
@@ -164,7 +165,7 @@ module _ (p n : ℕ) (b : Undo) (s t : State) (W : Locks p s t) where
       record {
         seats-same = undo-many p b (with-free n t) ∙ R .seats-same;
         others = λ q x. undo-other p q b (with-free n t) x ∙ R .others q x;
-        begun-same = ap (λ x. x .begun) (undo-put p b (with-free n t) i) ∙ R .begun-same;
+        tenure-same = ap tenure (undo-put p b (with-free n t) i) ∙ R .tenure-same;
         hand-same = ap (λ x. x .hand) (undo-put p b (with-free n t) i) ∙ R .hand-same;
         pins-total = λ k. undo-pins k p b (with-free n t) ∙ R .pins-total k;
       }

@@ -22,6 +22,7 @@ use Rattle.machine.specs.Events.{Does, unfinished, asked}
 use Rattle.machine.specs.Ends.{begin-opened, commit-committed}
 use Rattle.machine.specs.Abort.{Chain, abort-aborted}
 use Rattle.machine.specs.Session.{Ready, req-of, session-step}
+use Rattle.machine.specs.Waits.{settled-step}
 
 -- Where the housekeeper's tidy stands: its choice, if any, is stored.
 pub data Tidying (s : State) : Request → Type 0 where
@@ -122,10 +123,12 @@ step-moves p n s S = refusing-cases (λ o. Moves s o (step p n)) (step-checks p 
   where
     go : (q : ℕ) → q ≤ width → has-begun q s ≡ true → (h : Option Request) → sessionOf q s .hand ≡ h → Moves s (steps q n h s) (step q n)
     go q le b none e = quiet (step q n) refl (same-unseen s s (same-refl s))
-    go zero le b (some r) e = tidied n (tidy-unseen n s (S .fit) r (S .tidying r e))
+    go zero le b (some r) e =
+        settled-step (λ o. Moves s o (step 0 n)) n 0 r s (tidied n (tidy-unseen n s (S .fit) r (S .tidying r e))) (λ c _. quiet (step 0 n) refl (same-unseen s s (same-refl s)))
     go (suc m) le b (some r) e =
         let w = session-begun (suc m) s (λ z. omega (arith, z)) b in
-        stepped m n r e (session-step n m s (S .fit) w le r (S .ready m r w le e))
+        settled-step (λ o. Moves s o (step (suc m) n)) n (suc m) r s (stepped m n r e (session-step n m s (S .fit) w le r (S .ready m r w le e)))
+        (λ c _. quiet (step (suc m) n) refl (same-unseen s s (same-refl s)))
 
 format-moves : (m words : ℕ) (s : State) → Moves s (call (format m words) s) (format m words)
 unfolding call

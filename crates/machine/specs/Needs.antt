@@ -3,7 +3,7 @@
 use mathlib.Core.Path.{_≡_, refl, sym, _∙_, subst, ap}
 use mathlib.Core.Bool.{Bool, true, false, cond, not, _&&_}
 use mathlib.Core.List.{List, [], _∷_}
-use mathlib.Core.Logic.{_↔_}
+use mathlib.Core.Logic.{_↔_, Iff·trans}
 use mathlib.Core.Option.{some}
 use Prim.Native.Nat.{zero, suc, _-_, _*_, _<_, ℕ}
 use native.Mathlib.Omega.{arith}
@@ -17,14 +17,14 @@ use Rattle.machine.specs.Holders.{latch-word, elem}
 use Rattle.machine.specs.Tree.{Node, pick}
 use Rattle.machine.specs.State.{Desc, Tree, Stage, start, enter, change, take, Request, State, Answer, more, wait, done, refused, Outcome, no-desc, same, or-none, sessionOf, stored, lowest-from, gap-below, descOf, at, ok}
 use Rattle.machine.specs.Descent.{Sons, node, sons-of, at-latch, lone, drop-lone}
-use Rattle.machine.specs.Steps.{ended, goes-on, finished, guarded, entry-blockers, group-blockers, read-step, write-step, entry-step, insert-step, remove-step, change-step, memberships, last-take, take-desc, take-step, passed-state, located-state, fills, root-blockers, root-need, root-splits, enter-step, level-blockers, level-step, son-at, pin-step, make-step, removable, tidied-state, tidy-step, lowest-step, stand-step, at-step, first-step, next-step, updating-state, inserted-state, removed-state, answer, is-empty}
+use Rattle.machine.specs.Steps.{ended, goes-on, finished, guarded, entry-blockers, group-blockers, read-step, write-step, entry-step, insert-step, remove-step, change-step, memberships, last-take, take-desc, take-step, passed-state, located-state, fills, root-blockers, root-need, root-splits, enter-step, level-blockers, level-step, son-at, pin-step, make-step, removable, tidied-state, tidy-step, lowest-step, stand-step, at-step, first-step, next-step, updating-state, inserted-state, removed-state, answer, is-empty, settled}
 use Rattle.machine.specs.Model.{memberships-are, model}
 use Rattle.machine.specs.Sound.{Sound}
 use Rattle.machine.specs.Looks.{kept-stored}
 use Rattle.machine.specs.Nearest.{takes-of}
 use Rattle.machine.specs.InTheWay.{LowestFrom, InTheWay}
 use Rattle.machine.specs.Conflicts.{nobody-in-the-way}
-use Rattle.machine.specs.Waits.{stand-blockers, step-blockers}
+use Rattle.machine.specs.Waits.{stand-blockers, step-blockers, settled-says}
 use Rattle.machine.specs.Answers.{TooShort, req-locate, ordinary, first-plain, enter-plain, at-plain, change-plain}
 
 -- ---- the records that the next step needs; nothing here is read of the guards of the steps
@@ -185,8 +185,8 @@ in-words f h = ((λ x. let z = h .0 x in (z .0, f .0 (z .1), z .2)), λ z. h .1 
 
 -- Every step of every party, from every sound state.
 pub step-11 : (n p : ℕ) (r : Request) (s : State) → Sound s → sessionOf p s .hand ≡ some r → (k : ℕ)
-    → (next-step n p r s (r .stage) .answer ≡ refused 11 k) ↔ ((k ≡ 0) × ((q : ℕ) → ¬ InTheWay p r s (r .stage) q) × (s .free < step-needs p r s (r .stage)))
-step-11 n p r s S e k = in-words (nobody-in-the-way S p r e) (step-lacks n p r s (r .stage) k)
+    → (settled s (r .stage) (next-step n p r s (r .stage)) .answer ≡ refused 11 k) ↔ ((k ≡ 0) × ((q : ℕ) → ¬ InTheWay p r s (r .stage) q) × (s .free < step-needs p r s (r .stage)))
+step-11 n p r s S e k = Iff·trans (settled-says s (r .stage) (next-step n p r s (r .stage)) (refused 11 k) refl) (in-words (nobody-in-the-way S p r e) (step-lacks n p r s (r .stage) k))
 
 -- ---- 12
 
@@ -269,5 +269,6 @@ module _ (n p : ℕ) (r : Request) (s : State) (S : Sound s) (e : sessionOf p s 
   step-12-at (take x) k q = let f = at-second x q in let h = take-12 x k q in ((λ i. let z = h .0 i in (f .0 (z .0), z .1, z .2)), λ z. h .1 (f .1 (z .0), z .1, z .2))
 
   -- Every step of every party, from every sound state.
-  pub step-12 : (k : ℕ) → (next-step n p r s (r .stage) .answer ≡ refused 12 k) ↔ (AtSecond r s (r .stage) × ((q : ℕ) → ¬ InTheWay p r s (r .stage) q) × TooShort r s n k)
-  step-12 k = in-words (nobody-in-the-way S p r e) (step-12-at (r .stage) k refl)
+  pub step-12 : (k : ℕ)
+      → (settled s (r .stage) (next-step n p r s (r .stage)) .answer ≡ refused 12 k) ↔ (AtSecond r s (r .stage) × ((q : ℕ) → ¬ InTheWay p r s (r .stage) q) × TooShort r s n k)
+  step-12 k = Iff·trans (settled-says s (r .stage) (next-step n p r s (r .stage)) (refused 12 k) refl) (in-words (nobody-in-the-way S p r e) (step-12-at (r .stage) k refl))

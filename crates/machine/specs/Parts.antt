@@ -2,7 +2,7 @@
 use mathlib.Core.Path.{_≡_, refl, sym, _∙_, subst, ap}
 use mathlib.Core.Bool.{Bool, true, false, cond, _||_, false≢true}
 use mathlib.Core.List.{List, [], _∷_, _++_, map}
-use mathlib.Core.Logic.{_⊎_, inl, inr}
+use mathlib.Core.Logic.{inl, inr}
 use Prim.Native.Nat.{zero, suc, _+_, _-_, _≤_, _<_, ℕ}
 use native.Mathlib.Omega.{arith}
 use lib.Dec.{leb, eqb}
@@ -14,7 +14,8 @@ use Rattle.machine.specs.State.{Tree, same}
 use Rattle.machine.specs.Descent.{Sons, node, sons-of, halves, down-to, on-last, last-of, joined, moved-right, moved-left, joins, mended, on-pair, pick-pair}
 use Rattle.machine.specs.Steps.{stepped, son-at, level-blockers, is-empty, descended}
 use Rattle.machine.specs.Sound.{Shaped, OnPath, Latched, latch-count}
-use Rattle.machine.specs.Blocking.{words-of, son-free, pair-free}
+use Rattle.machine.specs.InTheWay.{Free, AllFree}
+use Rattle.machine.specs.Blocking.{words-of, words-left, words-right, son-free, pair-free}
 use Rattle.machine.specs.Looks.{shaped-le}
 use Rattle.machine.specs.Fanout.{last-one, length-last, halves-seg, of-pair, mended-seg, PairHit, pair-hit}
 use Rattle.machine.specs.Paths.{path-swap, path-left, path-right, first-bound, last-bound}
@@ -22,14 +23,6 @@ use Rattle.machine.specs.Latched.{no-leaf, bit-yes, bit-no, latched-here
 use Rattle.machine.specs.Regroup.{Grouped, Without, grouped-of, grouped-all, Regrouped, regroup-paths, regroup-below, own-count, count-parts, no-latches, regroup-count, relatched-regroup, halves-regroup, joined-regroup, right-regroup, left-regroup}
 
 -- ---- latches in the way
-
--- The latch word is of no other party than p.
-abbrev pub Free : ℕ → ℕ → Type 0
-Free p w = (w ≡ 0) ⊎ (w ≡ latch-word p)
-
-abbrev pub AllFree : ℕ → List ℕ → Type 0
-AllFree p [] = Unit {0}
-AllFree p (w ∷ ws) = Free p w × AllFree p ws
 
 pub free-words : (p : ℕ) (ws : List ℕ) → latch-blockers p ws ≡ [] → AllFree p ws
 unfolding latch-blockers
@@ -277,12 +270,13 @@ module _ (p x h lo hi : ℕ) (es : Sons (suc h)) (s : Seg (Shaped (suc h) 3) lo 
 
 -- The housekeeper's pair takes part.
 part-pair : (x h lo hi : ℕ) (es : Sons (suc h)) → Seg (Shaped (suc h) 3) lo (suc hi) es → lo ≤ x → x ≤ hi → 2 ≤ length es → sons-of (son-at x h es) ≡ 3
-    → AllFree 0 (pick-pair x [] (λ a b. a .0 .latch ∷ b .0 .latch ∷ []) es) → Part 0 x h es (on-pair x (mended 1 x h) es)
+    → ((w : ℕ) → elem w (pick-pair x [] (words-of h) es) ≡ true → Free 0 w) → Part 0 x h es (on-pair x (mended 1 x h) es)
 part-pair x h lo hi es s lx xh n three f = go (pair-hit (Shaped (suc h) 3) (shaped-le (suc h) 3) x lo (suc hi) es n s lx (omega (arith, xh)))
   where
     go : PairHit (Shaped (suc h) 3) x lo (suc hi) es → Part 0 x h es (on-pair x (mended 1 x h) es)
     go H =
-        let F = subst (AllFree 0) (H .asked [] (λ a b. a .0 .latch ∷ b .0 .latch ∷ [])) f in
+        let free : (w : ℕ) → elem w (words-of h (H .p) (H .q)) ≡ true → Free 0 w = λ w i. f w (ap (elem w) (H .asked [] (words-of h)) ∙ i) in
+        let F : AllFree 0 (H .p .0 .latch ∷ H .q .0 .latch ∷ []) = (free (H .p .0 .latch) (words-left h (H .p) (H .q)), (free (H .q .0 .latch) (words-right h (H .p) (H .q)), tt)) in
         record {
           pre = H .pre;
           old = H .p ∷ H .q ∷ [];
@@ -312,14 +306,6 @@ hit-shaped x h lo hi es s lx xh = go (hit (Shaped (suc h) 3) x lo (suc hi) es s 
 no-lone : (p : ℕ) {A : Type 0} (es : List A) → (p ≡ 0 → 2 ≤ length es) → p ≡ 0 → ¬ (length es ≡ 1)
 no-lone p es n z i = omega (arith, n z, i)
 
-all-free : (p : ℕ) (ws : List ℕ) → ((w : ℕ) → elem w ws ≡ true → Free p w) → AllFree p ws
-all-free p [] f = tt
-all-free p (w ∷ ws) f = (f w (ap (λ b. b || elem w ws) (eqb-yes w w refl)), all-free p ws (λ v i. f v (later (eqb v w) (elem v ws) i)))
-  where
-    later : (a b : Bool) → b ≡ true → (a || b) ≡ true
-    later true b i = refl
-    later false b i = i
-
 pub part : (p x h lo hi : ℕ) (es : Sons (suc h)) → Seg (Shaped (suc h) 3) lo (suc hi) es → lo ≤ x → x ≤ hi → (p ≡ 0 → 2 ≤ length es) → level-blockers p x h es (son-at x h es) ≡ []
     → Part p x h es (stepped p x h (son-at x h es) es)
 unfolding stepped
@@ -330,7 +316,7 @@ part zero x h lo hi es s lx xh n bs = go (eqb (sons-of t) 3) refl
 
     go : (c : Bool) → eqb (sons-of t) 3 ≡ c → Part 0 x h es (cond c (on-pair x (mended 1 x h) es) (onp x (λ a u. (node 1 (a .sons), u) ∷ []) es))
     go true e = part-pair x h lo hi es s lx xh (n refl) (eqb-is (sons-of t) 3 e)
-        (all-free 0 (pick-pair x [] (words-of h) es) (pair-free (λ h. Shaped (suc h) 3) (λ h. shaped-le (suc h) 3) 0 x h lo (suc hi) es s (no-lone 0 es n) bs refl (eqb-is (sons-of t) 3 e)))
+        (pair-free (λ h. Shaped (suc h) 3) (λ h. shaped-le (suc h) 3) 0 x h lo (suc hi) es s (no-lone 0 es n) bs refl (eqb-is (sons-of t) 3 e))
     go false e = part-one 0 x h lo hi es s lx xh (λ a u. (node 1 (a .sons), u) ∷ []) (son-free (λ h. Shaped (suc h) 3) (λ h. shaped-le (suc h) 3) 0 x h lo (suc hi) es s (no-lone 0 es n) bs)
         (λ m u a q S l. relatched-swap 0 x h m u a l S (subst (λ c. 4 ≤ sons-of c) q four))
       where

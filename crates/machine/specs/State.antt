@@ -62,6 +62,8 @@ pub data Undo : Type 0 where
 
 pub record Session : Type 0 where
   pub begun : Bool
+  -- The number in the order of begins: of two begun sessions the lower one began first.
+  pub order : ℕ
   pub hand : Option Request
   -- newest first
   pub undos : List Undo
@@ -79,7 +81,7 @@ pub record State : Type 0 where
 
 pub data Answer : Type 0 where
   ok more : Answer
-  -- The parties whose locks are in the way.
+  -- The parties whose locks are in the way; what a call answers names one of them (Steps.settled).
   wait : List ℕ → Answer
   done : List ℕ → Answer
   -- The refusal's number, and the number beside it.
@@ -101,7 +103,7 @@ entryOf zero s = no-entry
 entryOf (suc i) s = getD (s .entries) i no-entry
 
 abbrev pub idle : Session
-idle = record { begun = false; hand = none; undos = [] }
+idle = record { begun = false; order = 0; hand = none; undos = [] }
 
 unfoldable pub sessionOf : ℕ → State → Session
 sessionOf p s = getD (s .table) p idle
@@ -193,13 +195,13 @@ without-member e (x ∷ l) = let rest = without-member e l in cond (eqb e x) l (
 -- ---- sessions
 
 unfoldable pub set-hand : ℕ → Option Request → State → State
-set-hand p r s = on-session p (λ t. record { begun = t .begun; hand = r; undos = t .undos }) s
+set-hand p r s = on-session p (λ t. record { begun = t .begun; order = t .order; hand = r; undos = t .undos }) s
 
 abbrev pub in-stage : Stage → Request → Request
 in-stage g r = record { code = r .code; entry = r .entry; first = r .first; second = r .second; stage = g }
 
 unfoldable pub add-undo : ℕ → Undo → State → State
-add-undo p b s = on-session p (λ t. record { begun = t .begun; hand = t .hand; undos = b ∷ t .undos }) s
+add-undo p b s = on-session p (λ t. record { begun = t .begun; order = t .order; hand = t .hand; undos = b ∷ t .undos }) s
 
 -- ---- a fresh store: all values 0, one root and key 0
 

@@ -9,7 +9,7 @@ use Rattle.serial.specs.Locks.{Mode, weak, strong, Table, lock-rule}
 use Rattle.serial.specs.Locks as L
 use Rattle.machine.specs.Holders.{held-by, blockers, latch-word, elem, latch-blockers}
 use Rattle.machine.specs.Tree.{onp, pick}
-use Rattle.machine.specs.State.{Entry, Desc, Tree, Root, Stage, start, enter, change, take, Request, added, taken, State, Answer, more, wait, done, refused, Outcome, entryOf, stored, lowest-from, gap-below, or-none, no-desc, descOf, with-root, with-free, on-entry, on-tree, on-desc, hold-desc, pin-desc, group-desc, same, with-member, without-member, set-hand, in-stage, add-undo, at}
+use Rattle.machine.specs.State.{Entry, Desc, Tree, Root, Stage, start, enter, change, take, Request, added, taken, State, Answer, more, wait, done, refused, Outcome, entryOf, sessionOf, stored, lowest-from, gap-below, or-none, no-desc, descOf, with-root, with-free, on-entry, on-tree, on-desc, hold-desc, pin-desc, group-desc, same, with-member, without-member, set-hand, in-stage, add-undo, at}
 use Rattle.machine.specs.State as State
 use Rattle.machine.specs.Descent.{Sons, halves, pick-pair, on-pair, joins, mended, put-in, taken-out, at-latch, on-latch, unlatched, sons-of, lone, drop-lone, entered, split-root, node}
 
@@ -309,3 +309,30 @@ next-step n p r s (enter x) = enter-step p r x s
 next-step n p r s (at x) = at-step p r x s
 next-step n p r s change = change-step p r s
 next-step n p r s (take x) = take-step n p r x s
+
+-- ---- a wait names one party
+
+-- Of sessions the one that began first: b, or one of the rest with a lower number.
+unfoldable pub oldest : State → ℕ → List ℕ → ℕ
+oldest s b [] = b
+oldest s b (c ∷ cs) = oldest s (cond (ltb (sessionOf c s .order) (sessionOf b s .order)) c b) cs
+
+-- Whom a wait names: of long locks the session that began first; of latches the first, since they are listed highest node first, then from left to right.
+abbrev pub named : State → Stage → ℕ → List ℕ → ℕ
+named s start b bs = oldest s b bs
+named s (enter x) b bs = b
+named s (at x) b bs = b
+named s change b bs = oldest s b bs
+named s (take x) b bs = oldest s b bs
+
+abbrev pub settle : State → Stage → Answer → Outcome → Outcome
+settle s g State.ok o = o
+settle s g more o = o
+settle s g (wait []) o = o
+settle s g (wait (b ∷ bs)) o = record { answer = wait (named s g b bs ∷ []); next = o .next; written = o .written }
+settle s g (done ns) o = o
+settle s g (refused n k) o = o
+
+-- A step at stage g, its wait named.
+unfoldable pub settled : State → Stage → Outcome → Outcome
+settled s g o = settle s g (o .answer) o

@@ -1,16 +1,17 @@
 -- The session table: what is read of it after one session's record is changed, and after the parts of calls that leave it as it was.
 use mathlib.Core.Path.{_≡_, refl, sym, _∙_, ap}
-use mathlib.Core.Bool.{Bool, true, false}
+use mathlib.Core.Bool.{Bool, true, false, cond}
 use mathlib.Core.List.{List, [], _∷_}
 use mathlib.Core.Option.{Option, none, some}
 use Prim.Native.Nat.{zero, suc, _-_, _<_, ℕ}
 use native.Mathlib.Omega.{arith}
-use lib.ListN.{length, getD, set, length-set}
+use lib.ListN.{length, getD, set, length-set, length-map, List·getD-map}
 use lib.Seq.{getD-set-same, getD-set-other}
 use Rattle.serial.specs.Serial.{true≢false}
+use Rattle.machine.specs.Logic.{either}
 use Rattle.machine.specs.State.{Stage, start, enter, change, take, Request, Undo, value, added, taken, Session, State, idle, sessionOf, with-root, on-entry, on-session, on-tree, on-desc, pin-desc, set-hand, add-undo, at}
 use Rattle.machine.specs.Steps.{pinned, unpin, unlatch, ended}
-use Rattle.machine.specs.Calls.{is-some, leave, undo, undo-all, end-hand}
+use Rattle.machine.specs.Calls.{is-some, leave, undo, undo-all, end-hand, rank, last-rank, ranked, renumbered, begins}
 
 -- ---- one record changed
 
@@ -39,12 +40,16 @@ session-kept π p f s e q = go (s .table) p q
     go (x ∷ l) (suc i) zero = refl
     go (x ∷ l) (suc i) (suc j) = go l i j
 
+-- Whether it is begun, and its place in the order of begins: what no step changes.
+abbrev pub tenure : Session → Bool × ℕ
+tenure t = (t .begun, t .order)
+
 -- A session with another request in hand; with one more undo record.
 abbrev pub with-hand : Option Request → Session → Session
-with-hand r t = record { begun = t .begun; hand = r; undos = t .undos }
+with-hand r t = record { begun = t .begun; order = t .order; hand = r; undos = t .undos }
 
 abbrev pub with-undo : Undo → Session → Session
-with-undo b t = record { begun = t .begun; hand = t .hand; undos = b ∷ t .undos }
+with-undo b t = record { begun = t .begun; order = t .order; hand = t .hand; undos = b ∷ t .undos }
 
 pub hand-put : (p : ℕ) (r : Option Request) (s : State) → p < length (s .table) → sessionOf p (set-hand p r s) ≡ with-hand r (sessionOf p s)
 unfolding set-hand
@@ -57,6 +62,10 @@ hand-other p q r s n = session-other p q (with-hand r) s n
 pub hand-many : (p : ℕ) (r : Option Request) (s : State) → length (set-hand p r s .table) ≡ length (s .table)
 unfolding set-hand
 hand-many p r s = session-many p (with-hand r) s
+
+pub hand-tenure : (p q : ℕ) (r : Option Request) (s : State) → tenure (sessionOf q (set-hand p r s)) ≡ tenure (sessionOf q s)
+unfolding set-hand
+hand-tenure p q r s = session-kept tenure p (with-hand r) s (λ x. refl) q
 
 pub undo-put : (p : ℕ) (b : Undo) (s : State) → p < length (s .table) → sessionOf p (add-undo p b s) ≡ with-undo b (sessionOf p s)
 unfolding add-undo
@@ -138,6 +147,10 @@ pub ended-other : (p q : ℕ) (r : Request) (s : State) → ¬ (p ≡ q) → ses
 unfolding ended
 ended-other p q r s n = hand-other p q none (released p r s) n ∙ session-same s (released p r s) (released-table p r s) q
 
+pub ended-tenure : (p q : ℕ) (r : Request) (s : State) → tenure (sessionOf q (ended p r s)) ≡ tenure (sessionOf q s)
+unfolding ended
+ended-tenure p q r s = hand-tenure p q none (released p r s) ∙ ap tenure (session-same s (released p r s) (released-table p r s) q)
+
 pub ended-many : (p : ℕ) (r : Request) (s : State) → length (ended p r s .table) ≡ length (s .table)
 unfolding ended
 ended-many p r s = hand-many p none (released p r s) ∙ ap length (released-table p r s)
@@ -159,3 +172,55 @@ leave-own p s h = session-put p (λ _. idle) _ h
 pub leave-other : (p q : ℕ) (s : State) → ¬ (p ≡ q) → sessionOf q (leave p s) ≡ sessionOf q s
 unfolding leave on-tree
 leave-other p q s n = session-other p q (λ _. idle) _ n ∙ session-same s _ refl q
+
+-- ---- a session that begins
+
+-- A session with another number; one that is begun, with its number.
+abbrev pub with-order : ℕ → Session → Session
+with-order n t = record { begun = t .begun; order = n; hand = t .hand; undos = t .undos }
+
+abbrev pub as-begun : ℕ → Session → Session
+as-begun n t = record { begun = true; order = n; hand = t .hand; undos = t .undos }
+
+pub ranked-kept : {B : Type 0} (π : Session → B) → ((n : ℕ) (x : Session) → π (with-order n x) ≡ π x) → (ts : List Session) (x : Session) → π (ranked ts x) ≡ π x
+ranked-kept π e ts x = either (λ y. π y ≡ π x) (x .begun) (with-order (rank ts x) x) x (e (rank ts x) x) refl
+
+pub renumbered-session : (q : ℕ) (s : State) → sessionOf q (renumbered s) ≡ ranked (s .table) (sessionOf q s)
+unfolding renumbered sessionOf
+renumbered-session q s = List·getD-map (ranked (s .table)) (s .table) q idle
+
+-- Only numbers change, and only those of begun sessions.
+pub renumbered-kept : {B : Type 0} (π : Session → B) → ((n : ℕ) (x : Session) → π (with-order n x) ≡ π x) → (q : ℕ) (s : State) → π (sessionOf q (renumbered s)) ≡ π (sessionOf q s)
+renumbered-kept π e q s = ap π (renumbered-session q s) ∙ ranked-kept π e (s .table) (sessionOf q s)
+
+pub renumbered-unbegun : (q : ℕ) (s : State) → sessionOf q s .begun ≡ false → sessionOf q (renumbered s) ≡ sessionOf q s
+renumbered-unbegun q s e =
+    let x = sessionOf q s in
+    renumbered-session q s ∙ ap (λ b. cond b (with-order (rank (s .table) x) x) x) e
+
+pub renumbered-order : (q : ℕ) (s : State) → sessionOf q s .begun ≡ true → sessionOf q (renumbered s) .order ≡ rank (s .table) (sessionOf q s)
+renumbered-order q s e =
+    let x = sessionOf q s in
+    ap (λ y. y .order) (renumbered-session q s ∙ ap (λ b. cond b (with-order (rank (s .table) x) x) x) e)
+
+pub renumbered-many : (s : State) → length (renumbered s .table) ≡ length (s .table)
+unfolding renumbered
+renumbered-many s = length-map (s .table) (ranked (s .table))
+
+pub begins-own : (p : ℕ) (s : State) → p < length (s .table) → sessionOf p (begins p s) ≡ as-begun (last-rank (s .table)) (sessionOf p (renumbered s))
+unfolding begins
+begins-own p s h = session-put p (as-begun (last-rank (s .table))) (renumbered s) (let n = renumbered-many s in omega arith)
+
+pub begins-other : (p q : ℕ) (s : State) → ¬ (p ≡ q) → sessionOf q (begins p s) ≡ sessionOf q (renumbered s)
+unfolding begins
+begins-other p q s n = session-other p q (as-begun (last-rank (s .table))) (renumbered s) n
+
+-- What neither the mark nor the number is.
+pub begins-kept : {B : Type 0} (π : Session → B) → ((n : ℕ) (x : Session) → π (with-order n x) ≡ π x) → ((n : ℕ) (x : Session) → π (as-begun n x) ≡ π x)
+    → (p q : ℕ) (s : State) → π (sessionOf q (begins p s)) ≡ π (sessionOf q s)
+unfolding begins
+begins-kept π e f p q s = session-kept π p (as-begun (last-rank (s .table))) (renumbered s) (f (last-rank (s .table))) q ∙ renumbered-kept π e q s
+
+pub begins-many : (p : ℕ) (s : State) → length (begins p s .table) ≡ length (s .table)
+unfolding begins
+begins-many p s = session-many p (as-begun (last-rank (s .table))) (renumbered s) ∙ renumbered-many s

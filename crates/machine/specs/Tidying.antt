@@ -15,7 +15,7 @@ use Rattle.machine.specs.Holders.{filter, latch-word}
 use Rattle.machine.specs.Tree.{onp, pick, flat, leaves, Below, onp-hit}
 use Rattle.machine.specs.Descent.{Sons, bound-of, on-last, node, sons-of, taken-out, on-latch, unlatched}
 use Rattle.machine.specs.State.{Desc, Tree, Request, State, Answer, ok, more, wait, refused, enter, change, take, done, Outcome, Stage, start, no-desc, same, or-none, sessionOf, stored, lowest-from, gap-below, descOf, set-hand, on-session, on-tree, top, at}
-use Rattle.machine.specs.Steps.{guarded, goes-on, root-blockers, root-need, enter-step, level-blockers, level-need, level-step, son-at, unlatch, ended, unpin, pinned, finished, removable, on-lowest, tidied-state, tidy-step, lowest-step, stand-step, at-step, next-step, first-step, answer}
+use Rattle.machine.specs.Steps.{guarded, goes-on, root-blockers, root-need, enter-step, level-blockers, level-need, level-step, son-at, unlatch, ended, unpin, pinned, finished, removable, on-lowest, tidied-state, tidy-step, lowest-step, stand-step, at-step, next-step, first-step, answer, settled}
 use Rattle.machine.specs.Calls.{call, put, put-checks, accepted, first-stage, tidy-from}
 use Rattle.machine.specs.Sound.{Sound, Stands, Room, stored-in}
 use Rattle.machine.specs.Context.{Ctx, hole, down, plug, Clear, Focus}
@@ -32,6 +32,7 @@ use Rattle.machine.specs.Looks.{sound-ordered, ordered-rises, stored-mos
 use Rattle.machine.specs.Nearest.{Nearest, lowest-stored, nearest, lowest-here}
 use Rattle.machine.specs.Descending.{stood, keeper-stored, keeper-pins}
 use Rattle.machine.specs.Conflicts.{focus-at, stood-at}
+use Rattle.machine.specs.Waits.{settled-says, settled-next}
 
 -- ---- what document 01 says
 
@@ -416,13 +417,20 @@ module _ (n : ℕ) (r : Request) (s : State) (S : Sound s) (e : sessionOf 0 s .h
   done-only change i ns h = absurd (omega (arith, keeper-6, subst (Stands 0 s r) i (S .standing 0 r e) .code-3-4 .1))
   done-only (take x) i ns h = absurd (omega (arith, keeper-6, subst (Stands 0 s r) i (S .standing 0 r e) .code-5))
 
-  pub tidy : Tidy r s (λ ns. next-step n 0 r s (r .stage) .answer ≡ done ns) (next-step n 0 r s (r .stage) .next)
+  abbrev out : Outcome
+  out = next-step n 0 r s (r .stage)
+
+  done-tidy : Tidy r s (λ ns. out .answer ≡ done ns) (out .next)
   unfolding next-step
-  tidy = record {
+  done-tidy = record {
     none-chosen = λ i. (ap (λ g. next-step n 0 r s g .answer) i ∙ first-done, subst (λ g. Rests s (next-step n 0 r s g .next)) (sym i) (first-rests i));
     last-step = λ x i u A. subst (λ g. Tidies x u s (λ ns. next-step n 0 r s g .answer ≡ done ns) (next-step n 0 r s g .next)) (sym i) (tidies n r x s S e i u A);
     no-other = λ ns h. done-only (r .stage) refl ns h;
   }
+
+  pub tidy : Tidy r s (λ ns. settled s (r .stage) out .answer ≡ done ns) (settled s (r .stage) out .next)
+  tidy = tidy-said (λ ns. let z = settled-says s (r .stage) out (done ns) refl in (z .1, z .0))
+      (subst (Tidy r s (λ ns. out .answer ≡ done ns)) (sym (settled-next s (r .stage) out)) done-tidy)
 
 -- ---- the put of a tidy
 

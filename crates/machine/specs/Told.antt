@@ -1,6 +1,5 @@
 -- The requests in hand after a call are those that calls and answers tell.
 use mathlib.Core.Path.{_≡_, refl, sym, _∙_, subst, ap}
-use mathlib.Core.Bool.{true}
 use mathlib.Core.List.{List, []}
 use mathlib.Core.Option.{Option, none, some}
 use Prim.Native.Nat.{ℕ}
@@ -12,10 +11,10 @@ use Rattle.serial.specs.Serial as Serial
 use Rattle.serial.specs.Calls.{Told}
 use Rattle.serial.specs.Calls as C
 use Rattle.machine.specs.State.{Request, State, Answer, more, wait, done, refused, Outcome, sessionOf, set-hand, in-stage, fresh, ok}
-use Rattle.machine.specs.Steps.{next-step, answer}
+use Rattle.machine.specs.Steps.{next-step, answer, settled}
 use Rattle.machine.specs.Calls.{Call, format, begin, commit, abort, call, put-checks, step-checks, begin-checks, commit-checks, abort-checks, format-checks, records-for, accepted, begins, commits, aborts, undo-all, end-hand, steps, first-stage, put, step}
 use Rattle.machine.specs.Sound.{Sound}
-use Rattle.machine.specs.Table.{hand-other, hand-seat, session-kept, session-same, undo-all-table, end-other, end-many, leave-own, leave-other, hand-put}
+use Rattle.machine.specs.Table.{hand-other, hand-seat, begins-kept, session-same, undo-all-table, end-other, end-many, leave-own, leave-other, hand-put}
 use Rattle.machine.specs.Checks.{refusing-numbers, party-number, session-number, party-seat, session-unbegun}
 use Rattle.machine.specs.Looks.{unbegun-hand}
 use Rattle.machine.specs.Fresh.{fresh-session}
@@ -41,10 +40,9 @@ module _ (s : State) (S : Sound s) (t : Told) (l : List ℕ) (h : (q : ℕ) → 
       λ k q. ap (λ x. D.hand-put (x .hand)) (fresh-session m (records-for m w) q)
 
   begin-hands : (p : ℕ) → HandsTold (begin p) l t (call (begin p) s)
-  unfolding call begins
+  unfolding call
   begin-hands p = refusing-numbers (HandsTold (begin p) l t) (begin-checks p s) s (answer ok (begins p s)) (h, (h, tt)) λ k.
-      let was : (q : ℕ) → sessionOf q (begins p s) .hand ≡ sessionOf q s .hand
-      = session-kept (λ x. x .hand) p (λ x. record { begun = true; hand = x .hand; undos = x .undos }) s (λ x. refl) in
+      let was : (q : ℕ) → sessionOf q (begins p s) .hand ≡ sessionOf q s .hand = λ q. begins-kept (λ x. x .hand) (λ n x. refl) (λ n x. refl) p q s in
       one-hand p (begins p s) none (was p ∙ unbegun-hand S p (session-number p (k .0) .0) (session-unbegun p s (k .1 .0))) (λ q n. was q)
 
   put-hands : (p c e f g : ℕ) → HandsTold (put p c e f g) l t (call (put p c e f g) s)
@@ -93,7 +91,7 @@ module _ (s : State) (S : Sound s) (t : Told) (l : List ℕ) (h : (q : ℕ) → 
 
       go : (v : Option Request) → sessionOf p s .hand ≡ v → HandsTold (step p n) l t (steps p n v s)
       go none e = h
-      go (some r) e = let o = next-step n p r s (r .stage) in let d = step-handed p r s (hand-seat p r s e) e n (r .stage) in after r o (o .answer) e (d .own) (d .others)
+      go (some r) e = let o = settled s (r .stage) (next-step n p r s (r .stage)) in let d = step-handed p r s (hand-seat p r s e) e n in after r o (o .answer) e (d .own) (d .others)
 
   pub call-hands : (c : Call) → HandsTold c l t (call c s)
   call-hands (format m w) = format-hands m w

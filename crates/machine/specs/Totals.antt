@@ -1,6 +1,6 @@
 -- Totals: over a list, and over the session table (undo records, pins), after a change at one place.
 use mathlib.Core.Path.{_≡_, refl}
-use mathlib.Core.List.{List, [], _∷_, _++_}
+use mathlib.Core.List.{List, [], _∷_, _++_, map}
 use mathlib.Core.Option.{Option}
 use Prim.Native.Nat.{zero, suc, _+_, _≤_, _<_, ℕ}
 use native.Mathlib.Omega.{arith}
@@ -26,6 +26,10 @@ pub total-kept : {A : Type 0} (F : A → ℕ) (f : A → A) → ((x : A) → F (
 total-kept F f e [] p z = refl
 total-kept F f e (y ∷ l) zero z = omega (arith, e y)
 total-kept F f e (y ∷ l) (suc p) z = omega (arith, total-kept F f e l p z)
+
+pub total-map : {A : Type 0} (F : A → ℕ) (f : A → A) → ((x : A) → F (f x) ≡ F x) → (l : List A) → total F (map f l) ≡ total F l
+total-map F f e [] = refl
+total-map F f e (x ∷ l) = omega (arith, e x, total-map F f e l)
 
 pub total-least : {A : Type 0} (F : A → ℕ) (l : List A) (p : ℕ) (z : A) → p < length l → F (getD l p z) ≤ total F l
 total-least F [] p z h = absurd (omega (arith, h))

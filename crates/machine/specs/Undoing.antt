@@ -16,7 +16,7 @@ use Rattle.machine.specs.Calls as C
 use Rattle.machine.specs.View.{holders, group-in, seen, frame-holders}
 use Rattle.machine.specs.Sound.{gap-word, stored-in, pins-in, total, nodes, members-many, UpTo, ListedTo, Shaped, pins-by, Cells, cells, set-cell, Holding, Undoable, Sound, Formed, Latches, formed-of, latches-of, keyed-of, sound-from}
 use Rattle.machine.specs.Effect.{Effect, Own}
-use Rattle.machine.specs.Table.{begun-seat, session-put, session-other, session-same}
+use Rattle.machine.specs.Table.{tenure, begun-seat, session-put, session-other, session-same}
 use Rattle.machine.specs.Housekeeping.{lvs, seen-group}
 use Rattle.machine.specs.Keys.{Kept, elem-without-other, elem-without-same, was-group, put-group-other, put-words-kept, elem-with-same, elem-with-other}
 use Rattle.machine.specs.Totals.{total-set}
@@ -24,7 +24,7 @@ use Rattle.machine.specs.Checks.{checks-kept}
 use Rattle.machine.specs.Looks.{kept-of, kept-listed, put-listed, put-stored, put-pins-kept, put-gaps, with-many, without-many, with-upto, without-upto, upto-up, put-cells, set-entry, excludes-alone}
 use Rattle.machine.specs.Alike.{on-desc-shaped, on-desc-used}
 use Rattle.machine.specs.Latch.{desc-latches, kept-latches}
-use Rattle.machine.specs.Effects.{Remains, stands-kept, undoable-kept, keyed-after}
+use Rattle.machine.specs.Effects.{Remains, stands-kept, undoable-kept, apart-kept, keyed-after}
 use Rattle.machine.specs.Abort.{Undone, value-undone, added-undone, taken-undone}
 
 -- ---- what undoing a record does, the session's chain set aside
@@ -153,7 +153,7 @@ undo-did p (taken e k) us s S w = taken-did p k e us s S w
 
 -- A session with other undo records.
 abbrev pub with-undos : List Undo → Session → Session
-with-undos us x = record { begun = x .begun; hand = x .hand; undos = us }
+with-undos us x = record { begun = x .begun; order = x .order; hand = x .hand; undos = us }
 
 module _ (p : ℕ) (b : Undo) (us : List Undo) (s : State) (S : Sound s) (chain : sessionOf p s .undos ≡ b ∷ us) (u : State) (U : Undid p us s u) where
   abbrev x : Session
@@ -234,6 +234,7 @@ module _ (p : ℕ) (b : Undo) (us : List Undo) (s : State) (S : Sound s) (chain 
     hand-begun = λ n e. still e;
     undos-begun = λ e. still e;
     zero-unmarked = λ e. absurd (true≢false begun (subst (λ q. sessionOf q s .begun ≡ false) (sym e) (S .zero-unmarked)));
+    apart = apart-kept p s undid (S .orders) theirs (ap tenure mine);
     checked = λ r e. checks-kept p (r .code) (r .entry) (r .first) (r .second) s undid (U .many) (S .checked p r (sym (hands p) ∙ e));
     standing = λ r e. let i = sym (hands p) ∙ e in stands-kept p s undid undid-remains r (r .stage) (S .checked p r i .0) (S .standing p r i);
     undoable = subst (λ y. Undoable p undid (y .undos) (cells undid)) (sym mine) (undoable-kept p s undid undid-remains us (U .rest) (cells undid) (λ k f i. U .cells-are k f) (U .undoable));

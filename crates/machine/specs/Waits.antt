@@ -1,18 +1,20 @@
 -- Demand 2, waiting, by the guards of the steps: a step waits exactly if they find somebody, and then changes nothing. Whom they find is said in Conflicts.
-use mathlib.Core.Path.{_≡_, refl, sym, subst}
-use mathlib.Core.Bool.{Bool, true, false, cond}
+-- A wait as it is settled names one of them, which one is said in Naming.
+use mathlib.Core.Path.{_≡_, refl, sym, _∙_, subst, ap}
+use mathlib.Core.Bool.{Bool, true, false, cond, _||_}
 use mathlib.Core.List.{List, [], _∷_}
+use mathlib.Core.Logic.{_↔_}
 use Prim.Native.Nat.{zero, suc, _*_, ℕ}
 use lib.Dec.{leb, ltb, eqb}
 use lib.ListN.{length}
 use Rattle.serial.specs.Serial.{true≢false}
 use Rattle.serial.specs.Locks.{weak, strong}
-use Rattle.machine.specs.Logic.{eqb-is, either}
+use Rattle.machine.specs.Logic.{eqb-yes, eqb-is, either}
 use Rattle.machine.specs.Holders.{latch-word, elem}
 use Rattle.machine.specs.Tree.{pick}
-use Rattle.machine.specs.State.{Desc, Tree, Stage, start, enter, change, take, Request, State, Answer, more, wait, done, refused, no-desc, same, or-none, stored, lowest-from, gap-below, descOf, at, ok, Outcome}
+use Rattle.machine.specs.State.{Desc, Tree, Stage, start, enter, change, take, Request, State, Answer, more, wait, done, refused, no-desc, same, or-none, sessionOf, stored, lowest-from, gap-below, descOf, at, ok, Outcome}
 use Rattle.machine.specs.Descent.{Sons, at-latch}
-use Rattle.machine.specs.Steps.{ended, goes-on, finished, guarded, entry-blockers, group-blockers, read-step, write-step, entry-step, insert-step, remove-step, change-step, memberships, last-take, take-desc, take-step, root-blockers, root-need, enter-step, level-blockers, level-step, son-at, pin-step, make-step, removable, tidied-state, tidy-step, lowest-step, stand-step, at-step, first-step, next-step, updating-state, removed-state, answer}
+use Rattle.machine.specs.Steps.{ended, goes-on, finished, guarded, entry-blockers, group-blockers, read-step, write-step, entry-step, insert-step, remove-step, change-step, memberships, last-take, take-desc, take-step, root-blockers, root-need, enter-step, level-blockers, level-step, son-at, pin-step, make-step, removable, tidied-state, tidy-step, lowest-step, stand-step, at-step, first-step, next-step, updating-state, removed-state, answer, oldest, named, settle, settled}
 
 -- ---- the parties in the way of the next step
 
@@ -133,3 +135,126 @@ step-waits n p r s (enter x) = enter-waits p r x s
 step-waits n p r s (at x) = at-waits p r x s
 step-waits n p r s change = change-waits p r s
 step-waits n p r s (take x) = take-waits n p r x s
+
+-- ---- a wait names one of them
+
+pub elem-first : (b : ℕ) (bs : List ℕ) → elem b (b ∷ bs) ≡ true
+elem-first b bs = rw (eqb-yes b b refl) refl
+
+pub elem-later : (q b : ℕ) (bs : List ℕ) → elem q bs ≡ true → elem q (b ∷ bs) ≡ true
+elem-later q b bs e = go (eqb q b)
+  where
+    go : (d : Bool) → (d || elem q bs) ≡ true
+    go true = refl
+    go false = e
+
+elem-past : (q b c : ℕ) (cs : List ℕ) → elem q (b ∷ cs) ≡ true → elem q (b ∷ c ∷ cs) ≡ true
+elem-past q b c cs e = go (eqb q b) e
+  where
+    go : (d : Bool) → (d || elem q cs) ≡ true → (d || elem q (c ∷ cs)) ≡ true
+    go true i = refl
+    go false i = elem-later q c cs i
+
+oldest-member : (s : State) (b : ℕ) (bs : List ℕ) → elem (oldest s b bs) (b ∷ bs) ≡ true
+unfolding oldest
+oldest-member s b [] = elem-first b []
+oldest-member s b (c ∷ cs) = either (λ z. elem (oldest s z cs) (b ∷ c ∷ cs) ≡ true) (ltb (sessionOf c s .order) (sessionOf b s .order)) c b
+    (elem-later (oldest s c cs) b (c ∷ cs) (oldest-member s c cs)) (elem-past (oldest s b cs) b c cs (oldest-member s b cs))
+
+pub named-member : (s : State) (g : Stage) (b : ℕ) (bs : List ℕ) → elem (named s g b bs) (b ∷ bs) ≡ true
+named-member s start b bs = oldest-member s b bs
+named-member s (enter x) b bs = elem-first b bs
+named-member s (at x) b bs = elem-first b bs
+named-member s change b bs = oldest-member s b bs
+named-member s (take x) b bs = oldest-member s b bs
+
+-- The one that is named, alone.
+abbrev pub only-named : State → Stage → List ℕ → List ℕ
+only-named s g [] = []
+only-named s g (b ∷ bs) = named s g b bs ∷ []
+
+-- The party that a wait of p's next step names; 0 where nobody is in the way.
+abbrev pub named-of : State → Stage → List ℕ → ℕ
+named-of s g [] = 0
+named-of s g (b ∷ bs) = named s g b bs
+
+unfoldable pub whom : ℕ → Request → State → ℕ
+whom p r s = named-of s (r .stage) (step-blockers p r s (r .stage))
+
+-- ---- a step as it is settled
+
+settle-calm : (s : State) (g : Stage) (o : Outcome) (a : Answer) → waiting a ≡ false → settle s g a o ≡ o
+settle-calm s g o ok h = refl
+settle-calm s g o more h = refl
+settle-calm s g o (wait bs) h = absurd (true≢false {b = true} refl h)
+settle-calm s g o (done ns) h = refl
+settle-calm s g o (refused n k) h = refl
+
+-- What does not wait stays as it is.
+pub settled-calm : (s : State) (g : Stage) (o : Outcome) → waiting (o .answer) ≡ false → settled s g o ≡ o
+unfolding settled
+settled-calm s g o h = settle-calm s g o (o .answer) h
+
+-- State and list are never touched.
+settled-keeps : {A : Type 0} (f : Outcome → A) → ((a : Answer) (o : Outcome) → f (record { answer = a; next = o .next; written = o .written }) ≡ f o)
+    → (s : State) (g : Stage) (o : Outcome) → f (settled s g o) ≡ f o
+unfolding settled
+settled-keeps f h s g o = go (o .answer)
+  where
+    go : (a : Answer) → f (settle s g a o) ≡ f o
+    go ok = refl
+    go more = refl
+    go (wait []) = refl
+    go (wait (b ∷ bs)) = h (wait (named s g b bs ∷ [])) o
+    go (done ns) = refl
+    go (refused n k) = refl
+
+pub settled-next : (s : State) (g : Stage) (o : Outcome) → settled s g o .next ≡ o .next
+settled-next = settled-keeps (λ o. o .next) (λ a o. refl)
+
+pub settled-written : (s : State) (g : Stage) (o : Outcome) → settled s g o .written ≡ o .written
+settled-written = settled-keeps (λ o. o .written) (λ a o. refl)
+
+-- No other answer comes or goes.
+pub settled-says : (s : State) (g : Stage) (o : Outcome) (a : Answer) → waiting a ≡ false → (settled s g o .answer ≡ a) ↔ (o .answer ≡ a)
+unfolding settled
+settled-says s g o a h = go (o .answer) refl
+  where
+    go : (z : Answer) → o .answer ≡ z → (settle s g z o .answer ≡ a) ↔ (o .answer ≡ a)
+    go ok e = ((λ i. i), λ i. i)
+    go more e = ((λ i. i), λ i. i)
+    go (wait []) e = ((λ i. i), λ i. i)
+    go (wait (b ∷ bs)) e = ((λ i. absurd (true≢false (ap waiting (sym i)) h)), λ i. absurd (true≢false (ap waiting (sym i ∙ e)) h))
+    go (done ns) e = ((λ i. i), λ i. i)
+    go (refused n k) e = ((λ i. i), λ i. i)
+
+-- With nobody in the way it is no wait; else it is the wait for the one that is named.
+pub settled-waits : (s : State) (g : Stage) (bs : List ℕ) (o : Outcome) → WaitsFor s bs o → WaitsFor s (only-named s g bs) (settled s g o)
+unfolding settled
+settled-waits s g [] o w = ap (λ z. waiting (z .answer)) (settle-calm s g o (o .answer) w) ∙ w
+settled-waits s g (b ∷ bs) o w = ap (λ z. settle s g (z .answer) z) w
+
+-- The party that a wait names: an equation, whatever the state.
+pub settled-whom : (n p : ℕ) (r : Request) (s : State) (ps : List ℕ) → settled s (r .stage) (next-step n p r s (r .stage)) .answer ≡ wait ps → ps ≡ whom p r s ∷ []
+unfolding whom
+settled-whom n p r s ps = go (step-blockers p r s (r .stage)) (settled-waits s (r .stage) (step-blockers p r s (r .stage)) (next-step n p r s (r .stage)) (step-waits n p r s (r .stage)))
+  where
+    o : Outcome
+    o = settled s (r .stage) (next-step n p r s (r .stage))
+
+    listed : (l m : List ℕ) → wait l ≡ wait m → l ≡ m
+    listed l m e = cc
+
+    go : (bs : List ℕ) → WaitsFor s (only-named s (r .stage) bs) o → o .answer ≡ wait ps → ps ≡ named-of s (r .stage) bs ∷ []
+    go [] w i = absurd (true≢false (ap waiting i) w)
+    go (b ∷ bs) w i = listed ps (named s (r .stage) b bs ∷ []) (sym i ∙ ap (λ z. z .answer) w)
+
+-- A fact of a step as it was, and of the wait for any one of those in the way, is one of the step as it is settled.
+pub settled-cases : (P : Outcome → Type 0) (s : State) (g : Stage) (bs : List ℕ) (o : Outcome) → WaitsFor s bs o
+    → P o → ((b : ℕ) → elem b bs ≡ true → P (answer (wait (b ∷ [])) s)) → P (settled s g o)
+settled-cases P s g [] o w x f = subst P (sym (settled-calm s g o w)) x
+settled-cases P s g (b ∷ bs) o w x f = subst P (sym (settled-waits s g (b ∷ bs) o w)) (f (named s g b bs) (named-member s g b bs))
+
+pub settled-step : (P : Outcome → Type 0) (n p : ℕ) (r : Request) (s : State) → P (next-step n p r s (r .stage))
+    → ((b : ℕ) → elem b (step-blockers p r s (r .stage)) ≡ true → P (answer (wait (b ∷ [])) s)) → P (settled s (r .stage) (next-step n p r s (r .stage)))
+settled-step P n p r s = settled-cases P s (r .stage) (step-blockers p r s (r .stage)) (next-step n p r s (r .stage)) (step-waits n p r s (r .stage))

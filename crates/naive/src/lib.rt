@@ -1,12 +1,13 @@
-// Naive: a second model of the whole entry store, written from document 01 alone, to be run beside the store and compared with it.
+// Naive: a second model of the whole entry store, written from document 01 and document 02's M-101 alone, to be run beside the store and compared with it.
 //
 // The model is plain arrays in one lent slice: the entries, the descriptors rising by key with their groups as sets of bits, the tree nodes, the
-// parties, an undo log in order of time, and a count of free records. There are no records and no chains. Latches and pins are not kept: they follow
-// from the stages of the requests in hand. It is made for M from 1 to 32 and every R; a larger M that document 01 allows is formatted, and its
-// entries above 32 read as 0.
+// parties, the begun sessions in the order in which they began, an undo log in order of time, and a count of free records. There are no records and no
+// chains. Latches and pins are not kept: they follow from the stages of the requests in hand. Whom a wait names is read off the order of begins, and not
+// off the numbers that the sessions have in it. It is made for M from 1 to 32 and every R; a larger M that document 01 allows is formatted, and its entries
+// above 32 read as 0.
 //
-// It promises that every function is safe and ends, on any words. That it does what document 01 says is tested and not proved. It rests on naive_tree
-// for its arrays, descriptors and tree, on naive_steps for the descent, the parties and the undo log.
+// It promises that every function is safe and ends, on any words. That it does what document 01 and document 02's M-101 say is tested and not proved. It
+// rests on naive_tree for its arrays, descriptors and tree, on naive_steps for the descent, the parties, the order of begins and the undo log.
 mod request;
 
 use crate::request::change;
@@ -21,6 +22,11 @@ use naive_steps::descent::enter;
 use naive_steps::descent::go_down;
 use naive_steps::descent::root_plan;
 use naive_steps::descent::way_plan;
+use naive_steps::line::NOBODY;
+use naive_steps::line::add_last;
+use naive_steps::line::leave;
+use naive_steps::line::number_all;
+pub use naive_steps::line::place_of as place_in_line;
 use naive_steps::party::AT;
 use naive_steps::party::CHANGE;
 use naive_steps::party::DONE;
@@ -39,6 +45,7 @@ use naive_steps::party::TAKE;
 use naive_steps::party::TIDY;
 use naive_steps::party::WAIT;
 use naive_steps::party::WRITE;
+use naive_steps::party::alone;
 pub use naive_steps::party::is_begun as begun;
 pub use naive_steps::party::is_in_hand as in_hand;
 use naive_steps::party::is_in_hand;
@@ -46,6 +53,7 @@ use naive_steps::party::reply;
 use naive_steps::party::say;
 use naive_steps::party::unless;
 use naive_steps::undo::end_records;
+use naive_tree::arrays::BEGUN;
 use naive_tree::arrays::CODE;
 use naive_tree::arrays::COUNTERS;
 use naive_tree::arrays::DESCRIPTORS;
@@ -58,6 +66,7 @@ use naive_tree::arrays::LOCATES;
 use naive_tree::arrays::M;
 use naive_tree::arrays::NODES;
 use naive_tree::arrays::NOWHERE;
+use naive_tree::arrays::ORDER;
 use naive_tree::arrays::PARTIES;
 use naive_tree::arrays::R;
 use naive_tree::arrays::ROOT;
@@ -79,7 +88,12 @@ use naive_tree::arrays::set_field;
 use naive_tree::arrays::set_fields;
 use naive_tree::events::ABORT_IN_HAND;
 use naive_tree::events::COMMIT_WITH_UNDOS;
+use naive_tree::events::LATCH_WAIT;
 use naive_tree::events::NO_EVENT;
+use naive_tree::events::NOT_LOWEST;
+use naive_tree::events::RENUMBERED;
+use naive_tree::events::SEVERAL_WAIT;
+use naive_tree::events::TWO_LATCHED;
 pub use naive_tree::keys::free;
 pub use naive_tree::keys::is_stored as stored;
 pub use naive_tree::keys::locate_holders;
@@ -139,6 +153,9 @@ pub fn begin(a: &mut Words, p: u32) -> Said {
     if n != 0 {
         return say(REFUSED, n, 0);
     }
+    let is_renumbered = number_all(a) != 0;
+    raise(a, COUNTERS, RENUMBERED, is_renumbered as u32);
+    add_last(a, p);
     set_field(a, p, STAGE, IDLE);
     say(OK, 0, 0)
 }
@@ -233,12 +250,23 @@ fn plan(a: &Words, p: u32, stage: u32, room: usize) -> Plan {
     way_plan(a, p, minus(stage, AT))
 }
 
+// Counts a wait that names this party, with these in the way, party q as bit q.
+fn count_wait(a: &mut Words, event: u32, named: u32, parties: u32) {
+    let is_latch = event == LATCH_WAIT;
+    let is_many = 1 < u32::count_ones(parties);
+    let is_lowest = minus(alone(named), 1) & parties == 0;
+    raise(a, COUNTERS, SEVERAL_WAIT, (is_many & !is_latch) as u32);
+    raise(a, COUNTERS, TWO_LATCHED, (is_many & is_latch) as u32);
+    raise(a, COUNTERS, NOT_LOWEST, (is_many & !is_lowest) as u32);
+}
+
 // A step is made unless it waits or is refused. A refusal inside a step ends the request.
 fn try_step(a: &mut Words, p: u32, room: usize) -> Said {
     let stage = field(a, p, STAGE);
     let plan = plan(a, p, stage, room);
-    if plan.parties != 0 {
-        return reply(a, p, plan.event, stage, WAIT, plan.parties, 0);
+    if plan.named != NOBODY {
+        count_wait(a, plan.event, plan.named, plan.parties);
+        return reply(a, p, plan.event, stage, WAIT, plan.named, 0);
     }
     if plan.refusal != 0 {
         return reply(a, p, NO_EVENT, IDLE, REFUSED, plan.refusal, plan.beside);
@@ -288,6 +316,7 @@ fn end(a: &mut Words, p: u32, to: u32) -> Said {
         (!is_abort & (count != 0)) as u32,
     );
     clear_bits(a, LOCATES, NOWHERE - LOCATES, bit(p));
+    leave(a, p);
     reply(a, p, NO_EVENT, NONE, OK, 0, 0)
 }
 
@@ -313,6 +342,21 @@ pub fn update_holders(a: &Words, key: u32) -> u32 {
 // The group of a key: bit e - 1 for entry e.
 pub fn members(a: &Words, key: u32) -> u32 {
     of_key(a, GROUPS, key)
+}
+
+// How many sessions are begun.
+pub fn begun_count(a: &Words) -> u32 {
+    get(a, HEADER, BEGUN)
+}
+
+// The number of a party in the order of begins.
+pub fn order(a: &Words, p: u32) -> u32 {
+    field(a, p, ORDER)
+}
+
+// Gives a party another number. A store goes by the numbers of its table, so whoever gives them to both keeps those of begun sessions in order.
+pub fn set_order(a: &mut Words, p: u32, x: u32) {
+    set_field(a, p, ORDER, x);
 }
 
 // How many descriptors there are, and how many nodes.

@@ -1,4 +1,5 @@
 // Request: the steps of the six requests outside the descent.
+use naive_steps::line::first_of;
 use naive_steps::party::DONE;
 use naive_steps::party::ENTER;
 use naive_steps::party::IDLE;
@@ -78,19 +79,28 @@ fn next_of(a: &Words, p: u32) -> u32 {
     rank(a, field(a, p, LAST))
 }
 
+// A step that needs a lock, with these holders in conflict: a wait names the one of the others that began first.
+fn lock_plan(a: &Words, p: u32, holders: u32, event: u32, refusal: u32, lock: u32) -> Plan {
+    let parties = others(holders, p);
+    Plan {
+        named: first_of(a, parties),
+        parties: parties,
+        event: event,
+        refusal: refusal,
+        beside: 0,
+        lock: lock,
+    }
+}
+
 // The first step of a request: a read shares the entry, a write, insert or remove has it alone.
 pub fn entry_plan(a: &Words, p: u32) -> Plan {
     let i = element_of(a, p);
     let code = field(a, p, CODE);
     let is_read = code == READ;
     let holders = unless(is_read, get(a, SHARES, i)) | get(a, EXCLUSIVES, i);
-    Plan {
-        parties: others(holders, p),
-        event: ENTRY_WAIT,
-        refusal: lack(a, (code == WRITE) as u32),
-        beside: 0,
-        lock: plus(minus(EXCLUSIVES, (is_read as u32) << 5), i),
-    }
+    let refusal = lack(a, (code == WRITE) as u32);
+    let lock = plus(minus(EXCLUSIVES, (is_read as u32) << 5), i);
+    lock_plan(a, p, holders, ENTRY_WAIT, refusal, lock)
 }
 
 // The last step of an insert or remove. An insert needs a record for the membership and one for the log; the record of a membership that is taken out
@@ -98,13 +108,9 @@ pub fn entry_plan(a: &Words, p: u32) -> Plan {
 pub fn group_plan(a: &Words, p: u32) -> Plan {
     let i = group_of(a, p);
     let is_new = change_event(a, p) == ADDED;
-    Plan {
-        parties: others(get(a, LOCATES, i) | get(a, UPDATES, i), p),
-        event: KEY_WAIT,
-        refusal: lack(a, (is_new as u32) << 1),
-        beside: 0,
-        lock: plus(UPDATES, i),
-    }
+    let holders = get(a, LOCATES, i) | get(a, UPDATES, i);
+    let refusal = lack(a, (is_new as u32) << 1);
+    lock_plan(a, p, holders, KEY_WAIT, refusal, plus(UPDATES, i))
 }
 
 // A locate's step to its next key. With the last one it must have room in its list for all that it finds.
@@ -112,13 +118,17 @@ pub fn key_plan(a: &Words, p: u32, room: usize) -> Plan {
     let i = next_of(a, p);
     let count = found(a, p);
     let is_short = is_last(a, p) & (room < plus(count, count) as usize);
-    Plan {
-        parties: others(get(a, UPDATES, i), p),
-        event: KEY_WAIT,
-        refusal: unless(!is_short, 12),
-        beside: count,
-        lock: plus(LOCATES, i),
-    }
+    let refusal = unless(!is_short, 12);
+    let mut x = lock_plan(
+        a,
+        p,
+        get(a, UPDATES, i),
+        KEY_WAIT,
+        refusal,
+        plus(LOCATES, i),
+    );
+    x.beside = count;
+    x
 }
 
 // Is the key that a locate takes next its last?

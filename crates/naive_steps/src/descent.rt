@@ -1,4 +1,5 @@
 // Descent: the way of a party from the root to the lowest node of its key, a step a level.
+use super::line::NOBODY;
 use super::party::AT;
 use super::party::CHANGE;
 use super::party::DONE;
@@ -9,9 +10,10 @@ use super::party::MORE;
 use super::party::Plan;
 use super::party::Said;
 use super::party::TAKE;
+use super::party::alone;
 use super::party::is_pinned;
 use super::party::lack;
-use super::party::latched_by_others;
+use super::party::latched_by;
 use super::party::reply;
 use naive_tree::arrays::CHILDREN;
 use naive_tree::arrays::CODE;
@@ -101,51 +103,59 @@ fn due(a: &Words, p: u32, at: u32) -> u32 {
     sided(MOVE, at)
 }
 
-// The other place of two that are joined or between which a son moves, or the same place.
-fn other_place(at: u32, event: u32) -> u32 {
-    if minus(event, JOIN) < 4 {
-        return neighbour(at);
+// A step that needs two nodes, which may be one, and so many records: a wait names whoever has latched the first of them, or else the second.
+fn latch_plan(a: &Words, p: u32, first: u32, second: u32, need: u32) -> Plan {
+    let x = latched_by(a, p, first);
+    let y = latched_by(a, p, second);
+    let named = if x == NOBODY { y } else { x };
+    Plan {
+        named: named,
+        parties: alone(x) | alone(y),
+        event: LATCH_WAIT,
+        refusal: lack(a, need),
+        beside: 0,
+        lock: NOWHERE,
     }
-    at
 }
 
-// The step into the root. A split of it needs two records, and one becomes free where a root whose lone son is a node is dropped.
+// The step into the root, which stands above its lone son. A split of it needs two records, and one becomes free where a root whose lone son is a node is
+// dropped.
 pub fn root_plan(a: &Words, p: u32) -> Plan {
     let top = get(a, HEADER, ROOT);
     let n = below_lone_root(a);
     let is_full = is_full(a, p, n);
+    let need = plus(is_full as u32, (is_full & (n == top)) as u32);
+    latch_plan(a, p, top, n, need)
+}
+
+// The step at a lowest node: it needs no node, and a descriptor that is made needs a record.
+fn lowest_plan(a: &Words, p: u32) -> Plan {
+    let is_new = (p != 0) & !is_stored(a, field(a, p, TARGET));
     Plan {
-        parties: latched_by_others(a, p, top) | latched_by_others(a, p, n),
-        event: LATCH_WAIT,
-        refusal: lack(a, plus(is_full as u32, (is_full & (n == top)) as u32)),
+        named: NOBODY,
+        parties: 0,
+        event: NO_EVENT,
+        refusal: lack(a, is_new as u32),
         beside: 0,
         lock: NOWHERE,
     }
 }
 
-// The step down from node n. A split needs a record, and at a lowest node a descriptor.
+// The step down from node n. A split needs a record. Of two that are joined or between which a son moves the left one comes first.
 pub fn way_plan(a: &Words, p: u32, n: u32) -> Plan {
     if get(a, LEVELS, n) == 1 {
-        let is_new = (p != 0) & !is_stored(a, field(a, p, TARGET));
-        return Plan {
-            parties: 0,
-            event: LATCH_WAIT,
-            refusal: lack(a, is_new as u32),
-            beside: 0,
-            lock: NOWHERE,
-        };
+        return lowest_plan(a, p);
     }
     let at = way(a, p, n);
     let event = due(a, p, at);
-    let other = other_place(at, event);
-    Plan {
-        parties: latched_by_others(a, p, get(a, CHILDREN, at))
-            | latched_by_others(a, p, get(a, CHILDREN, other)),
-        event: LATCH_WAIT,
-        refusal: lack(a, (event == NODE_SPLIT) as u32),
-        beside: 0,
-        lock: NOWHERE,
+    let need = (event == NODE_SPLIT) as u32;
+    if minus(event, JOIN) < 4 {
+        let left = left_place(at);
+        let right = plus(left, 1);
+        return latch_plan(a, p, get(a, CHILDREN, left), get(a, CHILDREN, right), need);
     }
+    let son = get(a, CHILDREN, at);
+    latch_plan(a, p, son, son, need)
 }
 
 // Enters the root: one whose lone son is a node is dropped first, and a full one split.

@@ -1,4 +1,5 @@
 // Party: sessions and housekeeper, the stages of their requests, and what is told of a call.
+use super::line::NOBODY;
 use naive_tree::arrays::FIRST;
 use naive_tree::arrays::PARTIES;
 use naive_tree::arrays::SECOND;
@@ -53,8 +54,8 @@ pub const DONE: u32 = 3;
 
 pub const REFUSED: u32 = 4;
 
-// What is told of a call. Beside wait stands the set of all parties whose lock is in the way, party p as bit p; beside done the answer and, of a tidy, 1 if
-// it removed; beside refused its number and the one beside it.
+// What is told of a call. Beside wait stands the party that it names; beside done the answer and, of a tidy, 1 if it removed; beside refused its number and
+// the one beside it.
 pub struct Said {
     pub word: u32,
     pub first: u32,
@@ -69,9 +70,10 @@ pub fn say(word: u32, first: u32, second: u32) -> Said {
     }
 }
 
-// What a step takes: the parties in its way, and the event that counts a wait for them; the number with which it is refused, 0 for none, and the one
-// beside it; the word of holders that the party enters.
+// What a step takes: the party that a wait names, or nobody, the set of all that are in the way, party q as bit q, and the event that counts a wait for them;
+// the number with which it is refused, 0 for none, and the one beside it; the word of holders that the party enters.
 pub struct Plan {
+    pub named: u32,
     pub parties: u32,
     pub event: u32,
     pub refusal: u32,
@@ -117,14 +119,22 @@ pub fn others(holders: u32, p: u32) -> u32 {
     (holders ^ (holders & bit(p))) << 1
 }
 
-// The parties other than p with a latch on the node.
-pub fn latched_by_others(a: &Words, p: u32, n: u32) -> u32 {
-    let mut parties = 0;
+// The party other than p with a latch on the node, or nobody.
+pub fn latched_by(a: &Words, p: u32, n: u32) -> u32 {
     for q in 0..PARTIES {
-        let is_latched = (q != p) & (field(a, q, STAGE) == plus(AT, n));
-        parties = parties | (is_latched as u32) << q;
+        if (q != p) & (field(a, q, STAGE) == plus(AT, n)) {
+            return q;
+        }
     }
-    parties
+    NOBODY
+}
+
+// The set of one party, which may be nobody.
+pub fn alone(p: u32) -> u32 {
+    if p < PARTIES {
+        return 1 << p;
+    }
+    0
 }
 
 // Does the request of party q pin the key? An insert or remove pins its key from its arrival to its end; a locate pins each of its two keys so, and goes on

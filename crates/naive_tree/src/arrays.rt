@@ -21,14 +21,17 @@ pub const PARTIES: u32 = 17;
 // The parts, each an array of words. Format clears those from HEADER on.
 pub const COUNTERS: u32 = 0;
 
-pub const HEADER: u32 = 32;
+pub const HEADER: u32 = 48;
 
-pub const VALUES: u32 = 48;
+pub const VALUES: u32 = 64;
 
 pub const SESSIONS: u32 = VALUES + ENTRY_SLOTS;
 
+// The begun sessions, in the order in which they began.
+pub const LINE: u32 = SESSIONS + 16 * PARTIES;
+
 // The level of each node, 1 for the lowest; 0 marks a free slot. Slot 0 is never used.
-pub const LEVELS: u32 = SESSIONS + 16 * PARTIES;
+pub const LEVELS: u32 = LINE + PARTIES;
 
 // How many sons each node has.
 pub const FANOUTS: u32 = LEVELS + NODE_SLOTS;
@@ -66,7 +69,7 @@ pub const SHARES: u32 = GAPS + SLOTS;
 
 pub const EXCLUSIVES: u32 = SHARES + ENTRY_SLOTS;
 
-// The words of the header: M, R and the root; how many nodes, descriptors and undo records there are.
+// The words of the header: M, R and the root; how many nodes, descriptors, undo records and begun sessions there are.
 pub const M: u32 = 0;
 
 pub const R: u32 = 1;
@@ -78,6 +81,8 @@ pub const NODES: u32 = 3;
 pub const DESCRIPTORS: u32 = 4;
 
 pub const UNDOS: u32 = 5;
+
+pub const BEGUN: u32 = 6;
 
 // The fields of a party: how far it is, and its request as it was put.
 pub const STAGE: u32 = 0;
@@ -94,6 +99,9 @@ pub const SECOND: u32 = 4;
 pub const TARGET: u32 = 5;
 
 pub const LAST: u32 = 6;
+
+// Its number in the order of begins, which no request changes.
+pub const ORDER: u32 = 7;
 
 // A number that is added to take one away, and an element that no array has.
 pub const LESS: u32 = 4294967295;
@@ -197,7 +205,7 @@ pub fn set_field(a: &mut Words, p: u32, f: u32, x: u32) {
     set(a, plus(SESSIONS, p << 4), f, x);
 }
 
-// Sets the fields of party p.
+// Sets the fields of party p up to LAST.
 pub fn set_fields(a: &mut Words, p: u32, words: [u32; 7]) {
     let mut f = 0;
     for k in 0..7 {

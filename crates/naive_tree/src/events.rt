@@ -47,14 +47,25 @@ pub const KEY_WAIT: u32 = 22;
 
 pub const LATCH_WAIT: u32 = 23;
 
-pub const VALUE_UNDONE: u32 = 24;
+// Of the waits for an entry or a key those with several sessions in the way, of those for a short lock those with two parties; of both, those that name
+// another than the lowest. Each is counted among the waits as well.
+pub const SEVERAL_WAIT: u32 = 24;
 
-pub const INSERT_UNDONE: u32 = 25;
+pub const TWO_LATCHED: u32 = 25;
 
-pub const REMOVE_UNDONE: u32 = 26;
+pub const NOT_LOWEST: u32 = 26;
 
-pub const ABORT_IN_HAND: u32 = 27;
+pub const VALUE_UNDONE: u32 = 27;
 
-pub const COMMIT_WITH_UNDOS: u32 = 28;
+pub const INSERT_UNDONE: u32 = 28;
+
+pub const REMOVE_UNDONE: u32 = 29;
+
+pub const ABORT_IN_HAND: u32 = 30;
+
+pub const COMMIT_WITH_UNDOS: u32 = 31;
+
+// A begin that gave a session another number than it had.
+pub const RENUMBERED: u32 = 32;
 
 pub const NO_EVENT: u32 = 4294967295;

@@ -8,7 +8,7 @@ use sessions::Session;
 pub enum Answer {
     Ok,
     More,
-    // The party whose lock is in the way.
+    // The party that is named.
     Wait(u32),
     // The answer of a request of code 1 to 5.
     Done(u32),
@@ -46,7 +46,7 @@ pub struct Made {
 pub enum DayAnswer {
     Ok(u32),
     More(u32),
-    // The party whose lock is in the way, and the place.
+    // The party that is named, and the place.
     Wait(u32, u32),
     // How many stretches the day has, and the place.
     Done(u32, u32),

@@ -2,6 +2,7 @@
 use mathlib.Core.Path.{_≡_, refl, sym, ap, subst, _∙_}
 use mathlib.Core.Bool.{Bool, true, false, cond}
 use mathlib.Core.List.{List, [], _∷_}
+use mathlib.Core.Logic.{inl}
 use Prim.Native.Nat.{ℕ}
 use lib.ListN.{length, set}
 use lib.Seq.{getD-set-other}
@@ -95,7 +96,7 @@ answered-by c s t A o e a l′ s′ t′ tells list B still ended others kept =
 -- A refusal of the checks changes nothing.
 others-same : (c : C.Call) (t : List Session) → Others c t t
 others-same (C.format m) t = tt
-others-same (C.begin p) t = λ q n. refl
+others-same (C.begin p) t = λ q n. inl refl
 others-same (C.put p c e f g) t = λ q n. refl
 others-same (C.step p l) t = λ q n. refl
 others-same (C.commit p) t = λ q n. refl

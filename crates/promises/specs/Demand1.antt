@@ -184,7 +184,7 @@ module _ (p : ℕ) (l : List ℕ) (s : List ℕ) (t : List Session) (S : Sound s
 
   handed : Handed p r (meaning s t) (outcome (C.step p l) s t)
   handed = subst (Handed p r (meaning s t)) (sym (outcome-is s t p l S z))
-      (step-handed p r (meaning s t) (omega (arith, party s t p l S z, S .state .seats)) (hand-is s t p l S z) (length l) (r .stage))
+      (step-handed p r (meaning s t) (omega (arith, party s t p l S z, S .state .seats)) (hand-is s t p l S z) (length l))
 
   own-answer : (a : C.Answer) → Tells (outcome (C.step p l) s t .answer) a → steps-with a ≡ true
   own-answer a e = step-with p r (meaning s t) (outcome (C.step p l) s t .answer) (outcome (C.step p l) s t .next) a (handed .own) e

@@ -1,10 +1,11 @@
 -- Demand 2 of the words: what the promises of the calls say of answers, holders and waits.
 use mathlib.Core.Path.{_≡_, refl, sym, ap, subst, _∙_}
-use mathlib.Core.Bool.{true, false}
+use mathlib.Core.Bool.{Bool, true, false, _||_}
 use mathlib.Core.List.{List, [], _∷_, _++_}
 use mathlib.Core.Logic.{_↔_}
 use mathlib.Core.Option.{some}
 use Prim.Native.Nat.{ℕ, zero, suc, _<_}
+use lib.Dec.{eqb}
 use lib.ListN.{length, drop}
 use Rattle.sessions.specs.declared.Session.{Session}
 use Rattle.serial.specs.Serial.{true≢false}
@@ -13,17 +14,20 @@ use Rattle.serial.specs.Locks.{Kind, Mode}
 use Rattle.serial.specs.Calls as C
 use Rattle.machine.specs.Holders.{elem}
 use Rattle.machine.specs.State.{State, Stage, Request, Answer, ok, more, wait, done, refused, Outcome, sessionOf}
-use Rattle.machine.specs.Steps.{next-step}
-use Rattle.machine.specs.InTheWay.{InTheWay}
+use Rattle.machine.specs.Logic.{eqb-is}
+use Rattle.machine.specs.Steps.{next-step, named, settled}
+use Rattle.machine.specs.InTheWay.{InTheWay, Named}
 use Rattle.machine.specs.Conflicts.{blockers-exactly}
+use Rattle.machine.specs.Naming.{whom-named, named-one}
 use Rattle.machine.specs.Tidying.{Chooses, put-chooses, Tidy, tidy, tidy-said}
 use Rattle.machine.specs.Calls.{Call, call}
+use Rattle.machine.specs.Begins.{Begun, begin-begun}
 use Rattle.machine.specs.View.{items, holders}
 use Rattle.machine.specs.Session.{req-of}
 use Rattle.machine.specs.Ledger.{next-ledger}
 use Rattle.machine.specs.Answers.{Logical, Untouched, AsModel, answers-as-model, leaves-logical, may-change, TooShort}
 use Rattle.machine.specs.Held.{ledger-step, descents-keep, unseen-step}
-use Rattle.machine.specs.Waits.{WaitsFor, step-blockers, step-waits, waiting}
+use Rattle.machine.specs.Waits.{WaitsFor, step-blockers, step-waits, waiting, only-named, named-of, named-member, whom, settled-waits}
 use Rattle.machine.specs.Forward.{Ahead, Onward, step-forward}
 use Rattle.machine.specs.Needs.{step-needs, step-11, AtSecond, step-12}
 use Rattle.machine.specs.Demand.{call-of, Tells, told-done, told-refused}
@@ -47,9 +51,12 @@ pub record Modelled (q : Req) (s : List ℕ) (t : List Session) (l ns l′ s′ 
 pub record Demand-2 (p : ℕ) (r : Request) (l s : List ℕ) (t : List Session) (a : C.Answer) (l′ s′ : List ℕ) (t′ : List Session) : Type 0 where
   -- Every request answers as the logical model does.
   pub answers : ¬ (p ≡ 0) → (ns : List ℕ) → a ≡ C.done ns → Modelled (req-of r) s t l ns l′ s′ t′
-  -- A step waits exactly if another party's lock conflicts with it (machine/InTheWay), and names one whose lock does,
+  -- A step waits exactly if another party's lock conflicts with it (machine/InTheWay), and names one of these (machine/Waits):
   pub waits : ((q : ℕ) × (a ≡ C.wait q)) ↔ ((q : ℕ) × InTheWay p r (meaning s t) (r .stage) q)
-  pub names : (q : ℕ) → a ≡ C.wait q → InTheWay p r (meaning s t) (r .stage) q
+  pub names : (q : ℕ) → a ≡ C.wait q → q ≡ whom p r (meaning s t)
+  -- of sessions that hold what it asks for the one that began first; of latches the highest node's, then the leftmost's;
+  pub longest : (q : ℕ) → a ≡ C.wait q → Named p r (meaning s t) (r .stage) q
+  pub only : (q z : ℕ) → a ≡ C.wait q → Named p r (meaning s t) (r .stage) z → z ≡ q
   -- and otherwise goes forward or is refused (Demand1.Accepts):
   pub forward : a ≡ C.more → (g : Stage) × (sessionOf p (meaning s′ t′) .hand ≡ some (in-stage g r)) × Ahead p r (meaning s t) (r .stage) (meaning s′ t′) g
   -- 11, with 0 beside it, exactly if nobody is in the way and fewer records are free than this step needs,
@@ -97,6 +104,14 @@ tidy-chosen e f g s t l′ s′ t′ P S =
     let c = put-chooses e f g (meaning s t) (S .state) (told-ok (outcome (C.put 0 6 e f g) s t .answer) (A .tells)) in
     (c .0, ap (λ x. sessionOf 0 x .hand) (A .means) ∙ c .1, c .2)
 
+-- ---- an accepted begin
+
+-- On sound words: it numbers the begun sessions in their order, the one that begins last, and changes nothing else (machine/Begins).
+pub begin-numbered : (p : ℕ) (s : List ℕ) (t : List Session) (l′ s′ : List ℕ) (t′ : List Session) → Calls (C.begin p) s t C.ok l′ s′ t′ → Sound s t → Begun p (meaning s t) (meaning s′ t′)
+begin-numbered p s t l′ s′ t′ P S =
+    let A = P .answers S .0 in
+    subst (Begun p (meaning s t)) (sym (A .means)) (begin-begun p (meaning s t) (S .state) (told-ok (outcome (C.begin p) s t .answer) (A .tells)))
+
 -- ---- a step
 
 pub told-more : (z : Answer) → Tells z C.more → z ≡ more
@@ -113,20 +128,38 @@ told-wait (wait ps) q e = refl
 told-wait (done ms) q e = cc
 told-wait (refused n b) q e = cc
 
-waits-from : (p : ℕ) (r : Request) (z : State) (g : Stage) (bs : List ℕ) (o : Outcome) (a : C.Answer) → WaitsFor z bs o → ((q : ℕ) → (elem q bs ≡ true) ↔ InTheWay p r z g q) → Tells (o .answer) a
+-- An answer to a wait for one party names it.
+one-named : (b : ℕ) (a : C.Answer) → Tells (wait (b ∷ [])) a → a ≡ C.wait b
+one-named b a h = h .2 ∙ ap C.wait (eqb-is (h .0) b (one (eqb (h .0) b) (h .1)))
+  where
+    one : (c : Bool) → (c || false) ≡ true → c ≡ true
+    one true e = refl
+    one false e = e
+
+-- o is a step as it is settled, and bs are in its way.
+waits-from : (p : ℕ) (r : Request) (z : State) (g : Stage) (bs : List ℕ) (o : Outcome) (a : C.Answer) → WaitsFor z (only-named z g bs) o → ((q : ℕ) → (elem q bs ≡ true) ↔ InTheWay p r z g q) → Tells (o .answer) a
     → ((q : ℕ) × (a ≡ C.wait q)) ↔ ((q : ℕ) × InTheWay p r z g q)
 waits-from p r z g [] o a w f e = (
   (λ h. absurd (true≢false (told-wait (o .answer) (h .0) (subst (Tells (o .answer)) (h .1) e)) w)),
   λ h. absurd (true≢false (f (h .0) .1 (h .1)) refl),
 )
-waits-from p r z g (b ∷ bs) o a w f e = let h : Tells (wait (b ∷ bs)) a = subst (λ x. Tells (x .answer) a) w e in ((λ k. (h .0, f (h .0) .0 (h .1))), λ k. (h .0, h .2))
+waits-from p r z g (b ∷ bs) o a w f e =
+    let k = named z g b bs in
+    let h : a ≡ C.wait k = one-named k a (subst (λ x. Tells (x .answer) a) w e) in
+    ((λ i. (k, f k .0 (named-member z g b bs))), λ i. (k, h))
 
-names-from : (z : State) (bs : List ℕ) (o : Outcome) (a : C.Answer) → WaitsFor z bs o → Tells (o .answer) a → (q : ℕ) → a ≡ C.wait q → elem q bs ≡ true
-names-from z [] o a w e q i = absurd (true≢false (told-wait (o .answer) q (subst (Tells (o .answer)) i e)) w)
-names-from z (b ∷ bs) o a w e q i = let h : Tells (wait (b ∷ bs)) a = subst (λ x. Tells (x .answer) a) w e in subst (λ k. elem k (b ∷ bs) ≡ true) (party-same (h .0) q (sym (h .2) ∙ i)) (h .1)
+names-from : (z : State) (g : Stage) (bs : List ℕ) (o : Outcome) (a : C.Answer) → WaitsFor z (only-named z g bs) o → Tells (o .answer) a → (q : ℕ) → a ≡ C.wait q → q ≡ named-of z g bs
+names-from z g [] o a w e q i = absurd (true≢false (told-wait (o .answer) q (subst (Tells (o .answer)) i e)) w)
+names-from z g (b ∷ bs) o a w e q i = party-same q (named z g b bs) (sym i ∙ one-named (named z g b bs) a (subst (λ x. Tells (x .answer) a) w e))
   where
     party-same : (i j : ℕ) → C.wait i ≡ C.wait j → i ≡ j
     party-same i j e = cc
+
+-- What holds of the one that is named, where somebody is in the way, holds of the party of a wait.
+named-from : (z : State) (g : Stage) (bs : List ℕ) (o : Outcome) (a : C.Answer) → WaitsFor z (only-named z g bs) o → Tells (o .answer) a → (P : ℕ → Type 0)
+    → ((b : ℕ) (cs : List ℕ) → bs ≡ b ∷ cs → P (named z g b cs)) → (q : ℕ) → a ≡ C.wait q → P q
+named-from z g [] o a w e P f q i = absurd (true≢false (told-wait (o .answer) q (subst (Tells (o .answer)) i e)) w)
+named-from z g (b ∷ bs) o a w e P f q i = subst P (sym (names-from z g (b ∷ bs) o a w e q i)) (f b bs refl)
 
 -- A refusal comes exactly if the machine's comes.
 refused-from : (z : Answer) (a : C.Answer) (n k : ℕ) (X : Type 0) → Tells z a → (z ≡ refused n k) ↔ X → (a ≡ C.refused n k) ↔ X
@@ -165,8 +198,19 @@ module _ (p : ℕ) (l s : List ℕ) (t : List Session) (a : C.Answer) (l′ s′
           (subst (λ k. AsModel (req-of r) (meaning s t) (call (Call.step k (length l)) (meaning s t)) (call (Call.step k (length l)) (meaning s t) .answer)) i
           (answers-as-model (meaning s t) (S .state) m (length l) r (ap (λ k. sessionOf k (meaning s t) .hand) i ∙ in-hand)))
 
-  blocked : WaitsFor (meaning s t) (step-blockers p r (meaning s t) (r .stage)) o
-  blocked = subst (WaitsFor (meaning s t) (step-blockers p r (meaning s t) (r .stage))) (sym (outcome-is s t p l S z)) (step-waits (length l) p r (meaning s t) (r .stage))
+  abbrev bs : List ℕ
+  bs = step-blockers p r (meaning s t) (r .stage)
+
+  blocked : WaitsFor (meaning s t) (only-named (meaning s t) (r .stage) bs) o
+  blocked = subst (WaitsFor (meaning s t) (only-named (meaning s t) (r .stage) bs)) (sym (outcome-is s t p l S z))
+      (settled-waits (meaning s t) (r .stage) bs (next-step (length l) p r (meaning s t) (r .stage)) (step-waits (length l) p r (meaning s t) (r .stage)))
+
+  is-whom : (q : ℕ) → a ≡ C.wait q → q ≡ whom p r (meaning s t)
+  unfolding whom
+  is-whom q e = names-from (meaning s t) (r .stage) bs o a blocked (A .tells) q e
+
+  is-named : (q : ℕ) → a ≡ C.wait q → Named p r (meaning s t) (r .stage) q
+  is-named = named-from (meaning s t) (r .stage) bs o a blocked (A .tells) (Named p r (meaning s t) (r .stage)) (λ b cs i. whom-named (S .state) p r in-hand b cs i)
 
   abbrev Free : Type 0
   Free = (q : ℕ) → ¬ InTheWay p r (meaning s t) (r .stage) q
@@ -194,7 +238,7 @@ module _ (p : ℕ) (l s : List ℕ) (t : List Session) (a : C.Answer) (l′ s′
 
   tidied : p ≡ 0 → Tidy r (meaning s t) (λ ns. a ≡ C.done ns) (meaning s′ t′)
   tidied e = tidy-said both (subst (λ x. Tidy r (meaning s t) (λ ns. o .answer ≡ done ns) x) (sym (A .means)) (subst (λ (x : Outcome). Tidy r (meaning s t) (λ ns. x .answer ≡ done ns) (x .next)) (sym (outcome-is s t p l S z))
-      (subst (λ k. Tidy r (meaning s t) (λ ns. next-step (length l) k r (meaning s t) (r .stage) .answer ≡ done ns) (next-step (length l) k r (meaning s t) (r .stage) .next)) (sym e)
+      (subst (λ k. Tidy r (meaning s t) (λ ns. settled (meaning s t) (r .stage) (next-step (length l) k r (meaning s t) (r .stage)) .answer ≡ done ns) (settled (meaning s t) (r .stage) (next-step (length l) k r (meaning s t) (r .stage)) .next)) (sym e)
       (tidy (length l) r (meaning s t) (S .state) (ap (λ k. sessionOf k (meaning s t) .hand) (sym e) ∙ in-hand)))))
     where
       both : (ns : List ℕ) → (o .answer ≡ done ns) ↔ (a ≡ C.done ns)
@@ -203,8 +247,10 @@ module _ (p : ℕ) (l s : List ℕ) (t : List Session) (a : C.Answer) (l′ s′
   pub demand-2 : Demand-2 p (request-in (session-at t p)) l s t a l′ s′ t′
   demand-2 = record {
     answers = λ n ns e. as-model ns e (answers-model n ns e);
-    waits = waits-from p r (meaning s t) (r .stage) (step-blockers p r (meaning s t) (r .stage)) o a blocked in-way (A .tells);
-    names = λ q e. in-way q .0 (names-from (meaning s t) (step-blockers p r (meaning s t) (r .stage)) o a blocked (A .tells) q e);
+    waits = waits-from p r (meaning s t) (r .stage) bs o a blocked in-way (A .tells);
+    names = is-whom;
+    longest = is-named;
+    only = λ q z e N. sym (named-one (S .state) p r in-hand q z (is-named q e) N);
     forward = onward;
     free-records = λ k. refused-from (o .answer) a 11 k (Unserved k) (A .tells) (refused-11 k);
     list-short = λ k. refused-from (o .answer) a 12 k (Unlisted k) (A .tells) (refused-12 k);

@@ -5,6 +5,7 @@ pub mod Assembling
 pub mod Ways
 pub mod Seats
 pub mod Stepping
+pub mod Naming
 pub mod Steps
 pub mod Words
 pub mod Promised
@@ -12,3 +13,4 @@ pub mod Demand1
 pub mod Demand2
 pub mod Making
 pub mod Holding
+pub mod Line

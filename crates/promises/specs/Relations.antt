@@ -2,11 +2,12 @@
 use mathlib.Core.Path.{_≡_}
 use mathlib.Core.Bool.{Bool, true, false, not}
 use mathlib.Core.List.{List, []}
-use Prim.Native.Nat.{ℕ}
+use mathlib.Core.Logic.{_⊎_}
+use Prim.Native.Nat.{ℕ, _≤_}
 use lib.ListN.{length, replicate, set}
 use Rattle.words.specs.Store.{beyond}
 use Rattle.sessions.specs.declared.Session.{Session}
-use Rattle.sessions.specs.Sessions.{session-at, idle-session, parties}
+use Rattle.sessions.specs.Sessions.{session-at, numbered, idle-session, parties}
 use Rattle.serial.specs.Calls as C
 use Rattle.machine.specs.State.{Outcome, fresh}
 use Rattle.machine.specs.Calls.{call, records-for}
@@ -28,10 +29,14 @@ stays (C.wait p) = true
 stays (C.done ns) = false
 stays (C.refused n k) = not (C.ends-request n)
 
--- The party of a call; only its session record may be another.
+-- A begun session's record, with another number in the order of begins.
+abbrev pub Renumbered : ℕ → Session → Session → Type 0
+Renumbered q x x′ = (1 ≤ q) × ¬ (x .begun ≡ 0) × ((n : ℕ) × (x′ ≡ numbered n x))
+
+-- The party of a call; only its session record may be another, and at a begin the numbers of begun sessions.
 abbrev pub Others : C.Call → List Session → List Session → Type 0
 Others (C.format m) t t′ = Unit {0}
-Others (C.begin p) t t′ = (q : ℕ) → ¬ (q ≡ p) → session-at t′ q ≡ session-at t q
+Others (C.begin p) t t′ = (q : ℕ) → ¬ (q ≡ p) → (session-at t′ q ≡ session-at t q) ⊎ Renumbered q (session-at t q) (session-at t′ q)
 Others (C.put p c e f g) t t′ = (q : ℕ) → ¬ (q ≡ p) → session-at t′ q ≡ session-at t q
 Others (C.step p l) t t′ = (q : ℕ) → ¬ (q ≡ p) → session-at t′ q ≡ session-at t q
 Others (C.commit p) t t′ = (q : ℕ) → ¬ (q ≡ p) → session-at t′ q ≡ session-at t q

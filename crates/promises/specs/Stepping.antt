@@ -1,4 +1,4 @@
--- The step of a request in hand by its stage: what it leaves, that it is the machine's, that a wait changes nothing, and what the code asks.
+-- The step of a request in hand by its stage: what it leaves, whom a wait names, that it is the machine's, that a wait changes nothing, and what the code asks.
 use mathlib.Core.Path.{_≡_, refl, sym, ap, subst, _∙_}
 use mathlib.Core.Bool.{Bool, true, false, cond, not, _&&_}
 use mathlib.Core.List.{List, [], _∷_}
@@ -9,11 +9,15 @@ use native.Mathlib.Omega.{arith}
 use lib.Dec.{eqb, leb, ltb}
 use lib.ListN.{length}
 use borrow.Author.Tests.{eq-eqb, ne-eqb}
+use Rattle.locks.specs.Holders.{conflicts}
 use Rattle.sessions.specs.declared.Session.{Session}
 use Rattle.sessions.specs.Sessions.{session-at}
 use Rattle.serial.specs.Serial.{true≢false}
 use Rattle.serial.specs.Model.{two-words}
 use Rattle.serial.specs.Calls as C
+use Rattle.seniority.specs.Seniority.{eldestIn}
+use Rattle.outcomes.specs.declared.Answer.{Answer}
+use Rattle.outcomes.specs.declared.Answer.the-variants.{Ok, More, Wait, Done, Tidied, Refused}
 use Rattle.outcomes.specs.Said.{said, Stepped, moved}
 use Rattle.outcomes.specs.declared.Moved.{Moved}
 use Rattle.machine.specs.Logic.{either, eqb-is, eqb-not}
@@ -26,6 +30,7 @@ use Rattle.machine.specs.Descents.{guard-cases, latch-cases}
 use Rattle.meaning.specs.Reading.{M-of, R-of, stage-of, Numbered}
 use Rattle.words.specs.Store.{wordOf}
 use Rattle.words.specs.Header.{headerWord, freePlace}
+use Rattle.words.specs.Entries.{entryWord}
 use Rattle.groups.specs.Descriptor.{descriptorAt, removable}
 use Rattle.scans.specs.Scans.{memberOf}
 use Rattle.taking.specs.Place.{nextTaken}
@@ -86,6 +91,37 @@ stageStep s m r n p x = cond (eqb (x .stage) 5) (takeStep s m r n p x) (earlySte
 unfoldable pub stageWritten : List ℕ → ℕ → ℕ → ℕ → ℕ → Session → List ℕ
 stageWritten s m r n p x = cond (eqb (x .stage) 5) (takeWritten s m r n p x) []
 
+-- ---- whom a wait names
+
+-- The sessions in the way of p's lock on entry e, as a holders word: share is asked by 0, exclusive by 1.
+unfoldable pub entryConflicts : List ℕ → ℕ → ℕ → ℕ → ℕ
+entryConflicts s e asked p = conflicts 0 asked p (entryWord s e 1) (entryWord s e 2)
+
+-- The same at descriptor d: locate is asked by 0, update by 1.
+unfoldable pub groupConflicts : List ℕ → ℕ → ℕ → ℕ → ℕ → ℕ
+groupConflicts s m d asked p = conflicts 1 asked p (descriptorAt s m d .locate) (descriptorAt s m d .update)
+
+unfoldable pub firstConflicts : List ℕ → ℕ → Session → ℕ
+firstConflicts s p x = cond (eqb (x .code) 1) (entryConflicts s (x .entry) 0 p) (cond (leb (x .code) 4) (entryConflicts s (x .entry) 1 p) 0)
+
+-- Of a step that asks for a long lock: the entry at stage 1, the next descriptor of a scan at stage 5, the pinned descriptor at stage 4.
+unfoldable pub conflictWord : List ℕ → ℕ → ℕ → ℕ → Session → ℕ
+conflictWord s m r p x =
+    cond (eqb (x .stage) 5) (groupConflicts s m (nextTaken s m r x) 0 p) (cond (eqb (x .stage) 1) (firstConflicts s p x) (groupConflicts s m (x .low) 1 p))
+
+-- The party that a wait names, where the row named q: of latches q itself, of long locks the session in the way that began first.
+unfoldable pub namedBy : List ℕ → ℕ → ℕ → List Session → ℕ → Session → ℕ → ℕ
+namedBy s m r t p x q = cond (eqb (x .stage) 2) q (cond (eqb (x .stage) 3) q (eldestIn t (conflictWord s m r p x)))
+
+-- A row's answer with the party that a wait names.
+abbrev pub settledAnswer : List ℕ → ℕ → ℕ → List Session → ℕ → Session → Answer → Answer
+settledAnswer s m r t p x Ok = Ok
+settledAnswer s m r t p x More = More
+settledAnswer s m r t p x (Wait q) = Wait (namedBy s m r t p x q)
+settledAnswer s m r t p x (Done n) = Done n
+settledAnswer s m r t p x (Tidied k b) = Tidied k b
+settledAnswer s m r t p x (Refused n k) = Refused n k
+
 -- ---- what the code asks
 
 pub record NodeReady (s : List ℕ) (m r p : ℕ) (x : Session) : Type 0 where
@@ -101,6 +137,10 @@ pub record EarlyReady (s : List ℕ) (m r p : ℕ) (x : Session) : Type 0 where
 pub record StageReady (s : List ℕ) (m r p : ℕ) (x : Session) : Type 0 where
   pub takes : x .stage ≡ 5 → TakeReady s m r p x
   pub early : ¬ (x .stage ≡ 5) → EarlyReady s m r p x
+
+-- A wait is named where the step could be made.
+abbrev pub Nameable : List ℕ → ℕ → ℕ → ℕ → Session → Answer → Type 0
+Nameable s m r p x a = (q : ℕ) → a ≡ Wait q → StageReady s m r p x
 
 -- ---- the runs of the code, as equations
 
@@ -215,7 +255,7 @@ module _ (p : ℕ) (r : Request) (s : State) where
 
 -- ---- the stage of a session record
 
-five-ways : (P : Type 0) (k : ℕ) → ¬ (k ≡ 0) → k ≤ 5 → (k ≡ 1 → P) → (k ≡ 2 → P) → (k ≡ 3 → P) → (k ≡ 4 → P) → (k ≡ 5 → P) → P
+pub five-ways : (P : Type 0) (k : ℕ) → ¬ (k ≡ 0) → k ≤ 5 → (k ≡ 1 → P) → (k ≡ 2 → P) → (k ≡ 3 → P) → (k ≡ 4 → P) → (k ≡ 5 → P) → P
 five-ways P zero n l a b c d e = absurd (n refl)
 five-ways P (suc zero) n l a b c d e = a refl
 five-ways P (suc (suc zero)) n l a b c d e = b refl

@@ -2,8 +2,9 @@
 use mathlib.Core.Path.{_≡_, refl, sym, ap, subst, _∙_}
 use mathlib.Core.Bool.{Bool, true, false, cond, not, _||_}
 use mathlib.Core.List.{List, [], _∷_}
-use mathlib.Core.Logic.{_↔_}
-use Prim.Native.Nat.{ℕ, zero, suc, _≤_}
+use mathlib.Core.Logic.{_↔_, _⊎_, inl, inr}
+use Prim.Native.Nat.{ℕ, zero, suc, _+_, _≤_}
+use native.Mathlib.Decide.{ℕ-discrete}
 use native.Mathlib.Omega.{arith}
 use lib.Dec.{eqb, leb, ltb}
 use lib.ListN.{length, set}
@@ -27,7 +28,10 @@ use Rattle.layout.specs.Row.{Becomes}
 use Rattle.layout.specs.Laid.{sound-stands}
 use Rattle.layout.specs.Back.{holds-means, holds-sound}
 use Rattle.endings.specs.Table.{newlyBegun, unbegun}
+use Rattle.seniority.specs.Seniority.{begunIn, renumberedIn}
 use Rattle.leaving.specs.Words.{asked, commitWords, PutReady, CommitReady}
+use Rattle.seniority.specs.Laws.{renumbered-first}
+use Rattle.leaving.specs.Renumbered.{renumbered-only, renumbered-unbegun}
 use Rattle.leaving.specs.Begun.{begin-becomes}
 use Rattle.leaving.specs.Asking.{put-becomes, put-ready}
 use Rattle.leaving.specs.Commit.{commit-becomes, commit-ready}
@@ -37,7 +41,7 @@ use Rattle.aborting.specs.Abort.{abort-becomes, abort-ready}
 use Rattle.endings.specs.Fresh.{freshStore, Roomy}
 use Rattle.refusals.specs.Refusing.{first-of, begun-in, begin-list, put-list, commit-list, abort-list, begin-refused, put-refused, commit-refused, abort-refused}
 use Rattle.refusals.specs.Coded.{format-refused}
-use Rattle.promises.specs.Relations.{outcome, Calls, Formats, Answered, Around, list-of}
+use Rattle.promises.specs.Relations.{outcome, Renumbered, Others, Calls, Formats, Answered, Around, list-of}
 use Rattle.promises.specs.Assembling.{is-refused, no-refusal, first-not-ending, stands-means, answered-by, answered-refused, set-others}
 
 -- What a call on sound words promises.
@@ -83,8 +87,20 @@ not-begun false n e = go (eqb n 0) refl e
 
 -- ---- begin
 
+-- The other records: the numbers of begun sessions alone.
+begin-others : (t : List Session) (p : ℕ) (y : Session) → Others (C.begin p) t (set (renumberedIn t) p y)
+begin-others t p y q n = go (ℕ-discrete q 0) (ℕ-discrete (session-at t q .begun) 0)
+  where
+    same : session-at (set (renumberedIn t) p y) q ≡ session-at (renumberedIn t) q
+    same = set-others (renumberedIn t) p y q n
+
+    go : Dec (q ≡ 0) → Dec (session-at t q .begun ≡ 0) → (session-at (set (renumberedIn t) p y) q ≡ session-at t q) ⊎ Renumbered q (session-at t q) (session-at (set (renumberedIn t) p y) q)
+    go (yes z) d = inl (same ∙ subst (λ k. session-at (renumberedIn t) k ≡ session-at t k) (sym z) (renumbered-first t))
+    go (no z) (yes e) = inl (same ∙ renumbered-unbegun t q e)
+    go (no z) (no e) = inr (omega (arith, z), e, (session-at (renumberedIn t) q .order, same ∙ renumbered-only t .same q))
+
 pub begin-done : (s : List ℕ) (t : List Session) (p : ℕ) → first-of (begin-list t p) ≡ 0 → Sound s t
-    → Answered (C.begin p) s t C.ok [] s (set t p (newlyBegun (session-at t p))) × Around s s
+    → Answered (C.begin p) s t C.ok [] s (set (renumberedIn t) p (newlyBegun (session-at t p) (suc (begunIn t)))) × Around s s
 unfolding call begun-in
 begin-done s t p e A =
     let B = sound-stands s t A in
@@ -93,9 +109,10 @@ begin-done s t p e A =
     let y = none-true 5 (begun-in t p) [] (λ q. omega (arith, q)) (x .1) in
     let n = session-number p (x .0) in
     let unbegun : session-at t p .begun ≡ 0 = not-begun (eqb p 0) (session-at t p .begun) (y .0) in
-    let becomes = subst (λ z. Becomes s s (set t p (newlyBegun (session-at t p))) (begins p z)) (stands-means s t B) (begin-becomes s t B p (n .0) (n .1) unbegun) in
+    let next = set (renumberedIn t) p (newlyBegun (session-at t p) (suc (begunIn t))) in
+    let becomes = subst (λ z. Becomes s s next (begins p z)) (stands-means s t B) (begin-becomes s t B p (n .0) (n .1) unbegun) in
     answered-by (C.begin p) s t A (answer ok (begins p σ)) (begin-refused s t A p (answer ok (begins p σ)) ∙ accept (first-of (begin-list t p)) (answer ok (begins p σ)) (answer (refused (first-of (begin-list t p)) 0) σ) e)
-    C.ok [] s (set t p (newlyBegun (session-at t p))) refl refl becomes (λ q. absurd (true≢false {b = false} q refl)) (no-refusal C.ok refl) (set-others t p (newlyBegun (session-at t p))) refl
+    C.ok [] s next refl refl becomes (λ q. absurd (true≢false {b = false} q refl)) (no-refusal C.ok refl) (begin-others t p (newlyBegun (session-at t p) (suc (begunIn t)))) refl
 
 -- ---- put
 
@@ -243,9 +260,11 @@ session-least p cs e = session-number p (none-true 4 (no-session p) cs (λ q. om
 pub any-party : (p : ℕ) (cs : List (ℕ × Bool)) → first-of ((4, no-party p) ∷ cs) ≡ 0 → p ≤ width
 any-party p cs e = omega (arith, leb-not (suc width) p (none-true 4 (no-party p) cs (λ q. omega (arith, q)) e .0))
 
-pub begin-run : (s : List ℕ) (t : List Session) (p : ℕ) {x y : Session} {u : List Session} → Sound s t → first-of (begin-list t p) ≡ 0
-    → x ≡ session-at t p → y ≡ newlyBegun x → u ≡ set t p y → Serves (C.begin p) s t C.ok [] s u
-begin-run s t p A z a b c = subst (λ v. Serves (C.begin p) s t C.ok [] s v) (sym (c ∙ ap (set t p) (b ∙ ap newlyBegun a))) (begin-done s t p z A)
+pub begin-run : (s : List ℕ) (t : List Session) (p : ℕ) {x y : Session} {v u : List Session} {n : ℕ} → Sound s t → first-of (begin-list t p) ≡ 0
+    → x ≡ session-at t p → v ≡ renumberedIn t → n ≡ begunIn t → y ≡ newlyBegun x (n + 1) → u ≡ set v p y → Serves (C.begin p) s t C.ok [] s u
+begin-run s t p {x} {y} {v} {u} {n} A z a b c d e =
+    let k : n + 1 ≡ suc (begunIn t) = omega (arith, c) in
+    subst (λ w. Serves (C.begin p) s t C.ok [] s w) (sym (e ∙ ap (set v p) (d ∙ ap (newlyBegun x) k ∙ ap (λ w. newlyBegun w (suc (begunIn t))) a) ∙ ap (λ w. set w p (newlyBegun (session-at t p) (suc (begunIn t)))) b)) (begin-done s t p z A)
 
 pub put-run : (s : List ℕ) (t : List Session) (p c e f g : ℕ) {m r : ℕ} {x y : Session} {u : List Session} → Sound s t → first-of (put-list (M-of s) t p c e f g) ≡ 0
     → m ≡ M-of s → r ≡ R-of s → x ≡ session-at t p → y ≡ asked s m r x c e f g → u ≡ set t p y → Serves (C.put p c e f g) s t C.ok [] s u

@@ -22,7 +22,7 @@ use Rattle.promises.specs.Relations.{Calls, Formats}
 use Rattle.promises.specs.Demands.{Lending, Returns, words, words-laws, words-demand-3, words-made, fresh-known, fresh-new}
 use Rattle.promises.specs.Promised.{calls-return, formats-return}
 use Rattle.promises.specs.Ways.{Serves, begin-done, begin-refuses, put-done, put-refuses, commit-done, commit-refuses, abort-done, abort-refuses, format-done, format-refuses}
-use Rattle.promises.specs.Stepping.{stageStep}
+use Rattle.promises.specs.Stepping.{stageStep, settledAnswer}
 use Rattle.promises.specs.Steps.{step-done, step-refuses}
 
 -- Some return of a call: the answer, words and table that it leaves, and that they keep its promise. Only step has a list.
@@ -63,7 +63,9 @@ can (C.put p c e f g) s t A = go (ℕ-discrete (first-of (put-list (M-of s) t p 
 can (C.step p l) s t A = go (ℕ-discrete (first-of (step-list t p)) 0)
   where
     go : Dec (first-of (step-list t p) ≡ 0) → Can (C.step p l) s t
-    go (yes z) = (stageStep s (M-of s) (R-of s) (length l) p (session-at t p) .answer, _, _, _, serving (C.step p l) s t _ _ _ _ A (step-done s t p l A z))
+    go (yes z) =
+        let x = session-at t p in
+        (settledAnswer s (M-of s) (R-of s) t p x (stageStep s (M-of s) (R-of s) (length l) p x .answer), _, _, _, serving (C.step p l) s t _ _ _ _ A (step-done s t p l A z))
     go (no n) = (Refused (first-of (step-list t p)) 0, s, t, l, serving (C.step p l) s t _ l s t A (step-refuses s t p l _ A refl n))
 can (C.commit p) s t A = go (ℕ-discrete (first-of (commit-list t p)) 0)
   where

@@ -17,11 +17,11 @@ use Rattle.serial.specs.Serial.{true≢false}
 use Rattle.outcomes.specs.Said.{Stepped, said}
 use Rattle.machine.specs.Logic.{eqb-is, eqb-not, eqb-no, leb-yes}
 use Rattle.machine.specs.Tree.{mapE}
-use Rattle.machine.specs.Holders.{width, latch-word, elem, latch-blockers}
+use Rattle.machine.specs.Holders.{width, latch-word, latch-blockers}
 use Rattle.machine.specs.State.{State, Root, Request, Outcome, top, enter, at, refused}
 use Rattle.machine.specs.Descent.{lone}
 use Rattle.machine.specs.Steps.{answer, ended, goes-on, guarded, fills, whole-root, halved-root, enter-step, next-step}
-use Rattle.machine.specs.Parts.{Free}
+use Rattle.machine.specs.InTheWay.{Free}
 use Rattle.machine.specs.Sound as S
 use Rattle.meaning.specs.Reading.{Mark, Numbered, erase, M-of}
 use Rattle.meaning.specs.Around.{num-of}
@@ -128,10 +128,9 @@ module _ (s : List ℕ) (t : List Session) (p : ℕ) (l : p ≤ width) (st : ses
     unfolding enterFree enterFull
     free-is b f eb ef = ap₂ (λ c d. cond c (cond d Hz (rootRefused s m x)) Wz) eb ef
 
-    waiting : (q need : ℕ) (o : Outcome) (bs : List ℕ) → elem (q - 1) bs ≡ true → Steps (rootWaits s x q) (guarded bs need p r σ o)
+    waiting : (q need : ℕ) (o : Outcome) (bs cs : List ℕ) → bs ≡ (q - 1) ∷ cs → Steps (rootWaits s x q) (guarded bs need p r σ o)
     unfolding rootWaits guarded stands
-    waiting q need o [] e = absurd (true≢false e refl)
-    waiting q need o (b ∷ bs) e = wait-moves s t stands p (q - 1) b bs e
+    waiting q need o bs cs e = subst (λ l. Steps (rootWaits s x q) (guarded l need p r σ o)) (sym e) (wait-moves s t stands p (q - 1) (q - 1) cs refl)
 
     -- From what is read of the words and the two effects.
     guard : (v w : ℕ) (b f : Bool) (need : ℕ) (oh ow : State) → rootInWay s m p ≡ firstInWay p v w → splitsRoot s m p ≡ b → hasTwo s m ≡ f → f ≡ leb need (σ .free)
@@ -153,7 +152,8 @@ module _ (s : List ℕ) (t : List Session) (p : ℕ) (l : p ≤ width) (st : ses
             (subst (λ y. Steps y (cond (leb (cond b need 0) (σ .free)) (goes-on p r (at k) (cond b oh ow)) refusal)) (sym (free-is b f eb ef))
             (chosen b f need oh ow en (hs (fr .0) (fr .1)) (ws (fr .0) (fr .1))))
         go false e =
-            waiting (firstInWay p v w) (cond b need 0) (goes-on p r (at k) (cond b oh ow)) (latch-blockers p (v ∷ w ∷ [])) (way-some p v w (eqb-not (firstInWay p v w) 0 e))
+            let h = way-some p v w (eqb-not (firstInWay p v w) 0 e) in
+            waiting (firstInWay p v w) (cond b need 0) (goes-on p r (at k) (cond b oh ow)) (latch-blockers p (v ∷ w ∷ [])) (h .0) (h .1)
 
   -- ---- the root stays
 

@@ -23,7 +23,7 @@ use Rattle.machine.specs.Tree.{mapE}
 use Rattle.machine.specs.Holders.{latch-word, elem, latch-blockers}
 use Rattle.machine.specs.State.{top}
 use Rattle.machine.specs.Descent.{lone}
-use Rattle.machine.specs.Parts.{Free}
+use Rattle.machine.specs.InTheWay.{Free}
 use Rattle.machine.specs.Sound.{times}
 use Rattle.meaning.specs.Reading.{Chained, Mark, Numbered, erase, M-of}
 use Rattle.meaning.specs.Around.{here, num-of}
@@ -36,13 +36,14 @@ use Rattle.splits.specs.Splits.{CanSplitRoot, splitRoot, splitRootHalf, putHalv
 use Rattle.walking.specs.Traces.{Trace, trace-none, trace-pop}
 use Rattle.walking.specs.Holes.{fits-usable, ours-has}
 use Rattle.walking.specs.Hands.{one-self}
+use Rattle.walking.specs.Ways.{Way, clear, shut, way-two}
 use Rattle.walking.specs.Levels.{length-mapE, mapE-bounds}
 use Rattle.walking.specs.Roots.{root-mid, root-words, root-half}
 use Rattle.root_entry.specs.RootEntry.{dropsRoot}
 
 -- ---- latches
 
--- Nobody's latch is in the way, or a party's is that the machine names.
+-- Nobody's latch is in the way, or one is whose party the machine lists first.
 in-way-free : (p w : ℕ) → inWay p w ≡ 0 → Free p w
 unfolding inWay
 in-way-free p w e = go (eqb w 0) refl (eqb w (p + 1)) refl e
@@ -52,16 +53,6 @@ in-way-free p w e = go (eqb w 0) refl (eqb w (p + 1)) refl e
     go false f true g q = inr (omega (arith, eqb-is w (p + 1) g))
     go false f false g q = inl q
 
--- A latch word in the way is another party's.
-in-way-other : (p w : ℕ) → ¬ (inWay p w ≡ 0) → (inWay p w ≡ w) × ¬ (w ≡ 0) × ¬ (w ≡ latch-word p)
-unfolding inWay
-in-way-other p w n = go (eqb w 0) refl (eqb w (p + 1)) refl n
-  where
-    go : (b : Bool) → eqb w 0 ≡ b → (c : Bool) → eqb w (p + 1) ≡ c → ¬ (cond b 0 (cond c 0 w) ≡ 0) → (cond b 0 (cond c 0 w) ≡ w) × ¬ (w ≡ 0) × ¬ (w ≡ latch-word p)
-    go true f c g q = absurd (q refl)
-    go false f true g q = absurd (q refl)
-    go false f false g q = (refl, eqb-not w 0 f, λ e. eqb-not w (p + 1) g (omega (arith, e)))
-
 free-none : (p w : ℕ) (l : List ℕ) → Free p w → cond (eqb w 0 || eqb w (latch-word p) || elem (w - 1) l) l ((w - 1) ∷ l) ≡ l
 free-none p w l (inl e) = ap (λ b. cond (b || eqb w (latch-word p) || elem (w - 1) l) l ((w - 1) ∷ l)) (eqb-yes w 0 e)
 free-none p w l (inr e) = go (eqb w 0)
@@ -69,14 +60,6 @@ free-none p w l (inr e) = go (eqb w 0)
     go : (b : Bool) → cond (b || eqb w (latch-word p) || elem (w - 1) l) l ((w - 1) ∷ l) ≡ l
     go true = refl
     go false = ap (λ c. cond (c || elem (w - 1) l) l ((w - 1) ∷ l)) (eqb-yes w (latch-word p) e)
-
-other-elem : (p w : ℕ) (l : List ℕ) → ¬ (w ≡ 0) → ¬ (w ≡ latch-word p) → elem (w - 1) (cond (eqb w 0 || eqb w (latch-word p) || elem (w - 1) l) l ((w - 1) ∷ l)) ≡ true
-other-elem p w l n o =
-    ap₂ (λ b c. elem (w - 1) (cond (b || c || elem (w - 1) l) l ((w - 1) ∷ l))) (eqb-no w 0 n) (eqb-no w (latch-word p) o) ∙ go (elem (w - 1) l) refl
-  where
-    go : (b : Bool) → elem (w - 1) l ≡ b → elem (w - 1) (cond b l ((w - 1) ∷ l)) ≡ true
-    go true e = e
-    go false e = ap (λ c. c || elem (w - 1) l) (eqb-yes (w - 1) (w - 1) refl)
 
 pub way-free : (p v w : ℕ) → firstInWay p v w ≡ 0 → Free p v × Free p w
 unfolding firstInWay
@@ -92,22 +75,12 @@ way-none p v w e =
     let f = way-free p v w e in
     ap (λ l. cond (eqb v 0 || eqb v (latch-word p) || elem (v - 1) l) l ((v - 1) ∷ l)) (free-none p w [] (f .1)) ∙ free-none p v [] (f .0)
 
-pub way-some : (p v w : ℕ) → ¬ (firstInWay p v w ≡ 0) → elem (firstInWay p v w - 1) (latch-blockers p (v ∷ w ∷ [])) ≡ true
-unfolding firstInWay latch-blockers
-way-some p v w n = go (eqb (inWay p v) 0) refl n
+pub way-some : (p v w : ℕ) → ¬ (firstInWay p v w ≡ 0) → (cs : List ℕ) × (latch-blockers p (v ∷ w ∷ []) ≡ (firstInWay p v w - 1) ∷ cs)
+way-some p v w n = go (way-two p v w)
   where
-    l : List ℕ
-    l = cond (eqb w 0 || eqb w (latch-word p) || false) [] ((w - 1) ∷ [])
-
-    go : (b : Bool) → eqb (inWay p v) 0 ≡ b → ¬ (cond b (inWay p w) (inWay p v) ≡ 0)
-        → elem (cond b (inWay p w) (inWay p v) - 1) (cond (eqb v 0 || eqb v (latch-word p) || elem (v - 1) l) l ((v - 1) ∷ l)) ≡ true
-    go true f q =
-        let o = in-way-other p w q in
-        subst (λ z. elem (inWay p w - 1) z ≡ true) (sym (free-none p v l (in-way-free p v (eqb-is (inWay p v) 0 f))))
-        (ap (λ z. elem (z - 1) l) (o .0) ∙ other-elem p w [] (o .1) (o .2))
-    go false f q =
-        let o = in-way-other p v q in
-        ap (λ z. elem (z - 1) (cond (eqb v 0 || eqb v (latch-word p) || elem (v - 1) l) l ((v - 1) ∷ l))) (o .0) ∙ other-elem p v l (o .1) (o .2)
+    go : Way (firstInWay p v w) (latch-blockers p (v ∷ w ∷ [])) → (cs : List ℕ) × (latch-blockers p (v ∷ w ∷ []) ≡ (firstInWay p v w - 1) ∷ cs)
+    go (clear e f) = absurd (n e)
+    go (shut k c cs f g) = (cs, f ∙ ap (λ i. i ∷ cs) (sym g))
 
 -- ---- free records
 

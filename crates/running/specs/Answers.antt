@@ -1,6 +1,7 @@
 -- Which answer it is, as code tests it.
-use mathlib.Core.Path.{_≡_, refl}
+use mathlib.Core.Path.{_≡_, refl, ap}
 use mathlib.Core.Bool.{Bool, true, false}
+use mathlib.Core.List.{List}
 use Prim.Native.Nat.{ℕ}
 use native.Mathlib.Omega.{arith}
 use Rattle.serial.specs.Serial.{true≢false}
@@ -8,6 +9,8 @@ use Rattle.serial.specs.Calls as C
 use Rattle.outcomes.specs.declared.Answer.{Answer}
 use Rattle.outcomes.specs.declared.Answer.the-variants.{Ok, More, Wait, Done, Tidied, Refused}
 use Rattle.outcomes.specs.Said.{said}
+use Rattle.sessions.specs.declared.Session.{Session}
+use Rattle.promises.specs.Stepping.{settledAnswer}
 
 abbrev pub isMore : Answer → Bool
 isMore Ok = false
@@ -24,6 +27,18 @@ isOk (Wait p) = false
 isOk (Done n) = false
 isOk (Tidied k b) = false
 isOk (Refused n k) = false
+
+-- Whom a wait names is beside it.
+pub settled-more : (s : List ℕ) (m r : ℕ) (t : List Session) (p : ℕ) (x : Session) (a : Answer) → isMore (settledAnswer s m r t p x a) ≡ isMore a
+settled-more s m r t p x Ok = refl
+settled-more s m r t p x More = refl
+settled-more s m r t p x (Wait q) = refl
+settled-more s m r t p x (Done n) = refl
+settled-more s m r t p x (Tidied k b) = refl
+settled-more s m r t p x (Refused n k) = refl
+
+pub not-wait : (q : ℕ) → More ≡ Wait q → ⊥
+not-wait q e = true≢false {b = true} refl (ap isMore e)
 
 pub is-more : (a : Answer) → isMore a ≡ true → a ≡ More
 is-more Ok e = absurd (true≢false e refl)

@@ -11,11 +11,9 @@ use Rattle.groups.specs.Descriptor.{descriptorAt, decodeDescriptor}
 use Rattle.sessions.specs.declared.Session.{Session}
 use Rattle.sessions.specs.Sessions.{session-at}
 use Rattle.serial.specs.Serial.{true≢false}
-use Rattle.serial.specs.Calls as C
 use Rattle.outcomes.specs.declared.Answer as D
 use Rattle.outcomes.specs.declared.Answer.the-variants.{More, Wait, Done, Refused}
 use Rattle.outcomes.specs.declared.Moved.{Moved}
-use Rattle.outcomes.specs.Said.{said}
 use Rattle.machine.specs.Holders.{width}
 use Rattle.meaning.specs.Reading.{M-of, R-of}
 use Rattle.meaning.specs.Sound.{Sound}
@@ -52,8 +50,8 @@ pub record Scannable (s : List ℕ) (m r p : ℕ) (x : Session) (from : ℕ) : T
   pub hint : Hint s m r x from
 
 -- A step, and where the next one of a scan stands.
-pub record SatServes (m r p : ℕ) (x : Session) (s l : List ℕ) (a : C.Answer) (l′ s′ : List ℕ) (y : Session) (n : ℕ) : Type 0 where
-  pub serves : SeatServes p x s l a l′ s′ y
+pub record SatServes (m r p : ℕ) (x : Session) (s l : List ℕ) (a : D.Answer) (l′ s′ : List ℕ) (y : Session) (n : ℕ) : Type 0 where
+  pub serves : SeatServes m r p x s l a l′ s′ y
   pub hint : Hint s′ m r y n
 
 pub scan-ready : {s : List ℕ} {m r p : ℕ} {x : Session} {from : ℕ} → Scannable s m r p x from → TakeReady s m r p x
@@ -95,12 +93,12 @@ module _ (s : List ℕ) (T : List Session) (S : Sound s T) (p : ℕ) (party : p 
   stood m r x a b c = subst (λ m. Stood m r x) (sym a) (subst (λ r. Stood (M-of s) r x) (sym b) (subst (Stood (M-of s) (R-of s)) (sym c) base))
 
 pub scan-serves : (s l : List ℕ) (m r p : ℕ) (x : Session) {from d n : ℕ} {s′ l′ : List ℕ} {w : Moved} → Scannable s m r p x from → d ≡ nextTaken s m r x
-    → LeavesBoth s′ w l′ (takeStep s m r (length l) p x) (over (takeWritten s m r (length l) p x) l) → n ≡ placeAfter s′ m d (w .answer) → SatServes m r p x s l (said (w .answer)) l′ s′ (w .session) n
+    → LeavesBoth s′ w l′ (takeStep s m r (length l) p x) (over (takeWritten s m r (length l) p x) l) → n ≡ placeAfter s′ m d (w .answer) → SatServes m r p x s l (w .answer) l′ s′ (w .session) n
 unfolding placeAfter
 scan-serves s l m r p x {from} {d} {n} {s′} {l′} {w} K e h i = record { serves = serves; hint = λ ne. go (isMore (w .answer)) refl ne }
   where
-    serves : SeatServes p x s l (said (w .answer)) l′ s′ (w .session)
-    serves = seat-serves p x s l (K .seated .entries) (K .seated .records) (stage-take s l m r p x (K .stage) h)
+    serves : SeatServes m r p x s l (w .answer) l′ s′ (w .session)
+    serves = seat-serves m r p x s l (K .seated) (stage-take s l m r p x (K .stage) h)
 
     served : Sound s′ (set (K .seated .table) p (w .session)) × (M-of s′ ≡ m) × (R-of s′ ≡ r)
     served =
@@ -124,5 +122,5 @@ pub early-ready : {s : List ℕ} {m r p : ℕ} {x : Session} → Seated s m r p 
 early-ready {s} {m} {r} {p} {x} K g = seat-can s m r p x K .early g
 
 pub early-serves : (s l : List ℕ) (m r p : ℕ) (x : Session) {s′ : List ℕ} {w : Moved} → Seated s m r p x → ¬ (x .stage ≡ 5) → Leaves s′ w (earlyStep s m r p x)
-    → SatServes m r p x s l (said (w .answer)) l s′ (w .session) 0
-early-serves s l m r p x K g h = record { serves = seat-serves p x s l (K .entries) (K .records) (stage-early s l m r p x g h); hint = λ e. absurd (e refl) }
+    → SatServes m r p x s l (w .answer) l s′ (w .session) 0
+early-serves s l m r p x K g h = record { serves = seat-serves m r p x s l K (stage-early s l m r p x g h); hint = λ e. absurd (e refl) }

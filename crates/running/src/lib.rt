@@ -3,8 +3,9 @@
 // The caller has tested that store and table are sound. A run is a list of ordinary steps, all answered more but the last, and each keeps what the crate
 // promises says of a step (promises/specs/Runs). Only the first is tested for a refusal: a step that is answered more leaves store and table sound and its
 // party with a request in hand (specs/Making). The loop has only its party's record in hand: whatever table has that record, the step is that table's
-// (specs/Seats). A scan goes on from the descriptor that its last step took (specs/Scans); the place is handed on inside a run and stored nowhere. It rests on
-// refusals for the numbers and the party's record, on stepping and taking for the steps, on groups for the descriptor that is next.
+// (specs/Seats). Whom a wait names is asked of the table, once, after the loop. A scan goes on from the descriptor that its last step took (specs/Scans); the
+// place is handed on inside a run and stored nowhere. It rests on refusals for the numbers and the party's record, on stepping and taking for the steps, on
+// groups for the descriptor that is next.
 ghost use mathlib.Core.Path.{_≡_};
 ghost use Rattle.words.specs.Store.{HasRecord};
 ghost use Rattle.outcomes.specs.Said.{said};
@@ -95,7 +96,7 @@ fn scan_step(
     from: usize,
 ) -> Sat
     requires { ⌜ Scannable (now store) m r p x from ⌝ }
-    ensures { λ z. ⌜ SatServes m r p x (now (store .entry)) (now (list .entry)) (said (z .answer)) (now (list .exit)) (now (store .exit)) (z .session) (z .next) ⌝ }
+    ensures { λ z. ⌜ SatServes m r p x (now (store .entry)) (now (list .entry)) (z .answer) (now (list .exit)) (now (store .exit)) (z .session) (z .next) ⌝ }
 {
     let d = place_of(store, m, r, x, from);
     let z = taking::take_at(store, list, m, r, p, x, d);
@@ -120,7 +121,7 @@ fn seat_step(
     from: usize,
 ) -> Sat
     requires { ⌜ Seated (now store) m r p x × Hint (now store) m r x from ⌝ }
-    ensures { λ z. ⌜ SatServes m r p x (now (store .entry)) (now (list .entry)) (said (z .answer)) (now (list .exit)) (now (store .exit)) (z .session) (z .next) ⌝ }
+    ensures { λ z. ⌜ SatServes m r p x (now (store .entry)) (now (list .entry)) (z .answer) (now (list .exit)) (now (store .exit)) (z .session) (z .next) ⌝ }
 {
     if x.stage == 5 {
         return scan_step(store, list, m, r, p, x, from);
@@ -166,7 +167,7 @@ fn run_seat(
     bound: u32,
 ) -> Went
     requires { ⌜ Seated (now store) m r p x ⌝ }
-    ensures { λ z. ⌜ SeatRuns p bound x (now (store .entry)) (now (list .entry)) (said (z .sat .answer)) (z .steps) (now (list .exit)) (now (store .exit)) (z .sat .session) ⌝ }
+    ensures { λ z. ⌜ SeatRuns m r p bound x (now (store .entry)) (now (list .entry)) (z .sat .answer) (z .steps) (now (list .exit)) (now (store .exit)) (z .sat .session) ⌝ }
 {
     let limit = limit_of(bound);
     let mut sat = Sat {
@@ -215,9 +216,10 @@ pub fn run(store: &mut [u32], list: &mut [u32], t: [Session; PARTIES], p: u32, b
     let answer = sat.answer;
     let y = sat.session;
     let after = refusals::settle(t, p, y);
+    let named = stepping::name_wait(store, m, r, after, p, y, answer);
     Ran {
         table: after,
-        answer: answer,
+        answer: named,
         steps: went.steps,
     }
 }

@@ -65,6 +65,8 @@ pub const LAST: u32 = 11;
 
 const UNDO: u32 = 12;
 
+pub const ORDER: u32 = 13;
+
 // A word that no node or descriptor uses: here the highest key below it, which its father's boundary is made of.
 const HIGHEST: u32 = 17;
 

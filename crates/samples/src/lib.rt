@@ -19,6 +19,7 @@ use build::LATCH;
 use build::LOCATE;
 use build::LOW;
 use build::NEXT;
+use build::ORDER;
 use build::PINS;
 use build::SAVED;
 use build::SHARE;
@@ -32,6 +33,7 @@ use build::member;
 use build::node;
 use build::undo;
 use lines::number;
+use words::PARTIES;
 use words::STORE;
 use words::WORDS;
 use words::Words;
@@ -158,7 +160,12 @@ fn stage(letter: u8) -> u32 {
     }
 }
 
-// A session that puts a request begins; a party that has come to node c has its latch.
+// Session p's place in the order of begins, if no line gives it another: the last one's is 1.
+fn order(p: u32) -> u32 {
+    std::num::wrapping_sub_u32(PARTIES as u32, p)
+}
+
+// A session that puts a request begins; a session that begins has its place; a party that has come to node c has its latch.
 fn add_party(w: &mut Words, letter: u8, a: u32, c: u32) {
     let to = stage(letter);
     if to != 0 {
@@ -167,7 +174,9 @@ fn add_party(w: &mut Words, letter: u8, a: u32, c: u32) {
     match letter {
         b'p' => if a != 0 {
             put(w, party_place(a, BEGUN), 1);
+            put(w, party_place(a, ORDER), order(a));
         },
+        b'b' => put(w, party_place(a, ORDER), order(a)),
         b'h' => set_record(w, c, LATCH, std::num::wrapping_add_u32(a, 1)),
         _ => {}
     }

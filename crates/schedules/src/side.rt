@@ -8,13 +8,16 @@ pub const PARTIES: u32 = 17;
 pub const SESSIONS: u32 = PARTIES - 1;
 
 // How many words a party has, the header, an entry and a record.
-pub const SESSION_WORDS: usize = 13;
+pub const SESSION_WORDS: usize = 14;
 
 pub const HEADER_WORDS: usize = 16;
 
 pub const ENTRY_WORDS: usize = 3;
 
 pub const RECORD_WORDS: usize = 20;
+
+// The word of a party that is its number in the order of begins.
+pub const ORDER: usize = 13;
 
 // The words of the session table; behind it lies the store.
 pub const TABLE: usize = PARTIES as usize * SESSION_WORDS;

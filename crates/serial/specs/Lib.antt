@@ -5,6 +5,7 @@ pub mod Footprints
 pub mod Locks
 pub mod LockMachine
 pub mod Calls
+pub mod Line
 pub mod Unfinished
 pub mod Values
 pub mod Example

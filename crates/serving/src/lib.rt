@@ -20,7 +20,7 @@ pub fn begin(store: &[u32], t: [Session; PARTIES], p: u32) -> Served
     let n = refusals::begin_refusal(t, p);
     if n != 0 {
         return Served {
-            table: t,
+            table: t, // numbers as they were
             answer: Answer::Refused(n, 0),
         };
     }

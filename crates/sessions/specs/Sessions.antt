@@ -1,6 +1,8 @@
 -- The session table: a list of session records, party p's at place p.
 use mathlib.Core.List.{List}
+use mathlib.Core.Bool.{Bool, not}
 use Prim.Native.Nat.{ℕ, suc}
+use lib.Dec.{eqb}
 use lib.ListN.{getD}
 use Rattle.locks.specs.Holders.{width}
 use Rattle.sessions.specs.declared.Session.{Session}
@@ -26,8 +28,36 @@ idle-session =
       high = 0;
       last = 0;
       undo = 0;
+      order = 0;
     }
 
 -- party p's record
 abbrev pub session-at : List Session → ℕ → Session
 session-at t p = getD t p idle-session
+
+unfoldable pub isBegun : Session → Bool
+isBegun x = not (eqb (x .begun) 0)
+
+-- whether a session is begun, and its place in the order of begins: what no step changes
+abbrev pub tenure : Session → ℕ × ℕ
+tenure x = (x .begun, x .order)
+
+-- at another place in the order of begins
+abbrev pub numbered : ℕ → Session → Session
+numbered n x =
+    record {
+      begun = x .begun;
+      code = x .code;
+      entry = x .entry;
+      first = x .first;
+      second = x .second;
+      stage = x .stage;
+      target = x .target;
+      at = x .at;
+      level = x .level;
+      low = x .low;
+      high = x .high;
+      last = x .last;
+      undo = x .undo;
+      order = n;
+    }

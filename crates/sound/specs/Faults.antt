@@ -1,4 +1,5 @@
--- The parts of "Sound means" (document 01), numbered in the order in which they are tested; 0 is no fault.
+-- The parts of "Sound means" (document 01), numbered in the order in which they are tested; 0 is no fault. Number 11 is not the test's: a lent
+-- table that has not a record for each party.
 use Prim.Native.Nat.{ℕ}
 
 abbrev pub sizes-fault : ℕ
@@ -30,3 +31,7 @@ free-fault = 9
 
 abbrev pub unreached-fault : ℕ
 unreached-fault = 10
+
+-- document 02, M-101
+abbrev pub orders-fault : ℕ
+orders-fault = 12

@@ -1,4 +1,4 @@
--- "Sound means" (document 01), of the words of a store and a session table: the passes of the test, one after the other.
+-- "Sound means" (document 01, and document 02, M-101), of the words of a store and a session table: the passes of the test, one after the other.
 use mathlib.Core.List.{List}
 use mathlib.Core.Bool.{Bool, true, cond, not, _&&_}
 use Prim.Native.Nat.{ℕ}
@@ -8,6 +8,7 @@ use Rattle.words.specs.Store.{wordOf}
 use Rattle.words.specs.Header.{headerWord, entriesPlace, recordsPlace, firstPlace, freePlace}
 use Rattle.groups.specs.Descriptor.{descriptorAt}
 use Rattle.sessions.specs.declared.Session.{Session}
+use Rattle.seniority.specs.Seniority.{distinctIn}
 use Rattle.marks.specs.Marks.{free-mark}
 use Rattle.marks.specs.Trail.{Trail, Turn, turn, chainOf}
 use Rattle.parties.specs.Parties.{partiesOk, standingAtNodes, allUndos}
@@ -16,7 +17,7 @@ use Rattle.tree_walk.specs.TreeWalk.{Tour, rootTour}
 use Rattle.holders.specs.Holders.{begunMask, entriesFrom}
 use Rattle.holdings.specs.Holdings.{allGroups}
 use Rattle.sound.specs.declared.Checked.{Checked}
-use Rattle.sound.specs.Faults.{sizes-fault, entries-fault, zero-fault, tree-fault, requests-fault, latches-fault, undos-fault, groups-fault, free-fault, unreached-fault}
+use Rattle.sound.specs.Faults.{sizes-fault, entries-fault, zero-fault, tree-fault, requests-fault, latches-fault, undos-fault, groups-fault, free-fault, unreached-fault, orders-fault}
 use Rattle.sound.specs.Sizes.{sizesOk}
 
 abbrev pub failed : ℕ → Checked
@@ -86,9 +87,13 @@ faultIn s m r t =
     (cond (lowestOk s m r) (afterTree s m r (begunMask t) t (rootTour s m r (replicate 4097 0) (replicate 4097 0))) (failed zero-fault))
     (failed entries-fault)
 
+-- the order of begins, where nothing was found
+unfoldable pub ordersThen : List Session → Checked → Checked
+ordersThen t c = cond (eqb (c .fault) 0) (cond (distinctIn t) c (failed orders-fault)) c
+
 -- the first fault, or 0 and how many records are free
 unfoldable pub firstFault : List ℕ → List Session → Checked
-firstFault s t = cond (sizesOk s) (faultIn s (headerWord s entriesPlace) (headerWord s recordsPlace) t) (failed sizes-fault)
+firstFault s t = cond (sizesOk s) (ordersThen t (faultIn s (headerWord s entriesPlace) (headerWord s recordsPlace) t)) (failed sizes-fault)
 
 -- sound
 unfoldable pub isSound : List ℕ → List Session → Bool

@@ -1,17 +1,17 @@
-// Sound: the test that a store and a session table are sound, in document 01's sense ("Sound means").
+// Sound: the test that a store and a session table are sound, in document 01's sense ("Sound means"), with document 02's clause of M-101.
 //
 // `first_fault` runs the passes one after the other and answers the first part that is broken, or that none is and how many records are
 // free; `is_sound` answers whether none is. Neither asks anything of the words that it is given. Each result EQUALS a definition
 // of specs/Sound (`firstFault`, `isSound`); specs/Sizes has the sizes that format gives, specs/Faults the numbers of the parts. The time is
-// linear in the words of the store. It rests on the crates words, groups, sessions, marks, undo_chains, parties, tree_walk, holders and
-// holdings.
+// linear in the words of the store. It rests on the crates words, groups, sessions, seniority, marks, undo_chains, parties, tree_walk, holders
+// and holdings.
 ghost use mathlib.Core.Path.{_≡_};
 ghost use Prim.Native.Nat.{_+_, _*_, _≤_, _<_};
 ghost use lib.ListN.{length};
 ghost use Rattle.marks.specs.Marks.{HasRecords};
 ghost use Rattle.marks.specs.Trail.{Ends};
 ghost use Rattle.sound.specs.Sizes.{sizesOk};
-ghost use Rattle.sound.specs.Sound.{failed, lowestOk, freeFrom, finishOf, groupsThen, undosThen, partiesThen, faultIn, firstFault, isSound};
+ghost use Rattle.sound.specs.Sound.{failed, lowestOk, freeFrom, finishOf, groupsThen, undosThen, partiesThen, faultIn, ordersThen, firstFault, isSound};
 use marks::Chain;
 use sessions::PARTIES;
 use sessions::Session;
@@ -52,6 +52,9 @@ pub const FREE_CHAIN: u32 = 9;
 
 // "every record is reached": one is not
 pub const UNREACHED: u32 = 10;
+
+// "no two begun sessions share a number" (document 02, M-101); 11 is the number of a lent table that is not of 17 records
+pub const ORDERS: u32 = 12;
 
 // The test's answer: the first part that is broken, 0 for none, and, where it is none, how many records are free.
 pub struct Checked {
@@ -300,6 +303,19 @@ fn fault_in(store: &[u32], m: usize, r: usize, t: [Session; PARTIES]) -> Checked
     parties_then(store, &mut seen, &order, m, r, begun, t, w)
 }
 
+// What was found, and the order of begins where that is nothing.
+fn orders_then(t: [Session; PARTIES], c: Checked) -> Checked
+    ensures { λ d. ⌜ d ≡ ordersThen t c ⌝ }
+{
+    if c.fault != 0 {
+        return c;
+    }
+    if !seniority::distinct(t) {
+        return broken(ORDERS);
+    }
+    c
+}
+
 // The first part that is broken, or none and how many records are free.
 pub fn first_fault(store: &[u32], t: [Session; PARTIES]) -> Checked
     ensures { λ c. ⌜ c ≡ firstFault (now (store .entry)) t ⌝ }
@@ -309,7 +325,8 @@ pub fn first_fault(store: &[u32], t: [Session; PARTIES]) -> Checked
     }
     let m = words::entries(store) as usize;
     let r = words::records(store) as usize;
-    fault_in(store, m, r, t)
+    let c = fault_in(store, m, r, t);
+    orders_then(t, c)
 }
 
 // The store and the table are sound.

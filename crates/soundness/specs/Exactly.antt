@@ -154,6 +154,7 @@ module _ (s : List ℕ) (t : List Session) (T : Table t) (D : S.Sound s t) where
     free = record { ends = D .free-ends; reached = all-met };
     all-reached = λ i a b. omega (arith, D .once i a b);
     seats = T .seats;
+    orders = D .state .orders;
   }
 
 -- ---- both

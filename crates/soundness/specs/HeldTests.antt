@@ -17,13 +17,13 @@ use Rattle.locks.specs.Bits.{held-same, held-other, holds-none}
 use Rattle.words.specs.Entries.{entryWord}
 use Rattle.groups.specs.declared.Descriptor.{Descriptor}
 use Rattle.sessions.specs.declared.Session.{Session}
-use Rattle.sessions.specs.Sessions.{idle-session, session-at}
+use Rattle.sessions.specs.Sessions.{idle-session, session-at, isBegun}
 use Rattle.machine.specs.State.{Entry, State, no-entry, idle, entryOf, sessionOf}
 use Rattle.machine.specs.Steps.{rule}
 use Rattle.machine.specs.View.{holders}
 use Rattle.meaning.specs.Reading.{entries-of, sessions-of, M-of, R-of, meaning}
 use Rattle.passing.specs.declared.Asked.{Asked}
-use Rattle.holders.specs.Holders.{within, holdersOk, withFrom, sessionsWith, isBegun, begunMask, entriesFrom}
+use Rattle.holders.specs.Holders.{within, holdersOk, withFrom, sessionsWith, begunMask, entriesFrom}
 use Rattle.passing.specs.Asked.{hasPassed, needsGap, askedAt}
 use Rattle.holdings.specs.Holdings.{groupOk}
 use Rattle.soundness.specs.HoldersTests.{same-test, and-both, Within, within-is, few-less, in-mode, HoldersFit, holders-is}

@@ -38,6 +38,7 @@ pub mod PartyPins
 pub mod Counts
 pub mod Reach
 pub mod Counted
+pub mod OrdersPass
 pub mod Parts
 pub mod Lowest
 pub mod Tested

@@ -1,5 +1,5 @@
 -- The number that the test answers: 0 where every part holds; else it names a part that is broken, the first, for those before it hold.
-use mathlib.Core.Path.{_≡_, refl, subst}
+use mathlib.Core.Path.{_≡_, refl, sym, subst, _∙_}
 use mathlib.Core.Bool.{Bool, true, false, cond, false≢true}
 use mathlib.Core.List.{List}
 use mathlib.Core.Logic.{_↔_}
@@ -7,30 +7,32 @@ use Prim.Native.Nat.{ℕ, zero, suc, _≤_, _<_}
 use native.Mathlib.Decide.{ℕ-discrete}
 use native.Mathlib.Omega.{arith}
 use lib.Dec.{eqb, leb}
-use borrow.Author.Tests.{eq-eqb, eqb-true, le-leb}
+use borrow.Author.Tests.{eq-eqb, eqb-true, eqb-false, le-leb}
 use Rattle.sessions.specs.declared.Session.{Session}
+use Rattle.seniority.specs.Seniority.{distinctIn}
 use Rattle.parties.specs.Parties.{standingAtNodes}
 use Rattle.holders.specs.Holders.{begunMask, entriesFrom}
 use Rattle.sound.specs.declared.Checked.{Checked}
 use Rattle.sound.specs.Sizes.{sizesOk}
-use Rattle.sound.specs.Sound.{firstFault, faultIn, afterTree, partiesThen, afterParties, undosThen, afterUndos, groupsThen, afterGroups, finishOf, ending, failed, lowestOk}
+use Rattle.sound.specs.Sound.{firstFault, faultIn, afterTree, partiesThen, afterParties, undosThen, afterUndos, groupsThen, afterGroups, finishOf, ending, ordersThen, failed, lowestOk}
 use Rattle.meaning.specs.Reading.{M-of, R-of}
 use Rattle.soundness.specs.HeldTests.{entries-is}
 use Rattle.soundness.specs.SizesPass.{sizes-found, sizes-pass}
 use Rattle.soundness.specs.Lowest.{zero-pass}
+use Rattle.soundness.specs.OrdersPass.{orders-pass}
 use Rattle.soundness.specs.Parts.{Table, Part, Parts}
 use Rattle.soundness.specs.Tested.{toured, stood, filed, grouped, freed}
 use Rattle.soundness.specs.Walked.{tree-pass, requests-pass, latch-pass, undos-pass, leaves-few, groups-pass, free-pass, reached-pass}
 
 module _ (s : List ℕ) (t : List Session) where
-  -- What the test says that goes on with part k.
-  record From (k : ℕ) (c : Checked) : Type 0 where
-    all : c .fault ≡ 0 → (j : ℕ) → k ≤ j → j ≤ 10 → Part j s t
+  -- What the test says that goes on with part k, of the parts up to top.
+  record From (top k : ℕ) (c : Checked) : Type 0 where
+    all : c .fault ≡ 0 → (j : ℕ) → k ≤ j → j ≤ top → Part j s t
     broken : ¬ (c .fault ≡ 0) → ¬ Part (c .fault) s t
     before : (j : ℕ) → k ≤ j → j < c .fault → Part j s t
 
   -- Part k, and then the rest.
-  then : (k : ℕ) → ¬ (k ≡ 0) → (b : Bool) (c : Checked) → (b ≡ true) ↔ Part k s t → (Part k s t → From (suc k) c) → From k (cond b c (failed k))
+  then : {top : ℕ} (k : ℕ) → ¬ (k ≡ 0) → (b : Bool) (c : Checked) → (b ≡ true) ↔ Part k s t → (Part k s t → From top (suc k) c) → From top k (cond b c (failed k))
   then k some true c i rest =
       let N = rest (i .0 refl) in
       record { all = λ e j a l. at j a (λ b. N .all e j b l); broken = N .broken; before = λ j a l. at j a (λ b. N .before j b l) }
@@ -44,15 +46,48 @@ module _ (s : List ℕ) (t : List Session) where
   then k some false c i rest = record { all = λ e. absurd (some e); broken = λ n h. false≢true (i .1 h); before = λ j a l. absurd (omega (arith, a, l)) }
 
   -- A test that is true.
-  past : (k : ℕ) (b : Bool) (c : Checked) → b ≡ true → From k c → From k (cond b c (failed k))
+  past : {top : ℕ} (k : ℕ) (b : Bool) (c : Checked) → b ≡ true → From top k c → From top k (cond b c (failed k))
   past k true c e N = N
   past k false c e N = absurd (false≢true e)
 
   module _ (T : Table t) where
-    names : From 1 (firstFault s t)
+    -- Behind the parts up to 10: 11, which every table of a record for each party has, and 12.
+    last : (k : ℕ) (c : Checked) → From 10 k c → From 12 k (ordersThen t c)
+    unfolding ordersThen Part
+    last k c N = go (eqb (c .fault) 0) refl (distinctIn t) refl
+      where
+        seats : (j : ℕ) → j ≡ 11 → Part j s t
+        seats j e = subst (λ (n : ℕ). Part n s t) (sym e) (T .seats)
+
+        -- up to 11,
+        first : c .fault ≡ 0 → (j : ℕ) → k ≤ j → j ≤ 11 → Part j s t
+        first e j a l = by (ℕ-discrete j 11)
+          where
+            by : Dec (j ≡ 11) → Part j s t
+            by (yes h) = seats j h
+            by (no n) = N .all e j a (omega (arith, l, n))
+
+        -- and 12
+        whole : distinctIn t ≡ true → c .fault ≡ 0 → (j : ℕ) → k ≤ j → j ≤ 12 → Part j s t
+        whole d e j a l = by (ℕ-discrete j 12)
+          where
+            by : Dec (j ≡ 12) → Part j s t
+            by (yes h) = subst (λ (n : ℕ). Part n s t) (sym h) (orders-pass s t (T .seats) .0 d)
+            by (no n) = first e j a (omega (arith, l, n))
+
+        go : (b : Bool) → eqb (c .fault) 0 ≡ b → (d : Bool) → distinctIn t ≡ d → From 12 k (cond b (cond d c (failed 12)) c)
+        go true e true d = record { all = whole d; broken = N .broken; before = N .before }
+        go true e false d = record {
+          all = λ z. absurd (omega (arith, z));
+          broken = λ n h. false≢true (sym d ∙ orders-pass s t (T .seats) .1 h);
+          before = λ j a l. first (eqb-true (c .fault) 0 e) j a (omega (arith, l));
+        }
+        go false e b d = record { all = λ z. absurd (eqb-false (c .fault) 0 e z); broken = N .broken; before = N .before }
+
+    names : From 12 1 (firstFault s t)
     unfolding firstFault faultIn afterTree partiesThen afterParties undosThen afterUndos groupsThen afterGroups finishOf ending Part
     names =
-        then 1 (λ z. omega (arith, z)) (sizesOk s) _ (sizes-found s, sizes-pass s) (λ Z.
+        then 1 (λ z. omega (arith, z)) (sizesOk s) _ (sizes-found s, sizes-pass s) (λ Z. last 2 _ (
         then 2 (λ z. omega (arith, z)) (entriesFrom s (begunMask t) 1 (M-of s)) _ (entries-is s t (omega (arith, T .seats))) (λ E.
         then 3 (λ z. omega (arith, z)) (lowestOk s (M-of s) (R-of s)) _ (zero-pass s) (λ O.
         then 4 (λ z. omega (arith, z)) (toured s .walk .ok) _ (tree-pass s t Z T) (λ C.
@@ -63,7 +98,7 @@ module _ (s : List ℕ) (t : List Session) where
         (then 8 (λ z. omega (arith, z)) (grouped s t .ok) _ (groups-pass s t Z T C E Q U) (λ G.
         then 9 (λ z. omega (arith, z)) (freed s t .ok) _ (free-pass s t Z T C E Q U G) (λ F.
         then 10 (λ z. omega (arith, z)) (eqb (freed s t .left) 0) _ (numbers-are (reached-pass s t Z T C E Q U G F)) (λ A.
-        record { all = λ e j a l. absurd (omega (arith, a, l)); broken = λ n. absurd (n refl); before = λ j a l. absurd (omega (arith, l)) })))))))))))
+        record { all = λ e j a l. absurd (omega (arith, a, l)); broken = λ n. absurd (n refl); before = λ j a l. absurd (omega (arith, l)) }))))))))))))
       where
         numbers-are : {A : Type 0} {a b : ℕ} → (a ≡ b) ↔ A → (eqb a b ≡ true) ↔ A
         numbers-are {A} {a} {b} i = (λ e. i .0 (eqb-true a b e), λ x. eq-eqb a b (i .1 x))
@@ -85,6 +120,7 @@ module _ (s : List ℕ) (t : List Session) where
           free = f 9 (omega arith) (omega arith);
           all-reached = f 10 (omega arith) (omega arith);
           seats = T .seats;
+          orders = f 12 (omega arith) (omega arith);
         }
 
     -- Another number: that part is broken,

@@ -9,7 +9,7 @@ use lib.Dec.{eqb}
 use lib.ListN.{length, getD, set}
 use lib.Seq.{getD-set-same, set-set}
 use Rattle.sessions.specs.declared.Session.{Session}
-use Rattle.sessions.specs.Sessions.{session-at}
+use Rattle.sessions.specs.Sessions.{session-at, tenure}
 use Rattle.machine.specs.State.{Entry, Request, Undo, State, idle, sessionOf, set-hand, add-undo, on-session, with-entries, with-free, with-table}
 use Rattle.machine.specs.State as M
 use Rattle.meaning.specs.Reading.{hand-of}
@@ -22,7 +22,7 @@ use Rattle.layout.specs.Places.{session-means}
 module _ (u : ℕ → List Undone) (p : ℕ) (us : List Undone) where
   session-there : (q : ℕ) (x : Session) → ¬ (q ≡ p) → session-in (put-at p us u) q x ≡ session-in u q x
   session-there zero x n = refl
-  session-there (suc q) x n = ap (λ l. record { begun = not (eqb (x .begun) 0); hand = hand-of x; undos = map (λ y. y .undo) l }) (put-there p us u (suc q) n)
+  session-there (suc q) x n = ap (λ l. record { begun = not (eqb (x .begun) 0); order = x .order; hand = hand-of x; undos = map (λ y. y .undo) l }) (put-there p us u (suc q) n)
 
   later-there : (q : ℕ) (t : List Session) → p < q → sessions-in (put-at p us u) q t ≡ sessions-in u q t
   later-there q [] l = refl
@@ -55,9 +55,9 @@ same-on p f g σ e = ap (λ z. with-table (set (σ .table) p z) σ) e
 
 -- Another undo record, and another request in hand.
 pub log-session : (p : ℕ) (b : Undo) (h : Option Request) (σ : State) → p < length (σ .table)
-    → set-hand p h (add-undo p b σ) ≡ on-session p (λ x. record { begun = x .begun; hand = h; undos = b ∷ x .undos }) σ
+    → set-hand p h (add-undo p b σ) ≡ on-session p (λ x. record { begun = x .begun; order = x .order; hand = h; undos = b ∷ x .undos }) σ
 unfolding set-hand add-undo
-log-session p b h σ l = on-twice p (λ x. record { begun = x .begun; hand = h; undos = x .undos }) (λ x. record { begun = x .begun; hand = x .hand; undos = b ∷ x .undos }) σ l
+log-session p b h σ l = on-twice p (λ x. record { begun = x .begun; order = x .order; hand = h; undos = x .undos }) (λ x. record { begun = x .begun; order = x .order; hand = x .hand; undos = b ∷ x .undos }) σ l
 
 many-sessions : (u : ℕ → List Undone) (q : ℕ) (t : List Session) → length (sessions-in u q t) ≡ length t
 many-sessions u q [] = refl
@@ -68,7 +68,7 @@ unfolding means
 many-means L t = many-sessions (L .undos) 0 t
 
 -- The whole: session p logs the record a for the change b.
-pub log-means : (L : Lay) (t : List Session) (p : ℕ) (a : Undone) (f : List ℕ) (E : List Entry) (x′ : Session) → 1 ≤ p → p < length t → x′ .begun ≡ session-at t p .begun
+pub log-means : (L : Lay) (t : List Session) (p : ℕ) (a : Undone) (f : List ℕ) (E : List Entry) (x′ : Session) → 1 ≤ p → p < length t → tenure x′ ≡ tenure (session-at t p)
     → length (L .free) ≡ suc (length f)
     → means (with-log L p (a ∷ L .undos p) f E) (set t p x′) ≡ set-hand p (hand-of x′) (add-undo p (a .undo) (with-free (means L t .free - 1) (with-entries E (means L t))))
 log-means L t zero a f E x′ least seat b free = absurd (omega (arith, least))
@@ -77,11 +77,11 @@ log-means L t (suc k) a f E x′ least seat b free =
     let us = a ∷ L .undos p in
     let σ = with-free (length f) (with-entries E (means L t)) in
     let n : length f ≡ means L t .free - 1 = unfold means in (omega (arith, free)) in
-    let new : session-in (put-at p us (L .undos)) p x′ ≡ record { begun = session-in (L .undos) p (session-at t p) .begun; hand = hand-of x′; undos = a .undo ∷ session-in (L .undos) p (session-at t p) .undos } =
-    ap₂ (λ m l. record { begun = not (eqb m 0); hand = hand-of x′; undos = map (λ y. y .undo) l }) b (put-here p us (L .undos)) in
+    let new : session-in (put-at p us (L .undos)) p x′ ≡ record { begun = session-in (L .undos) p (session-at t p) .begun; order = session-in (L .undos) p (session-at t p) .order; hand = hand-of x′; undos = a .undo ∷ session-in (L .undos) p (session-at t p) .undos } =
+    ap₂ (λ (m : ℕ × ℕ) l. record { begun = not (eqb (m .0) 0); order = m .1; hand = hand-of x′; undos = map (λ y. y .undo) l }) b (put-here p us (L .undos)) in
     let old : sessionOf p σ ≡ session-in (L .undos) p (session-at t p) = unfold sessionOf in (session-means L t p seat) in
-    let table = same-on p (λ _. session-in (put-at p us (L .undos)) p x′) (λ y. record { begun = y .begun; hand = hand-of x′; undos = a .undo ∷ y .undos }) σ
-    (new ∙ ap (λ y. record { begun = y .begun; hand = hand-of x′; undos = a .undo ∷ y .undos }) (sym old)) in
+    let table = same-on p (λ _. session-in (put-at p us (L .undos)) p x′) (λ y. record { begun = y .begun; order = y .order; hand = hand-of x′; undos = a .undo ∷ y .undos }) σ
+    (new ∙ ap (λ y. record { begun = y .begun; order = y .order; hand = hand-of x′; undos = a .undo ∷ y .undos }) (sym old)) in
     means-log L t p us f E x′
     ∙ table
     ∙ sym (log-session p (a .undo) (hand-of x′) σ (omega (arith, many-means L t, seat)))

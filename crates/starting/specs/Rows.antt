@@ -10,7 +10,7 @@ use lib.ListN.{set}
 use borrow.Author.Tests.{ne-eqb}
 use Rattle.words.specs.Entries.{HasEntry, entryWord}
 use Rattle.sessions.specs.declared.Session.{Session}
-use Rattle.sessions.specs.Sessions.{session-at}
+use Rattle.sessions.specs.Sessions.{session-at, tenure}
 use Rattle.serial.specs.Serial.{true≢false}
 use Rattle.serial.specs.Locks.{weak, strong}
 use Rattle.serial.specs.Calls as C
@@ -28,7 +28,7 @@ use Rattle.layout.specs.Left.{idle-fits}
 use Rattle.layout.specs.Asked.{request-in}
 use Rattle.endings.specs.Table.{idled}
 use Rattle.starting.specs.Starting.{entryBlocker, sharedWords, readDone, readStep, excludedWords, toFirst, entryDone, entryStep, tidiedNone}
-use Rattle.starting.specs.Start.{Steps, start-finished, start-stage, idle-hand, idle-stage, idle-undo, idle-begun, entry-words, OnEntry, entry-least, entry-most, entry-there, blocker-none, blocker-some, guard-moves, entry-becomes, idle-becomes}
+use Rattle.starting.specs.Start.{Steps, start-finished, start-stage, idle-hand, idle-stage, idle-undo, idle-tenure, entry-words, OnEntry, entry-least, entry-most, entry-there, blocker-none, blocker-first, guard-moves, entry-becomes, idle-becomes}
 
 -- ---- the words of an entry
 
@@ -50,9 +50,9 @@ first-undo : (x : Session) → toFirst x .undo ≡ x .undo
 unfolding toFirst
 first-undo x = refl
 
-first-begun : (x : Session) → toFirst x .begun ≡ x .begun
+first-tenure : (x : Session) → tenure (toFirst x) ≡ tenure x
 unfolding toFirst
-first-begun x = refl
+first-tenure x = refl
 
 first-hand : (x : Session) → hand-of (toFirst x) ≡ some (in-stage (enter (request-in x .first)) (request-in x))
 unfolding toFirst request-in
@@ -96,7 +96,7 @@ module _ (s : List ℕ) (t : List Session) (A : Stands s t) (p : ℕ) (party : p
       let σ = on-entry e (share-by p) state in
       let s′ = sharedWords s p e in
       let row = entry-becomes s t A p party at-start s′ (unfold sharedWords in (entry-written s e 1 (held-by p (entryWord s e 1)) has (lit< tt) most))
-      (unfold sharedWords in (entry-head s e 1 (held-by p (entryWord s e 1)) has (lit< tt) most)) (share-by p) l (on-shared s p e has) (idled own) (idle-undo own) (idle-begun own)
+      (unfold sharedWords in (entry-head s e 1 (held-by p (entryWord s e 1)) has (lit< tt) most)) (share-by p) l (on-shared s p e has) (idled own) (idle-undo own) (idle-tenure own)
       (idle-fits (A .lay) p (idled own) (idle-stage own)) in
       subst (Moves s t p s′ (idled own) (C.done (entryWord s e 0 ∷ []))) (sym (start-finished p (request-in own) (entryOf e state .value ∷ []) σ (start-stage own at-start)))
       (record {
@@ -110,7 +110,7 @@ module _ (s : List ℕ) (t : List Session) (A : Stands s t) (p : ℕ) (party : p
       let o = finished p (request-in own) (entryOf (own .entry) state .value ∷ []) (on-entry (own .entry) (share-by p) state) in
       unfold request-in in
       (guard-moves s t A p party at-start (entryBlocker s (own .entry) 0 p) (entry-blockers weak p (request-in own) state) 0 (request-in own) o (readDone s p own)
-      (blocker-none s t A p party at-start l weak) (blocker-some s t A p party at-start l weak) (subst (Steps s t p (readDone s p own)) (sym (no-need o (request-in own))) (read-done l)))
+      (blocker-none s t A p party at-start l weak) (blocker-first s t A p party at-start l weak) (subst (Steps s t p (readDone s p own)) (sym (no-need o (request-in own))) (read-done l)))
 
   -- Insert, remove: the entry's exclusive lock, and the descent to first begins.
   pub entry-done : own .code ≤ 4
@@ -123,7 +123,7 @@ module _ (s : List ℕ) (t : List Session) (A : Stands s t) (p : ℕ) (party : p
       let f : Entry → Entry = λ x. exclude-by p (x .value) x in
       let s′ = excludedWords s p e in
       let row = entry-becomes s t A p party at-start s′ (unfold excludedWords in (entry-written s e 2 (held-by p (entryWord s e 2)) has (lit< tt) most))
-      (unfold excludedWords in (entry-head s e 2 (held-by p (entryWord s e 2)) has (lit< tt) most)) f l (on-excluded s p e has) (toFirst own) (first-undo own) (first-begun own)
+      (unfold excludedWords in (entry-head s e 2 (held-by p (entryWord s e 2)) has (lit< tt) most)) f l (on-excluded s p e has) (toFirst own) (first-undo own) (first-tenure own)
       (first-fits (A .lay) p own l) in
       record { becomes = subst (λ h. Becomes s s′ (set t p (toFirst own)) (set-hand p h (on-entry e f state))) (first-hand own) row; tells = refl }
 
@@ -133,7 +133,7 @@ module _ (s : List ℕ) (t : List Session) (A : Stands s t) (p : ℕ) (party : p
       let o = goes-on p (request-in own) (enter (request-in own .first)) (on-entry (own .entry) (λ x. exclude-by p (x .value) x) state) in
       unfold request-in in
       (guard-moves s t A p party at-start (entryBlocker s (own .entry) 1 p) (entry-blockers strong p (request-in own) state) 0 (request-in own) o (entryDone s p own)
-      (blocker-none s t A p party at-start l strong) (blocker-some s t A p party at-start l strong) (subst (Steps s t p (entryDone s p own)) (sym (no-need o (request-in own))) (entry-done l)))
+      (blocker-none s t A p party at-start l strong) (blocker-first s t A p party at-start l strong) (subst (Steps s t p (entryDone s p own)) (sym (no-need o (request-in own))) (entry-done l)))
 
   -- A tidy that chose nothing.
   pub tidied-moves : Steps s t p (tidiedNone s own) (finished p (request-in own) (0 ∷ 0 ∷ []) state)

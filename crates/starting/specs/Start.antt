@@ -10,16 +10,16 @@ use lib.Dec.{eqb, leb}
 use lib.ListN.{length, set}
 use borrow.Author.Tests.{eq-eqb, eqb-true, eqb-false}
 use Rattle.words.specs.Entries.{HasEntry}
+use Rattle.locks.specs.Holders.{first-of}
 use Rattle.sessions.specs.declared.Session.{Session}
-use Rattle.sessions.specs.Sessions.{session-at}
-use Rattle.serial.specs.Serial.{true≢false}
+use Rattle.sessions.specs.Sessions.{session-at, tenure}
 use Rattle.serial.specs.Locks.{Mode}
 use Rattle.serial.specs.Locks as K
 use Rattle.serial.specs.Calls as C
 use Rattle.outcomes.specs.Said.{Stepped, said}
-use Rattle.machine.specs.Holders.{width, blockers, elem}
+use Rattle.machine.specs.Holders.{width}
 use Rattle.machine.specs.State.{Entry, Request, start, State, Outcome, wait, done, refused, entryOf, sessionOf, on-entry, with-entries, set-hand}
-use Rattle.machine.specs.Steps.{answer, pinned, unpin, unlatch, ended, finished, guarded, rule, entry-blockers}
+use Rattle.machine.specs.Steps.{answer, pinned, unpin, unlatch, ended, finished, guarded, entry-blockers}
 use Rattle.machine.specs.Calls.{request-checks}
 use Rattle.machine.specs.View.{entry-same}
 use Rattle.machine.specs.Checks.{code-range, checked-entry}
@@ -36,7 +36,7 @@ use Rattle.layout.specs.Room as Room
 use Rattle.layout.specs.Room.{Sizes, sizes-of, has-entry}
 use Rattle.layout.specs.Asked.{request-in, hand-means, wait-moves}
 use Rattle.endings.specs.Table.{idled}
-use Rattle.long_locks.specs.LongLocks.{lowest-in, lowest-none, lowest-some, share-narrow, exclusive-narrow, mode-number}
+use Rattle.long_locks.specs.LongLocks.{lowest-in, lowest-same, lowest-none, share-narrow, exclusive-narrow, mode-number}
 use Rattle.starting.specs.Starting.{entryBlocker, waits, refuses, unlessHeld, EntryReady}
 
 -- A step's words, session record and answer are the machine's outcome.
@@ -69,9 +69,9 @@ pub idle-undo : (x : Session) → idled x .undo ≡ x .undo
 unfolding idled
 idle-undo x = refl
 
-pub idle-begun : (x : Session) → idled x .begun ≡ x .begun
+pub idle-tenure : (x : Session) → tenure (idled x) ≡ tenure x
 unfolding idled
-idle-begun x = refl
+idle-tenure x = refl
 
 -- ---- entries
 
@@ -156,36 +156,34 @@ module _ (s : List ℕ) (t : List Session) (A : Stands s t) (p : ℕ) (party : p
       lowest-none K.entry m p (entryOf (own .entry) state .share) (entryOf (own .entry) state .exclusive) (share-narrow state (A .sound) (own .entry)) (exclusive-narrow state (A .sound) (own .entry))
       (sym (blocker-is l m) ∙ e)
 
-  pub blocker-some : own .code ≤ 4 → (m : Mode) → ¬ (entryBlocker s (own .entry) (mode-number m) p ≡ 0)
-      → elem (entryBlocker s (own .entry) (mode-number m) p) (entry-blockers m p (request-in own) state) ≡ true
+  pub blocker-first : own .code ≤ 4 → (m : Mode) → entryBlocker s (own .entry) (mode-number m) p ≡ first-of (entry-blockers m p (request-in own) state)
   unfolding entry-blockers request-in
-  blocker-some l m n =
-      subst (λ q. elem q (blockers rule K.entry m p (entryOf (own .entry) state .share) (entryOf (own .entry) state .exclusive)) ≡ true) (sym (blocker-is l m))
-      (lowest-some K.entry m p (entryOf (own .entry) state .share) (entryOf (own .entry) state .exclusive) (share-narrow state (A .sound) (own .entry)) (exclusive-narrow state (A .sound) (own .entry))
-      (λ e. n (blocker-is l m ∙ e)))
+  blocker-first l m =
+      blocker-is l m
+      ∙ lowest-same K.entry m p (entryOf (own .entry) state .share) (entryOf (own .entry) state .exclusive) (share-narrow state (A .sound) (own .entry)) (exclusive-narrow state (A .sound) (own .entry))
 
   -- A step waits if session q is in the way; else what z does is done, or refused for want of records.
-  pub guard-moves : (q : ℕ) (bs : List ℕ) (need : ℕ) (r : Request) (o : Outcome) (z : Stepped) → (q ≡ 0 → bs ≡ []) → (¬ (q ≡ 0) → elem q bs ≡ true)
+  pub guard-moves : (q : ℕ) (bs : List ℕ) (need : ℕ) (r : Request) (o : Outcome) (z : Stepped) → (q ≡ 0 → bs ≡ []) → q ≡ first-of bs
       → Steps s t p z (cond (leb need (state .free)) o (answer (refused 11 0) (ended p r state))) → Steps s t p (unlessHeld q s own z) (guarded bs need p r state o)
   unfolding unlessHeld guarded waits
-  guard-moves q bs need r o z clear held then = go (eqb q 0) refl
+  guard-moves q bs need r o z clear first then = go (eqb q 0) refl
     where
-      waiting : (l : List ℕ) → elem q l ≡ true → Moves s t p s own (C.wait q) (guarded l need p r state o)
-      waiting [] e = absurd (true≢false e refl)
-      waiting (b ∷ l) e = wait-moves s t A p q b l e
+      waiting : (l : List ℕ) → ¬ (q ≡ 0) → q ≡ first-of l → Moves s t p s own (C.wait q) (guarded l need p r state o)
+      waiting [] n e = absurd (n e)
+      waiting (b ∷ l) n e = wait-moves s t A p q b l e
 
       go : (c : Bool) → eqb q 0 ≡ c → Steps s t p (cond c z (waits s own q)) (guarded bs need p r state o)
       go true e = subst (λ l. Steps s t p z (guarded l need p r state o)) (sym (clear (eqb-true q 0 e))) then
-      go false e = waiting bs (held (eqb-false q 0 e))
+      go false e = waiting bs (eqb-false q 0 e) first
 
   -- ---- what is left
 
   -- Only the request in hand is another.
-  pub hand-becomes : (x′ : Session) → x′ .undo ≡ own .undo → x′ .begun ≡ own .begun → HandFits (A .lay) p x′ → Becomes s s (set t p x′) (set-hand p (hand-of x′) state)
+  pub hand-becomes : (x′ : Session) → x′ .undo ≡ own .undo → tenure x′ ≡ tenure own → HandFits (A .lay) p x′ → Becomes s s (set t p x′) (set-hand p (hand-of x′) state)
   hand-becomes x′ u b h = record {
     lay = A .lay;
     holds = table-row s t (A .lay) (A .holds) p x′ party u h;
-    means-next = means-hand (A .lay) t p x′ seat (ap (λ n. eqb n 0) b);
+    means-next = means-hand (A .lay) t p x′ seat b;
     long = refl;
     entries = refl;
     records = refl;
@@ -194,7 +192,7 @@ module _ (s : List ℕ) (t : List Session) (A : Stands s t) (p : ℕ) (party : p
 
   -- An entry's words and the request in hand are others.
   pub entry-becomes : (s′ : List ℕ) → Written s s′ [] → SameHead s s′ → (f : Entry → Entry) → own .code ≤ 4 → OnEntry s s′ (own .entry) f
-      → (x′ : Session) → x′ .undo ≡ own .undo → x′ .begun ≡ own .begun → HandFits (A .lay) p x′ → Becomes s s′ (set t p x′) (set-hand p (hand-of x′) (on-entry (own .entry) f state))
+      → (x′ : Session) → x′ .undo ≡ own .undo → tenure x′ ≡ tenure own → HandFits (A .lay) p x′ → Becomes s s′ (set t p x′) (set-hand p (hand-of x′) (on-entry (own .entry) f state))
   entry-becomes s′ only head f l c x′ u b h =
       let E = entries-of s′ 1 (M-of s) in
       let q : means (with-entries-in (A .lay) E) t ≡ with-entries E state = unfold means in refl in
@@ -202,7 +200,7 @@ module _ (s : List ℕ) (t : List Session) (A : Stands s t) (p : ℕ) (party : p
         lay = with-entries-in (A .lay) E;
         holds = entry-row s t (A .lay) (A .holds) s′ only head E refl p x′ party u h;
         means-next =
-            means-hand (with-entries-in (A .lay) E) t p x′ seat (ap (λ n. eqb n 0) b)
+            means-hand (with-entries-in (A .lay) E) t p x′ seat b
             ∙ ap (set-hand p (hand-of x′)) (q ∙ entry-means s s′ t (A .lay) (A .holds) (own .entry) f (entry-least l) (entry-most l) c);
         long = only .long;
         entries = only .entries;
@@ -214,7 +212,7 @@ module _ (s : List ℕ) (t : List Session) (A : Stands s t) (p : ℕ) (party : p
   pub idle-becomes : Becomes s s (set t p (idled own)) (set-hand p none state)
   idle-becomes =
       subst (λ h. Becomes s s (set t p (idled own)) (set-hand p h state)) (idle-hand own)
-      (hand-becomes (idled own) (idle-undo own) (idle-begun own) (idle-fits (A .lay) p (idled own) (idle-stage own)))
+      (hand-becomes (idled own) (idle-undo own) (idle-tenure own) (idle-fits (A .lay) p (idled own) (idle-stage own)))
 
   pub refused-start : Steps s t p (refuses s own) (answer (refused 11 0) (ended p (request-in own) state))
   unfolding refuses

@@ -81,6 +81,7 @@ toFirst x =
       high = x .high;
       last = x .last;
       undo = x .undo;
+      order = x .order;
     }
 
 unfoldable pub entryDone : List ℕ → ℕ → Session → Stepped

@@ -17,7 +17,7 @@ use Rattle.words.specs.Frames.{record-header, entry-record}
 use Rattle.undos.specs.Undo.{encodeUndo, length-encode, undoValue}
 use Rattle.chain.specs.Free.{popFree}
 use Rattle.sessions.specs.declared.Session.{Session}
-use Rattle.sessions.specs.Sessions.{session-at}
+use Rattle.sessions.specs.Sessions.{session-at, tenure}
 use Rattle.serial.specs.Locks.{strong}
 use Rattle.serial.specs.Calls as C
 use Rattle.machine.specs.Logic.{leb-yes, leb-no}
@@ -43,7 +43,7 @@ use Rattle.layout.specs.Asked.{request-in}
 use Rattle.undo_log.specs.Undoing.{logValue}
 use Rattle.endings.specs.Table.{loggedBy}
 use Rattle.starting.specs.Starting.{entryBlocker, refuses, excludedWords, writtenWords, writeDone, writeFree, writeStep}
-use Rattle.starting.specs.Start.{Steps, start-finished, start-stage, entry-words, OnEntry, entry-means, is-session, entry-least, entry-most, entry-there, blocker-none, blocker-some, guard-moves, refused-start}
+use Rattle.starting.specs.Start.{Steps, start-finished, start-stage, entry-words, OnEntry, entry-means, is-session, entry-least, entry-most, entry-there, blocker-none, blocker-first, guard-moves, refused-start}
 use Rattle.starting.specs.Logged.{log-means}
 
 -- ---- session records
@@ -56,9 +56,9 @@ logged-undo : (x : Session) (i : ℕ) → loggedBy x i .undo ≡ i
 unfolding loggedBy
 logged-undo x i = refl
 
-logged-begun : (x : Session) (i : ℕ) → loggedBy x i .begun ≡ x .begun
+logged-tenure : (x : Session) (i : ℕ) → tenure (loggedBy x i) ≡ tenure x
 unfolding loggedBy
-logged-begun x i = refl
+logged-tenure x i = refl
 
 logged-hand : (x : Session) (i : ℕ) → hand-of (loggedBy x i) ≡ none
 unfolding loggedBy
@@ -311,7 +311,7 @@ module _ (s : List ℕ) (t : List Session) (A : Stands s t) (p : ℕ) (party : p
       meant : means (with-log L p (old ∷ L .undos p) (rest .0) E) (set t p x′) ≡ set-hand p none (written p (request-in own) state)
       unfolding request-in written
       meant =
-          log-means L t p old (rest .0) E x′ least (omega (arith, A .holds .seats, party)) (logged-begun own first) (ap length (rest .1))
+          log-means L t p old (rest .0) E x′ least (omega (arith, A .holds .seats, party)) (logged-tenure own first) (ap length (rest .1))
           ∙ ap (λ h. set-hand p h (add-undo p (value e (entryWord s e 0)) (with-free (state .free - 1) (with-entries E state)))) (logged-hand own first)
           ∙ ap₂ (λ v z. set-hand p none (add-undo p (value e v) (with-free (state .free - 1) z)))
           (ap (λ y. y .value) (sym (entry-words s t L (A .holds) e (entry-least s t A p party at-start l) most)))
@@ -357,5 +357,5 @@ module _ (s : List ℕ) (t : List Session) (A : Stands s t) (p : ℕ) (party : p
   unfolding writeStep write-step
   write-moves l =
       guard-moves s t A p party at-start (entryBlocker s (own .entry) 1 p) (entry-blockers strong p (request-in own) state) 1 (request-in own)
-      (finished p (request-in own) (0 ∷ []) (written p (request-in own) state)) (writeFree s (M-of s) p own) (blocker-none s t A p party at-start l strong) (blocker-some s t A p party at-start l strong)
+      (finished p (request-in own) (0 ∷ []) (written p (request-in own) state)) (writeFree s (M-of s) p own) (blocker-none s t A p party at-start l strong) (blocker-first s t A p party at-start l strong)
       (free-moves l)

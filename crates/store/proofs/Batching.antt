@@ -1,6 +1,6 @@
 -- The walk of a batch
 --     pub fn f(store: &mut [u32], table: &mut [Session], list: &mut [u32], asks: &[u32], answers: &mut [u64]) -> Answer { if table.len() != PARTIES { return wrong_table(); } let t = load_all(table); let served = core(store, list, t, asks, answers); let after = served.table; save_all(table, after); served.answer }
--- over any core and any effect Φ that the core's contract states. It is format's walk with list, asks and answers lent beside the store: all are given up to the core, and the table to `save_all`.
+-- over any core and any effect Φ that the core's contract states. It is `Saving.antt`'s walk with list, asks and answers lent beside the store: all are given up to the core, and the table to `save_all`.
 --     function         the MIR, at the core's key
 --     Core             the core's contract.      batch-meets       the theorem, from those of the four callees
 -- The instance is `proofs/batch/Proof.antt`.

@@ -6,4 +6,5 @@ pub mod Cardings
 pub mod Listing
 pub mod Listings
 pub mod Plains
+pub mod Saving
 pub mod Thin

@@ -1,10 +1,10 @@
--- The one walk of the four calls without a list that store one record back
+-- The one walk of the three calls without a list that store one record back
 --     pub fn f(store: &mut [u32], t: &mut [Session], k: D) -> Answer { if t.len() != PARTIES { return wrong_table(); } let a = load_all(t); let out = core(store, a, k); let x = out.session; store_session(t, out.party, x); out.answer }
 -- over any type D of plain data with one machine value, any core and any effect Φ that the core's contract states.
 --     P                D's row, from its parts: that it is left as it was passed is written here, so that it computes
 --     function         the MIR, at the core's key
 --     Core             the core's contract.      thin-meets        the theorem, from those of the four callees
--- An instance is `thin-meets` at the row's parts, its laws, the core's key and Φ: see `proofs/begin/Proof.antt`.
+-- An instance is `thin-meets` at the row's parts, its laws, the core's key and Φ: see `proofs/commit/Proof.antt`.
 use mathlib.Core.Path.{_≡_, refl, sym, ap, subst}
 use Prim.Native.Nat.{ℕ}
 use mathlib.Core.Bool.{Bool, true, false, not}

@@ -1,5 +1,5 @@
 -- Demand 2 of the six functions over every list of calls: the holders read from the store are the sessions that were granted it by the host's own calls, and a
--- locate that is done holds every key of its range until its session ends.
+-- locate that is done holds every key of its range until its session ends. And the order of begins over every list of calls.
 use mathlib.Core.Path.{_≡_, ap, subst, _∙_}
 use mathlib.Core.Bool.{true}
 use mathlib.Core.List.{List, [], _∷_, _++_}
@@ -9,6 +9,7 @@ use Rattle.serial.specs.Locks.{Kind, Mode, weak}
 use Rattle.serial.specs.Locks as L
 use Rattle.serial.specs.Calls.{Turn, nothing, Run, stop, next}
 use Rattle.serial.specs.Calls as C
+use Rattle.serial.specs.Line.{line}
 use Rattle.machine.specs.State.{fresh}
 use Rattle.machine.specs.Calls.{records-for}
 use Rattle.machine.specs.Ledger.{no-locks, ledger-after}
@@ -17,8 +18,9 @@ use Rattle.outcomes.specs.declared.Answer.{Answer}
 use Rattle.outcomes.specs.Said.{said}
 use Rattle.promises.specs.Demands.{Lending}
 use Rattle.promises.specs.Holding.{holders-in, holders-run, located-run}
+use Rattle.promises.specs.Line.{InLine, words-line}
 use Rattle.store.specs.Lent.{Formatted, OnTable}
-use Rattle.store.specs.Turns.{Lends, TurnedAway, functions, functions-words, Lendings, over, then, wrong, own, own-run, own-told, format-sound, accepted-format}
+use Rattle.store.specs.Turns.{Lends, TurnedAway, functions, functions-words, Lendings, over, then, wrong, own, own-run, own-told, own-line, format-sound, accepted-format}
 
 -- ---- a list of calls in two
 
@@ -70,3 +72,10 @@ module _ (m : ℕ) (a : Answer) (x x′ : Lending) (h : OnTable Formatted (x .st
       located-run m (x .store) (x′ .store) (x .table) (x′ .table) (accepted-format m a x x′ h e) (own (cut .1)) k (own (here .2)) y
       (functions-words (format-sound m a x x′ h e) (runs-join (own-run (cut .1)) (next (here .1) (own-run (here .2)))))
       p lo hi done (own-lasts p (here .2) w)
+
+  -- By all calls and answers alone, those that were turned away among them, the begun sessions stand in their line: a record is begun exactly if its session
+  -- stands in it, and of two begun sessions the one with the lower number stands earlier.
+  pub lent-line : (ks : List Turn) (y : Lending) → Lendings x′ ks y → InLine (line [] ks) (y .table)
+  lent-line ks y r =
+      subst (λ l. InLine l (y .table)) (own-line r [])
+      (words-line m (x .store) (x′ .store) (x .table) (x′ .table) (accepted-format m a x x′ h e) (own r) y (functions-words (format-sound m a x x′ h e) (own-run r)))

@@ -1,4 +1,4 @@
--- A call changes no session record but its party's: to store that one record back leaves the table that the call by value gave.
+-- A put, a step, a commit and an abort change no session record but their party's: to store that one record back leaves the table that the call by value gave.
 use mathlib.Core.Path.{_≡_, refl, sym, ap, subst, _∙_}
 use mathlib.Core.Bool.{Bool, true, false}
 use mathlib.Core.List.{List}

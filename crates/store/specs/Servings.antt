@@ -16,6 +16,7 @@ use Rattle.serial.specs.Model.{both}
 use Rattle.serial.specs.Locks.{Kind, Mode}
 use Rattle.serial.specs.Calls.{Turn, Told, nothing, told, Run, stop, next, Demand-3}
 use Rattle.serial.specs.Calls as C
+use Rattle.serial.specs.Line.{line}
 use Rattle.machine.specs.State.{fresh}
 use Rattle.machine.specs.Calls.{records-for}
 use Rattle.machine.specs.Ledger.{no-locks, ledger-after}
@@ -26,14 +27,15 @@ use Rattle.outcomes.specs.declared.DayAnswer.the-variants as Day
 use Rattle.outcomes.specs.Said.{said, day-said}
 use Rattle.promises.specs.Relations.{Calls}
 use Rattle.promises.specs.Demand1.{demand-1, calls-not-1}
-use Rattle.promises.specs.Demands.{Lending, Returns, words}
+use Rattle.promises.specs.Demands.{Lending, words}
 use Rattle.promises.specs.Holding.{holders-in, holders-run}
+use Rattle.promises.specs.Line.{InLine, run-sound, words-line}
 use Rattle.promises.specs.Words.{formatted-calls}
 use Rattle.promises.specs.Runs.{lending, calling, put-turn, step-turn, steps}
 use Rattle.promises.specs.Runs as R
 use Rattle.asking.specs.declared.Asking.the-variants as K
 use Rattle.batches.specs.Batches.{Fits, Batches}
-use Rattle.batches.specs.Demand3.{seen, batch-turns, batch-seen, Serving, once, asks-one, away, serving-run, serving-told, words-append, told-append}
+use Rattle.batches.specs.Demand3.{Alike, alike, alike-append, seen, batch-turns, batch-seen, Serving, once, asks-one, away, serving-run, serving-told, words-append}
 use Rattle.batches.specs.Demand3 as B
 use Rattle.day_calls.specs.Calling.{Handed, day-count, day-refusal, renamed, Days}
 use Rattle.day_calls.specs.Lists.{Mixed, day, ordinary-turn, Is, itself, refused, served, served-returns, one-is}
@@ -45,7 +47,7 @@ use Rattle.store.specs.Listed.{RanBy, AskedBy, ListedOnTable}
 use Rattle.store.specs.Stints.{unsound-still}
 use Rattle.store.specs.Batched.{Batched, BatchedOnTable}
 use Rattle.store.specs.Days.{handed-by, DayBy, DayOnTable, served-calls}
-use Rattle.store.specs.Turns.{Lends, lends-return, Sound-lent, sound-long, Loan, loan-same, TurnedAway, Same, same-either, away-same, away-quiet, accepted-format}
+use Rattle.store.specs.Turns.{Lends, lends-return, Sound-lent, sound-long, Loan, loan-same, TurnedAway, Same, same-either, away-same, away-quiet, away-line, accepted-format}
 
 -- ---- what the host sees of one return
 
@@ -158,12 +160,15 @@ loan-away a (inl e) = subst TurnedAway (sym e) refl
 loan-away a (inr e) = subst TurnedAway (sym e) refl
 
 -- It tells nothing.
-pub away-told : {u u′ : Lending} {js : List Turn} → Away u js u′ → (h : Told) → told h js ≡ h
-away-told (calls-away {k = k} v d) h = away-quiet (k .call) (k .answer) (k .list) v h
-away-told (runs-away {k = k} {l} {l′} {a} v d) h = away-quiet (C.step (k .party) l) (said a) l′ (loan-away (said a) v) h
-away-told (requests-away {k = k} {a = a} v d) h = away-quiet (C.put (k .party) (k .code) (k .entry) (k .first) (k .second)) (said a) [] (loan-away (said a) v) h
-away-told (batches-away v d) h = refl
-away-told (days-away v d) h = refl
+away-alike : (k : Turn) → TurnedAway (k .answer) → Alike [] (k ∷ [])
+away-alike k v = record { tells = λ h. sym (away-quiet (k .call) (k .answer) (k .list) v h); lines = λ l. sym (away-line k v l) }
+
+pub away-told : {u u′ : Lending} {js : List Turn} → Away u js u′ → Alike [] js
+away-told (calls-away {k = k} v d) = away-alike k v
+away-told (runs-away {k = k} {l} {l′} {a} v d) = away-alike (step-turn (k .party) l (said a) l′) (loan-away (said a) v)
+away-told (requests-away {k = k} {a = a} v d) = away-alike (put-turn (k .party) (k .code) (k .entry) (k .first) (k .second) (said a)) (loan-away (said a) v)
+away-told (batches-away v d) = alike []
+away-told (days-away v d) = alike []
 
 -- ---- lists of calls
 
@@ -187,11 +192,6 @@ at-most a b = go (leb a b) refl
 
 fits-or-not : (len places : ℕ) → Dec (Fits len places)
 fits-or-not len places = both (at-most len (7 * places)) (at-most len 458745)
-
-run-sound : {x y : Lending} {ks : List Turn} → Sound-lent x → Run words x ks y → Sound-lent y
-unfolding Returns
-run-sound S stop = S
-run-sound S (next d r) = run-sound (d S .sound) r
 
 -- Every day call on a sound store has such turns.
 pub day-returned : {x y : Lending} {bytes : List ℕ} {k : DayAsk} {a : DayAnswer} → Sound-lent x → DayOnTable DayBy (x .store) (x .table) bytes k a (y .store) (y .table)
@@ -224,18 +224,18 @@ serves S (batches {x} {y} {w} {l} {vs} {vs′} {l′} {a} {js} d f) = go (fits-o
         ([], subst (λ v. Serving x [] v y) (sym (f (sound-long x S) .1 z)) (subst (Serving x [] []) (sym (same-lending {x = x} {y = y} (m .3, m .4))) away))
 
 -- They are ordinary calls, which tell what the host sees.
-pub returneds-run : {x y : Lending} {js : List Turn} → Sound-lent x → Returneds x js y → (ks : List Turn) × Run words x ks y × ((h : Told) → told h ks ≡ told h js)
-returneds-run S over = ([], stop, λ h. refl)
+pub returneds-run : {x y : Lending} {js : List Turn} → Sound-lent x → Returneds x js y → (ks : List Turn) × Run words x ks y × Alike ks js
+returneds-run S over = ([], stop, alike [])
 returneds-run S (then {x} {y} {z} {js} {ls} c r) =
     let q = serves S c in
     let g = serving-run (q .1) in
     let v = returneds-run (run-sound S g) r in
-    (q .0 ++ v .0, words-append g (v .1), λ h. told-append (q .0) (v .0) h ∙ v .2 (told h (q .0)) ∙ ap (λ w. told w ls) (serving-told (q .1) h) ∙ sym (told-append js ls h))
+    (q .0 ++ v .0, words-append g (v .1), alike-append (serving-told (q .1)) (v .2))
 returneds-run S (wrong {x} {y} {z} {u} {u′} {js} {ls} c a b r) =
     let e = away-keeps c in
     let i : y ≡ x = same-lending (loan-same (e .0) a, loan-same (e .1) b) in
     let v = returneds-run (subst Sound-lent (sym i) S) r in
-    (v .0, subst (λ p. Run words p (v .0) z) i (v .1), λ h. v .2 h ∙ sym (told-append js ls h ∙ ap (λ w. told w ls) (away-told c h)))
+    (v .0, subst (λ p. Run words p (v .0) z) i (v .1), alike-append (away-told c) (v .2))
 
 -- So after an accepted format any list of the ten keeps demand 3.
 pub returneds-demand-3 : (m : ℕ) (a : Answer) (x x′ : Lending) → OnTable Formatted (x .store) (x .table) m a (x′ .store) (x′ .table) → said a ≡ C.ok
@@ -243,7 +243,7 @@ pub returneds-demand-3 : (m : ℕ) (a : Answer) (x x′ : Lending) → OnTable F
 returneds-demand-3 m a x x′ h e js y r =
     let F = accepted-format m a x x′ h e in
     let q = returneds-run (F .accepts refl .0) r in
-    subst (λ t. Demand-3 words t y) (q .2 nothing) (formatted-calls m (x .store) (x′ .store) (x .table) (x′ .table) F (q .0) y (q .1))
+    subst (λ t. Demand-3 words t y) (q .2 .tells nothing) (formatted-calls m (x .store) (x′ .store) (x .table) (x′ .table) F (q .0) y (q .1))
 
 -- And the holders read from the store are those that these ordinary calls were granted.
 pub returneds-holders : (m : ℕ) (a : Answer) (x x′ : Lending) → OnTable Formatted (x .store) (x .table) m a (x′ .store) (x′ .table) → said a ≡ C.ok
@@ -253,4 +253,13 @@ pub returneds-holders : (m : ℕ) (a : Answer) (x x′ : Lending) → OnTable Fo
 returneds-holders m a x x′ h e js y r =
     let F = accepted-format m a x x′ h e in
     let q = returneds-run (F .accepts refl .0) r in
-    (q .0, q .2, holders-run m (x .store) (x′ .store) (x .table) (x′ .table) F (q .0) y (q .1))
+    (q .0, q .2 .tells, holders-run m (x .store) (x′ .store) (x .table) (x′ .table) F (q .0) y (q .1))
+
+-- And by what the host sees alone the begun sessions stand in their line: a record is begun exactly if its session stands in it, and the lower number stands
+-- earlier.
+pub returneds-line : (m : ℕ) (a : Answer) (x x′ : Lending) → OnTable Formatted (x .store) (x .table) m a (x′ .store) (x′ .table) → said a ≡ C.ok
+    → (js : List Turn) (y : Lending) → Returneds x′ js y → InLine (line [] js) (y .table)
+returneds-line m a x x′ h e js y r =
+    let F = accepted-format m a x x′ h e in
+    let q = returneds-run (F .accepts refl .0) r in
+    subst (λ l. InLine l (y .table)) (q .2 .lines []) (words-line m (x .store) (x′ .store) (x .table) (x′ .table) F (q .0) y (q .1))

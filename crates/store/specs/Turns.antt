@@ -14,6 +14,7 @@ use Rattle.sessions.specs.Sessions.{parties}
 use Rattle.serial.specs.Model.{both}
 use Rattle.serial.specs.Calls.{Turn, Told, nothing, tell, told, Machine, Run, stop, next, Demand-3}
 use Rattle.serial.specs.Calls as C
+use Rattle.serial.specs.Line.{line-answer, in-line, line}
 use Rattle.outcomes.specs.declared.Answer.{Answer}
 use Rattle.outcomes.specs.declared.Answer.the-variants.{Refused}
 use Rattle.outcomes.specs.Said.{said}
@@ -148,6 +149,16 @@ away-quiet c (C.wait p) l v t = absurd v
 away-quiet c (C.done ns) l v t = absurd v
 away-quiet c (C.refused n k) l v t = quiet c n v t
 
+pub away-line : (k : Turn) → TurnedAway (k .answer) → (l : List ℕ) → in-line l k ≡ l
+away-line k v l = go (k .answer) v
+  where
+    go : (a : C.Answer) → TurnedAway a → line-answer (k .call) a l ≡ l
+    go C.ok w = absurd w
+    go C.more w = absurd w
+    go (C.wait p) w = absurd w
+    go (C.done ns) w = absurd w
+    go (C.refused n i) w = refl
+
 -- and leaves store and table as they were lent, whatever they are.
 away-stays : (a : C.Answer) → TurnedAway a → stays a ≡ true
 away-stays C.ok v = absurd v
@@ -160,7 +171,7 @@ abbrev pub Same : Lending → Lending → Type 0
 Same x y = (y .store ≡ x .store) × (y .table ≡ x .table)
 
 numbers-of : Session → List ℕ
-numbers-of s = s .begun ∷ s .code ∷ s .entry ∷ s .first ∷ s .second ∷ s .stage ∷ s .target ∷ s .at ∷ s .level ∷ s .low ∷ s .high ∷ s .last ∷ s .undo ∷ []
+numbers-of s = s .begun ∷ s .code ∷ s .entry ∷ s .first ∷ s .second ∷ s .stage ∷ s .target ∷ s .at ∷ s .level ∷ s .low ∷ s .high ∷ s .last ∷ s .undo ∷ s .order ∷ []
 
 same-session : (s u : Session) → Dec (s ≡ u)
 unfolding numbers-of
@@ -182,6 +193,7 @@ same-session s u = go (List-discrete ℕ-discrete (numbers-of s) (numbers-of u))
           high = getD l 10 0;
           last = getD l 11 0;
           undo = getD l 12 0;
+          order = getD l 13 0;
         }
 
     go : Dec (numbers-of s ≡ numbers-of u) → Dec (s ≡ u)
@@ -246,6 +258,11 @@ pub own-told : {x z : Lending} {ks : List Turn} (r : Lendings x ks z) (t : Told)
 own-told over t = refl
 own-told (then {k = k} d r) t = own-told r (tell k t)
 own-told (wrong {k = k} {ks = ks} v d a b r) t = own-told r t ∙ sym (ap (λ w. told w ks) (away-quiet (k .call) (k .answer) (k .list) v t))
+
+pub own-line : {x z : Lending} {ks : List Turn} (r : Lendings x ks z) (l : List ℕ) → line l (own r) ≡ line l ks
+own-line over l = refl
+own-line (then {k = k} d r) l = own-line r (in-line l k)
+own-line (wrong {k = k} {ks = ks} v d a b r) l = own-line r l ∙ sym (ap (λ w. line w ks) (away-line k v l))
 
 pub lendings-sound : {x z : Lending} {ks : List Turn} → Sound-lent x → Lendings x ks z → Sound-lent z
 lendings-sound S r = functions-sound S (own-run r)

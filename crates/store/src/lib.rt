@@ -2,12 +2,12 @@
 // a call of a card's day, whose bytes are lent too.
 //
 // Each refuses a table that is not of 17 records (refusal 1), and then changes nothing. Else it loads the records, as the test of soundness reads them all,
-// and makes the call on them by value. Of the table that the call gives back begin, put, step, commit and abort store ONE record, their party's: the call
-// leaves the others as they were (specs/OneRecord), and so do a run and a request (specs/Stints) and a day call (specs/Days). Format and a batch store all
+// and makes the call on them by value. Of the table that the call gives back put, step, commit and abort store ONE record, their party's: the call leaves
+// the others as they were (specs/OneRecord), and so do a run and a request (specs/Stints) and a day call (specs/Days). Format, begin and a batch store all
 // 17. Each promises what the call by value promises, over words, table and list at entry and at exit (specs/Lent, specs/Listed, specs/Batched, specs/Days);
-// so any list of calls after an accepted format keeps demand 3 (specs/Turns, specs/Demand3, specs/Servings), has the holders that its calls were granted
-// (specs/Holding), and every list of calls has a run. Nothing is asked of the caller. It rests on tables for the lent table, on calls for the calls by
-// value, on seats for what is kept of them.
+// so any list of calls after an accepted format keeps demand 3 (specs/Turns, specs/Demand3, specs/Servings), has the holders that its calls were granted and
+// the order of their begins (specs/Holding), and every list of calls has a run. Nothing is asked of the caller. It rests on tables for the lent table, on
+// calls for the calls by value, on seats for what is kept of them.
 ghost use mathlib.Core.Path.{_≡_};
 ghost use Rattle.store.specs.Lent.{Formatted, Begun, Put, Stepped, Committed, Aborted, OnTable, SteppedOnTable};
 ghost use Rattle.store.specs.Listed.{RanBy, AskedBy, ListedOnTable};
@@ -18,6 +18,7 @@ ghost use Rattle.store.specs.Stints.{stinted};
 use outcomes::Answer;
 use outcomes::DayAnswer;
 use outcomes::Made;
+use outcomes::Served;
 use seats::DaySeat;
 use seats::Seat;
 use seats::Stint;
@@ -59,14 +60,15 @@ pub struct DayAsk {
     pub place: u32,
 }
 
-// ---- the calls by value, of whose table only the record of the call's party is kept
+// ---- a call by value whose whole table is kept
 
-fn begin_by_value(store: &mut [u32], t: [Session; PARTIES], p: u32) -> Seat
-    ensures { λ r. ⌜ Begun (now (store .entry)) t p (r .answer) (now (store .exit)) (seated t r) ⌝ }
+fn begin_by_value(store: &mut [u32], t: [Session; PARTIES], p: u32) -> Served
+    ensures { λ r. ⌜ Begun (now (store .entry)) t p (r .answer) (now (store .exit)) (r .table) ⌝ }
 {
-    let served = calls::begin(store, t, p);
-    seats::seat_of(served, p)
+    calls::begin(store, t, p)
 }
+
+// ---- the calls by value, of whose table only the record of the call's party is kept
 
 fn put_by_value(store: &mut [u32], t: [Session; PARTIES], k: Ask) -> Seat
     ensures { λ r. ⌜ Put (now (store .entry)) t k (r .answer) (now (store .exit)) (seated t r) ⌝ }
@@ -160,10 +162,10 @@ pub fn begin(store: &mut [u32], table: &mut [Session], p: u32) -> Answer
         return seats::wrong_table();
     }
     let t = tables::load_all(table);
-    let seat = begin_by_value(store, t, p);
-    let x = seat.session;
-    tables::store_session(table, seat.party, x);
-    seat.answer
+    let served = begin_by_value(store, t, p);
+    let after = served.table;
+    tables::save_all(table, after);
+    served.answer
 }
 
 // A party's request: it is in hand until a step answers done.

@@ -29,6 +29,7 @@ fn no_table() -> [Session; PARTIES]
         high: 0,
         last: 0,
         undo: 0,
+        order: 0,
     };
     [x; PARTIES]
 }

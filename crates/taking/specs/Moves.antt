@@ -1,6 +1,6 @@
 -- The step of a locate that takes a descriptor, on words, is the machine's.
 use mathlib.Core.Path.{_≡_, refl, sym, ap, ap₂, subst, _∙_}
-use mathlib.Core.Bool.{Bool, true, false, cond, _||_}
+use mathlib.Core.Bool.{Bool, true, false, cond}
 use mathlib.Core.List.{List, [], _∷_}
 use Prim.Native.Nat.{ℕ, suc, _*_, _≤_}
 use native.Mathlib.Omega.{arith}
@@ -20,8 +20,8 @@ use Rattle.finishing.specs.Finishing.{endRequest}
 use Rattle.finishing.specs.Ended.{refused-moves}
 use Rattle.serial.specs.Locks.{weak}
 use Rattle.serial.specs.Model.{two-words}
-use Rattle.machine.specs.Logic.{leb-yes, eqb-yes}
-use Rattle.machine.specs.Holders.{width, elem}
+use Rattle.machine.specs.Logic.{leb-yes}
+use Rattle.machine.specs.Holders.{width}
 use Rattle.machine.specs.State.{Desc, State, Request, Outcome, take, done, refused}
 use Rattle.machine.specs.Steps.{group-blockers, guarded, goes-on, passed-state, located-state, ended, last-take, take-desc, take-step, answer, next-step}
 use Rattle.machine.specs.Nearest.{takes-of}
@@ -140,7 +140,7 @@ module _ (s : List ℕ) (t : List Session) (A : Stands s t) (p : ℕ) (party : p
     guard-moves (b ∷ bs) e =
         let q : inWayOf s (M-of s) d p ≡ b = in-way ∙ ap first-of e in
         rw (ne-eqb (inWayOf s (M-of s) d p) 0 (λ z. blocker-proper p D b bs e (sym q ∙ z)))
-        (wait-moves s t A p (inWayOf s (M-of s) d p) b bs (ap (λ c. elem c (b ∷ bs)) q ∙ ap (λ c. c || elem b bs) (eqb-yes b b refl)))
+        (wait-moves s t A p (inWayOf s (M-of s) d p) b bs q)
 
     pub take-moves : MovesBy (takeStep s (M-of s) (R-of s) n p x) (take-step n p r (next-key x) σ)
     unfolding take-step take-desc request-in

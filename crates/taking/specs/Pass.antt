@@ -47,6 +47,7 @@ tookKey x k =
       high = x .high;
       last = k;
       undo = x .undo;
+      order = x .order;
     }
 
 -- A locate's first key is not 0.

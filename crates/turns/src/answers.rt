@@ -9,6 +9,7 @@ use books::book::ENTRIES;
 use books::book::LINES;
 use books::book::LISTED;
 use books::book::MADE;
+use books::book::NAMED;
 use books::book::NUMBER;
 use books::book::RECORDS;
 use books::book::REFUSED;
@@ -29,7 +30,6 @@ use schedules::side::RECORD_WORDS;
 use schedules::side::Side;
 use schedules::side::TABLE;
 use schedules::side::is_kept;
-use schedules::words::bit;
 use schedules::words::wide;
 
 fn count_answer(b: &mut Book, kind: u32, word: u32, first: u32) {
@@ -43,14 +43,9 @@ fn count_answer(b: &mut Book, kind: u32, word: u32, first: u32) {
     }
 }
 
-// The number that the store has to say, where the model said this one: a wait names one of those in the way.
-fn wanted(word: u32, number: u32, model: u32) -> u32 {
-    if word == call::WAIT {
-        if model & bit(number) != 0 {
-            return number;
-        }
-    }
-    model
+// What the number beside a word is.
+fn number_of(word: u32) -> u32 {
+    if word == call::WAIT { NAMED } else { NUMBER }
 }
 
 // In which bits some word of the two lists is not the same.
@@ -67,7 +62,7 @@ fn lists(b: &Book) -> u32 {
 // The store's answer is the model's, and so is its list.
 fn see_answer(b: &mut Book, x: Said, y: Said) {
     same(b, WORD, x.word, y.word);
-    same(b, NUMBER, x.first, wanted(x.word, x.first, y.first));
+    same(b, number_of(x.word), x.first, y.first);
     same(b, BESIDE, x.second, y.second);
     let bits = lists(b);
     same(b, LISTED, bits, 0);

@@ -19,7 +19,8 @@ use Rattle.machine.specs.Holders.{width, latch-word, latch-blockers}
 use Rattle.machine.specs.State.{Tree, Request, State, Outcome, at, more, wait, refused}
 use Rattle.machine.specs.Descent.{Sons, sons-of}
 use Rattle.machine.specs.Steps.{answer, ended, goes-on, guarded, small, fills, son-at, taking-part, level-blockers, level-need, level-state, level-step, stand-step, at-step}
-use Rattle.machine.specs.Parts.{Free, free-words}
+use Rattle.machine.specs.InTheWay.{Free}
+use Rattle.machine.specs.Parts.{free-words}
 use Rattle.machine.specs.Sound.{Room}
 use Rattle.meaning.specs.Reading.{Chained, Numbered, erase, M-of}
 use Rattle.meaning.specs.Around.{below-erase}

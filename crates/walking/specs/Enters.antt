@@ -21,7 +21,8 @@ use Rattle.machine.specs.Holders.{width, latch-word}
 use Rattle.machine.specs.State.{State, Tree, top, at, with-free, with-root}
 use Rattle.machine.specs.Descent.{Sons, node, lone, lone-son, drop-lone, entered, split-root}
 use Rattle.machine.specs.Steps.{whole-root, halved-root, goes-on}
-use Rattle.machine.specs.Parts.{Free, free-other}
+use Rattle.machine.specs.InTheWay.{Free}
+use Rattle.machine.specs.Parts.{free-other}
 use Rattle.machine.specs.Sound.{times}
 use Rattle.meaning.specs.Reading.{Chained, Leaf, Mark, Numbered, erase, numbers, node-numbers, M-of, R-of}
 use Rattle.meaning.specs.Sound.{All, Apart}

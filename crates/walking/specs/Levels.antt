@@ -31,7 +31,8 @@ use Rattle.machine.specs.State.{Tree, top, same, at, with-free, on-tree}
 use Rattle.machine.specs.Descent.{Sons, node, halves, on-latch}
 use Rattle.machine.specs.Steps.{small, fills, son-at, stepped, descended, level-state, goes-on}
 use Rattle.machine.specs.Context.{Focus}
-use Rattle.machine.specs.Parts.{Free, free-other}
+use Rattle.machine.specs.InTheWay.{Free}
+use Rattle.machine.specs.Parts.{free-other}
 use Rattle.machine.specs.Sound.{times}
 use Rattle.meaning.specs.Reading.{Chained, Leaf, Mark, Numbered, erase, numbers, node-numbers, M-of}
 use Rattle.meaning.specs.Sound.{All}

@@ -19,7 +19,8 @@ use Rattle.machine.specs.Holders.{width, latch-word, latch-blockers}
 use Rattle.machine.specs.State.{Tree, Request, State, Outcome, at, more}
 use Rattle.machine.specs.Descent.{Sons, sons-of, joins, pick-pair}
 use Rattle.machine.specs.Steps.{answer, goes-on, guarded, small, fills, son-at, taking-part, level-blockers, level-need, level-state, level-step, stand-step, at-step, next-step}
-use Rattle.machine.specs.Parts.{Free, free-words}
+use Rattle.machine.specs.InTheWay.{Free}
+use Rattle.machine.specs.Parts.{free-words}
 use Rattle.machine.specs.Context.{Focus}
 use Rattle.machine.specs.Sound.{Room}
 use Rattle.meaning.specs.Reading.{Mark, Numbered, erase, stage-of, M-of}

@@ -33,7 +33,8 @@ use Rattle.machine.specs.State.{Tree, top, at, with-free, on-tree}
 use Rattle.machine.specs.Descent.{Sons, node, down-to, on-last, last-of, but-last, bound-of, joined, moved-right, moved-left, on-pair, pick-pair, joins, mended, on-latch}
 use Rattle.machine.specs.Steps.{small, fills, son-at, stepped, descended, level-state, goes-on}
 use Rattle.machine.specs.Context.{Focus}
-use Rattle.machine.specs.Parts.{Free, free-other}
+use Rattle.machine.specs.InTheWay.{Free}
+use Rattle.machine.specs.Parts.{free-other}
 use Rattle.machine.specs.Sound.{times}
 use Rattle.meaning.specs.Reading.{Leaf, Mark, Numbered, erase, numbers, node-numbers, M-of, R-of}
 use Rattle.meaning.specs.Numbers.{one-is, times-append, apart-times}

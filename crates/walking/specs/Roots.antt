@@ -27,7 +27,8 @@ use Rattle.machine.specs.Tree.{mapE, flat, leaves}
 use Rattle.machine.specs.Holders.{width, latch-word}
 use Rattle.machine.specs.State.{top, at}
 use Rattle.machine.specs.Descent.{Sons, node, halves, lone, entered}
-use Rattle.machine.specs.Parts.{Free, free-other}
+use Rattle.machine.specs.InTheWay.{Free}
+use Rattle.machine.specs.Parts.{free-other}
 use Rattle.machine.specs.Sound.{times}
 use Rattle.meaning.specs.Reading.{Chained, Leaf, Mark, Numbered, erase, numbers, node-numbers, M-of}
 use Rattle.meaning.specs.Sound.{All}

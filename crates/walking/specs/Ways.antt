@@ -1,6 +1,6 @@
 -- Latches in the way: what the words' test answers, and the machine's list.
-use mathlib.Core.Path.{_≡_, refl, sym, subst, _∙_}
-use mathlib.Core.Bool.{Bool, true, false, cond}
+use mathlib.Core.Path.{_≡_, refl, sym, ap, subst, _∙_}
+use mathlib.Core.Bool.{Bool, true, false, cond, _||_}
 use mathlib.Core.List.{List, [], _∷_}
 use mathlib.Core.Logic.{_⊎_, inl, inr}
 use Prim.Native.Nat.{ℕ, suc, _-_}
@@ -9,14 +9,14 @@ use native.Mathlib.Numerals.{add-one}
 use native.Mathlib.Omega.{arith}
 use lib.Dec.{eqb}
 use borrow.Author.Tests.{eq-eqb, ne-eqb}
-use Rattle.serial.specs.Serial.{true≢false}
-use Rattle.machine.specs.Holders.{latch-word, elem, latch-blockers}
+use Rattle.machine.specs.Logic.{eqb-is}
+use Rattle.machine.specs.Holders.{latch-word, elem, add-latch, latch-blockers}
 use Rattle.descents.specs.Descents.{inWay, firstInWay}
 
--- No latch is in the way; or one is, whose party is among the machine's.
+-- No latch is in the way; or one is, whose party is the machine's first.
 pub data Way (b : ℕ) (bs : List ℕ) : Type 0 where
   clear : b ≡ 0 → bs ≡ [] → Way b bs
-  shut : ¬ (b ≡ 0) → (c : ℕ) (cs : List ℕ) → bs ≡ c ∷ cs → elem (b - 1) (c ∷ cs) ≡ true → Way b bs
+  shut : ¬ (b ≡ 0) → (c : ℕ) (cs : List ℕ) → bs ≡ c ∷ cs → b - 1 ≡ c → Way b bs
 
 -- One latch word: free for p, or another's.
 pub data Mine (p w : ℕ) : Type 0 where
@@ -44,21 +44,34 @@ shut-in : (p w : ℕ) → ¬ (w ≡ 0) → ¬ (w ≡ latch-word p) → inWay p w
 unfolding inWay
 shut-in p w n k = rw (ne-eqb w 0 n, add-one p, ne-eqb w (suc p) k) refl
 
-elem-self : (x : ℕ) (l : List ℕ) → elem x (x ∷ l) ≡ true
-elem-self x l = rw (eq-eqb x x refl) refl
-
--- The first word is another's: its party is in the list.
-shut-list : (p w : ℕ) (ws : List ℕ) → ¬ (w ≡ 0) → ¬ (w ≡ latch-word p) → elem (w - 1) (latch-blockers p (w ∷ ws)) ≡ true
+-- One word, another's: its party is the list.
+shut-one : (p w : ℕ) → ¬ (w ≡ 0) → ¬ (w ≡ latch-word p) → latch-blockers p (w ∷ []) ≡ (w - 1) ∷ []
 unfolding latch-blockers
-shut-list p w ws n k = rw (ne-eqb w 0 n, ne-eqb w (latch-word p) k) (go (elem (w - 1) (latch-blockers p ws)) refl)
-  where
-    go : (c : Bool) → elem (w - 1) (latch-blockers p ws) ≡ c → elem (w - 1) (cond c (latch-blockers p ws) ((w - 1) ∷ latch-blockers p ws)) ≡ true
-    go true e = e
-    go false e = elem-self (w - 1) (latch-blockers p ws)
+shut-one p w n k = rw (ne-eqb w 0 n, ne-eqb w (latch-word p) k) refl
 
-listed : (b : ℕ) (bs : List ℕ) → ¬ (b ≡ 0) → elem (b - 1) bs ≡ true → Way b bs
-listed b [] n e = absurd (true≢false e refl)
-listed b (c ∷ cs) n e = shut n c cs refl e
+-- The first of two words is another's: its party is first, be the second word's the same one.
+shut-two : (p v w : ℕ) → ¬ (v ≡ 0) → ¬ (v ≡ latch-word p) → (cs : List ℕ) × (latch-blockers p (v ∷ w ∷ []) ≡ (v - 1) ∷ cs)
+unfolding latch-blockers
+shut-two p v w n k = go (mine p w)
+  where
+    alone : latch-blockers p (w ∷ []) ≡ [] → (cs : List ℕ) × (latch-blockers p (v ∷ w ∷ []) ≡ (v - 1) ∷ cs)
+    alone e = ([], ap (add-latch p v) e ∙ shut-one p v n k)
+
+    both : (c : Bool) → elem (v - 1) ((w - 1) ∷ []) ≡ c → (cs : List ℕ) × (cond c ((w - 1) ∷ []) ((v - 1) ∷ (w - 1) ∷ []) ≡ (v - 1) ∷ cs)
+    both true e = ([], ap (λ i. i ∷ []) (sym (eqb-is (v - 1) (w - 1) (one (eqb (v - 1) (w - 1)) e))))
+      where
+        one : (b : Bool) → (b || false) ≡ true → b ≡ true
+        one true e = refl
+        one false e = e
+    both false e = ((w - 1) ∷ [], refl)
+
+    go : Mine p w → (cs : List ℕ) × (latch-blockers p (v ∷ w ∷ []) ≡ (v - 1) ∷ cs)
+    go (none e) = alone (free-in p w (inl e) .1 [])
+    go (own e m) = alone (free-in p w (inr e) .1 [])
+    go (others m j) =
+        let b = both (elem (v - 1) ((w - 1) ∷ [])) refl in
+        let f : add-latch p v ((w - 1) ∷ []) ≡ (v - 1) ∷ b .0 = rw (ne-eqb v 0 n, ne-eqb v (latch-word p) k) (b .1) in
+        (b .0, ap (add-latch p v) (shut-one p w m j) ∙ f)
 
 pub way-one : (p w : ℕ) → Way (inWay p w) (latch-blockers p (w ∷ []))
 way-one p w = go (mine p w)
@@ -72,7 +85,7 @@ way-one p w = go (mine p w)
     go : Mine p w → Way (inWay p w) (latch-blockers p (w ∷ []))
     go (none e) = free (inl e)
     go (own e n) = free (inr e)
-    go (others n k) = subst (λ b. Way b (latch-blockers p (w ∷ []))) (sym (shut-in p w n k)) (listed w (latch-blockers p (w ∷ [])) n (shut-list p w [] n k))
+    go (others n k) = subst (λ b. Way b (latch-blockers p (w ∷ []))) (sym (shut-in p w n k)) (shut n (w - 1) [] (shut-one p w n k) refl)
 
 pub way-two : (p v w : ℕ) → Way (firstInWay p v w) (latch-blockers p (v ∷ w ∷ []))
 unfolding firstInWay
@@ -86,4 +99,5 @@ way-two p v w = go (mine p v) (way-one p w)
     go (own e n) r = free (inr e) r
     go (others n k) r =
         let s = shut-in p v n k in
-        rw (ne-eqb (inWay p v) 0 (λ z. n (sym s ∙ z))) (subst (λ b. Way b (latch-blockers p (v ∷ w ∷ []))) (sym s) (listed v (latch-blockers p (v ∷ w ∷ [])) n (shut-list p v (w ∷ []) n k)))
+        let h = shut-two p v w n k in
+        rw (ne-eqb (inWay p v) 0 (λ z. n (sym s ∙ z))) (subst (λ b. Way b (latch-blockers p (v ∷ w ∷ []))) (sym s) (shut n (v - 1) (h .0) (h .1) refl))

@@ -8,7 +8,7 @@ abbrev Inv-loop : tie.InvT-loop
 Inv-loop store clause table list n c₀ c = Unit {0}
 
 abbrev μ-loop : tie.MeasureT-loop
-μ-loop store clause table list n c₀ c = 30 - c
+μ-loop store clause table list n c₀ c = 4294967295 - c
 
 rows-requires : tie.Need-rows-requires Inv-loop μ-loop
 rows-requires c κs = search needs

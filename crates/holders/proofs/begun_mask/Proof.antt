@@ -3,8 +3,8 @@ use mathlib.Core.Path.{refl}
 use Prim.Native.Nat.{_-_, _≤_}
 use native.Mathlib.Omega.{arith}
 use borrow.Author.Needs.{needs}
-use Rattle.sessions.specs.Sessions.{parties}
-use Rattle.holders.specs.Holders.{begunMask, sessionsWith, isBegun}
+use Rattle.sessions.specs.Sessions.{parties, isBegun}
+use Rattle.holders.specs.Holders.{begunMask, sessionsWith}
 use Rattle.holders.proofs.Turns.{Masking, mask-more, mask-end}
 use Rattle.holders.proofs.begun_mask.Statement.{statement}
 use Rattle.holders.proofs.begun_mask.Tie as tie

@@ -1,6 +1,6 @@
 -- The proof of `is_begun`.
 use mathlib.Core.Path.{refl}
-use Rattle.holders.specs.Holders.{isBegun}
+use Rattle.sessions.specs.Sessions.{isBegun}
 use Rattle.holders.proofs.is_begun.Statement.{statement}
 use Rattle.holders.proofs.is_begun.Tie as tie
 

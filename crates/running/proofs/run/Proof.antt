@@ -34,6 +34,9 @@ run-seat-requires c κs = record { table = c .before .before .before .before .be
 settle-requires : tie.Need-settle-requires
 settle-requires c κs = any-party _ _ (sym (c .before .before .before .before .before .before .before .before .before .before .before .before .before .before .before .step-refusal .ensures) ∙ c .before .before .before .before .before .before .before .before .before .before .before .before .before .before .if1 .left)
 
+name-wait-requires : tie.Need-name-wait-requires
+name-wait-requires c κs = c .before .before .before .before .before .before .before .before .run-seat .ensures .names
+
 same-length : tie.Need-same-length
 same-length c = search needs
 
@@ -41,7 +44,7 @@ same-length-2 : tie.Need-same-length-2
 same-length-2 c = search needs
 
 returns-2 : tie.Need-returns-2
-returns-2 c = table-runs (c .before .before .before .before .before .before .before .run-seat .ensures) (c .before .before .before .before .before .before .before .before .before .before .before .before .before .before .before .before .before .before .before .pre) (c .before .before .before .before .before .before .before .before .before .before .seat .ensures) (sym (c .before .before .before .before .before .before .before .before .before .before .before .before .before .before .before .before .step-refusal .ensures) ∙ c .before .before .before .before .before .before .before .before .before .before .before .before .before .before .before .if1 .left) (c .settle .ensures)
+returns-2 c = table-runs (c .before .before .before .before .before .before .before .before .before .run-seat .ensures) (c .before .before .before .before .before .before .before .before .before .before .before .before .before .before .before .before .before .before .before .before .before .pre) (c .before .before .before .before .before .before .before .before .before .before .before .before .seat .ensures) (sym (c .before .before .before .before .before .before .before .before .before .before .before .before .before .before .before .before .before .before .step-refusal .ensures) ∙ c .before .before .before .before .before .before .before .before .before .before .before .before .before .before .before .before .before .if1 .left) (c .before .before .settle .ensures) (c .name-wait .ensures)
 
 pub run-spec : {M : Type 1} → statement M
 run-spec =
@@ -56,6 +59,7 @@ run-spec =
     seat-requires
     run-seat-requires
     settle-requires
+    name-wait-requires
     same-length
     same-length-2
     returns-2)

@@ -3,7 +3,6 @@ use Prim.Native.Nat.{_≤_, _-_}
 use native.Mathlib.Omega.{arith}
 use lib.ListN.{length}
 use borrow.Author.Needs.{needs}
-use Rattle.outcomes.specs.Said.{said}
 use Rattle.running.specs.Scans.{Hint}
 use Rattle.running.specs.Seats.{SeatRunning, seat-none, seat-seated, seat-again, seat-stops, seat-over}
 use Rattle.running.proofs.run_seat.Statement.{statement}
@@ -11,7 +10,7 @@ use Rattle.running.proofs.run_seat.Tie as tie
 
 abbrev Inv-loop : tie.InvT-loop
 Inv-loop store₀ list₀ m r p bound limit sat₀ steps₀ store list sat steps =
-    (length store ≡ length store₀) × (length list ≡ length list₀) × (steps ≤ limit) × SeatRunning p (sat₀ .session) store₀ list₀ (said (sat .answer)) steps list store (sat .session) × Hint store m r (sat .session) (sat .next)
+    (length store ≡ length store₀) × (length list ≡ length list₀) × (steps ≤ limit) × SeatRunning m r p (sat₀ .session) store₀ list₀ (sat .answer) steps list store (sat .session) × Hint store m r (sat .session) (sat .next)
 
 abbrev μ-loop : tie.MeasureT-loop
 μ-loop store₀ list₀ m r p bound limit sat₀ steps₀ store list sat steps = limit - steps
@@ -20,7 +19,7 @@ limit-of-requires : tie.Need-limit-of-requires Inv-loop μ-loop
 limit-of-requires c κs = search needs
 
 loop-holds : tie.Need-loop-holds Inv-loop μ-loop
-loop-holds c = (refl, refl, omega arith, seat-none _ _ _ _, λ e. absurd (e refl))
+loop-holds c = (refl, refl, omega arith, seat-none _ _ _ _ _ _, λ e. absurd (e refl))
 
 is-more-requires : tie.Need-is-more-requires Inv-loop μ-loop
 is-more-requires c κs = search needs
@@ -53,7 +52,7 @@ same-length-4 : tie.Need-same-length-4 Inv-loop μ-loop
 same-length-4 c = search needs
 
 returns-2 : tie.Need-returns-2 Inv-loop μ-loop
-returns-2 c = seat-over (c .before .before .limit-of .ensures) (c .before .loop .inv .2) (c .before .loop .inv .3) (omega (arith, c .before .before .limit-of .ensures .some)) (λ e. omega arith)
+returns-2 c = seat-over (c .before .before .limit-of .ensures) (c .before .loop .inv .2) (c .before .loop .inv .3) (omega (arith, c .before .before .limit-of .ensures .some)) (omega arith)
 
 pub run-seat-spec : {M : Type 1} → statement M
 run-seat-spec =

@@ -8,7 +8,7 @@ begin-refusal-requires : tie.Need-begin-refusal-requires
 begin-refusal-requires c κs = search needs
 
 returns : tie.Need-returns
-returns c = begin-refuses _ _ _ _ (c .before .before .before .pre) (c .before .begin-refusal .ensures) (c .if1 .taken)
+returns c = begin-refuses _ _ _ _ (search needs) (search needs) (search needs)
 
 begin-requires : tie.Need-begin-requires
 begin-requires c κs = (c .before .before .before .pre, sym (c .before .begin-refusal .ensures) ∙ c .if1 .left)

@@ -33,9 +33,12 @@ cast-r c = search needs
 fault-in-requires : tie.Need-fault-in-requires
 fault-in-requires c κs = rw (c .before .entries .ensures, c .records .ensures) (sizes-has _ (sym (c .before .before .before .sizes-ok .ensures) ∙ not-false _ (c .before .before .if1 .left)))
 
+orders-then-requires : tie.Need-orders-then-requires
+orders-then-requires c κs = search needs
+
 returns-2 : tie.Need-returns-2
 unfolding firstFault
-returns-2 c = c .fault-in .ensures ∙ rw (c .before .before .entries .ensures, c .before .records .ensures, sym (c .before .before .before .before .sizes-ok .ensures) ∙ not-false _ (c .before .before .before .if1 .left)) refl
+returns-2 c = c .orders-then .ensures ∙ rw (c .before .fault-in .ensures, c .before .before .before .entries .ensures, c .before .before .records .ensures, sym (c .before .before .before .before .before .sizes-ok .ensures) ∙ not-false _ (c .before .before .before .before .if1 .left)) refl
 
 pub first-fault-spec : {M : Type 1} → statement M
 first-fault-spec =
@@ -49,4 +52,5 @@ first-fault-spec =
     records-requires
     cast-r
     fault-in-requires
+    orders-then-requires
     returns-2)

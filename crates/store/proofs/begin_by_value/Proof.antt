@@ -1,5 +1,3 @@
-use Rattle.promises.specs.Seats.{table-of}
-use Rattle.store.specs.OneRecord.{seat-kept}
 use borrow.Author.Needs.{needs}
 use Rattle.store.proofs.begin_by_value.Statement.{statement}
 use Rattle.store.proofs.begin_by_value.Tie as tie
@@ -7,14 +5,11 @@ use Rattle.store.proofs.begin_by_value.Tie as tie
 begin-requires : tie.Need-begin-requires
 begin-requires c κs = search needs
 
-seat-of-requires : tie.Need-seat-of-requires
-seat-of-requires c κs = search needs
-
 same-length : tie.Need-same-length
 same-length c = search needs
 
 returns : tie.Need-returns
-returns c = seat-kept _ _ _ _ _ _ _ _ _ (table-of _ _ (c .before .before .before .before .good .1 .0)) (λ o. o) (c .seat-of .ensures) (c .before .begin .ensures)
+returns c = c .begin .ensures
 
 pub begin-by-value-spec : {M : Type 1} → statement M
-begin-by-value-spec = tie.close (tie.spec begin-requires seat-of-requires same-length returns)
+begin-by-value-spec = tie.close (tie.spec begin-requires same-length returns)

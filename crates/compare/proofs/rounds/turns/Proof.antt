@@ -22,11 +22,8 @@ get-requires-2 c κs = search needs
 returns : tie.Need-returns Inv-loop μ-loop
 returns c = search needs
 
-next-requires : tie.Need-next-requires Inv-loop μ-loop
-next-requires c κs = search needs
-
-make-requires : tie.Need-make-requires Inv-loop μ-loop
-make-requires c κs = search needs
+turn-requires : tie.Need-turn-requires Inv-loop μ-loop
+turn-requires c κs = search needs
 
 add-i : tie.Need-add-i Inv-loop μ-loop
 add-i c = search needs
@@ -50,8 +47,7 @@ turns-spec =
     loop-holds
     get-requires-2
     returns
-    next-requires
-    make-requires
+    turn-requires
     add-i
     loop-less
     loop-again

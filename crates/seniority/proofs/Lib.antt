@@ -1,0 +1,3 @@
+-- Lemmas of the proofs.
+pub mod Walk
+pub mod Turns

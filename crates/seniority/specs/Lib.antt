@@ -1,0 +1,3 @@
+-- The specifications of the crate seniority.
+pub mod Seniority
+pub mod Laws
