@@ -15,7 +15,7 @@ LIBRARY = target/staticlib/libentry_store.a
 VERSION = $(shell sed -n 's/^\#define ENTRY_STORE_VERSION "\(.*\)".*/\1/p' $(HEADER))
 export CC
 
-.PHONY: help try prove check archive host install uninstall bench fuzz clean need-rt need-cc need-version
+.PHONY: help try prove check journals archive host install uninstall bench fuzz clean need-rt need-cc need-version
 
 help: ## this list
 	@sed -n 's/^\([a-z]*\):[^#]*## \(.*\)/\1|\2/p' Makefile | while IFS='|' read -r name what; do \
@@ -30,8 +30,12 @@ prove: need-rt ## proves CRATE (the trace program) and what it rests on, 8 minut
 	@.ci/prove $(CRATE)
 	@if [ '$(CRATE)' = trace ]; then echo 'target/bin/trace < $(SCRIPT)'; target/bin/trace < '$(SCRIPT)'; fi
 
-check: need-rt need-cc ## everything from nothing, 18 minutes: proofs, must-fail edits, programs, the example host
+check: need-rt need-cc ## everything from nothing, 22 minutes: proofs, must-fail edits, programs, the example host
 	@.ci/run
+
+journals: need-rt ## proves the checker of journals and what it rests on, 2 minutes, and holds it to stored verdicts
+	@.ci/prove check_journal
+	@.ci/journals
 
 archive: $(LIBRARY) ## proves and builds the library for C, 8 minutes
 

@@ -12,62 +12,69 @@ draw() {
 
     function table() {
         #     y, height, name, two lines on it
-        layer(44, 132, "model", "values and", "memberships")
-        layer(180, 132, "machine", "states, one", "row a step")
-        layer(316, 152, "layout", "which record", "is what")
-        layer(472, 258, "records", "nodes, groups,", "undo records")
-        layer(734, 92, "words", "what runs", "")
+        layer(44, 244, "model", "values and", "memberships")
+        layer(292, 132, "machine", "states, one", "row a step")
+        layer(428, 152, "layout", "which record", "is what")
+        layer(584, 258, "records", "nodes, groups,", "undo records")
+        layer(846, 92, "words", "what runs", "")
 
         #   id, x, y, width, height, colour, title, what it is, crates
-        box("serial", 104, 62, 160, 96, "theory", "theory: model", "demand 3 of any store", "serial")
-        box("lent", 304, 62, 270, 96, "store", "lent layer and C", "what a host calls", "tables seats store packing entry_store")
-        box("traces", 614, 62, 160, 96, "beside", "traces", "scripts played, compared", "scripts tracing trace vectors")
-        box("compare", 814, 62, 160, 96, "beside", "compare", "store and second model", "schedules books choices turns compare")
+        box("journal", 304, 62, 270, 96, "store", "a journal", "of any store, and of this one", \
+            "journal_reader journal_lines replay journal check_journal own_journal")
+        box("journals", 614, 62, 360, 96, "beside", "journals compared", "with a second model, on random journals", \
+            "naive_journal made_journals changed_journals compare_journals")
+        box("serial", 104, 174, 160, 96, "theory", "theory: model", "demand 3 of any store", "serial")
+        box("lent", 304, 174, 270, 96, "store", "lent layer and C", "what a host calls", "tables seats store packing entry_store")
+        box("traces", 614, 174, 160, 96, "beside", "traces", "scripts played, compared", "scripts tracing trace vectors")
+        box("compare", 814, 174, 160, 96, "beside", "compare", "store and second model", "schedules books choices turns compare")
 
-        box("machine", 104, 198, 160, 96, "theory", "theory: machine", "each call, each step", "machine cases")
-        box("calls", 304, 192, 270, 114, "store", "promises and calls, a card\047s day", "the calls on words, demands 1 to 3", \
+        box("machine", 104, 310, 160, 96, "theory", "theory: machine", "each call, each step", "machine cases")
+        box("calls", 304, 304, 270, 114, "store", "promises and calls, a card\047s day", "the calls on words, demands 1 to 3", \
             "refusals promises accepted stepping serving running asking batches calls looking card_days day_model day_calls")
-        box("second", 814, 198, 160, 96, "beside", "second model", "plain arrays", "naive_tree naive_steps naive")
+        box("second", 814, 310, 160, 96, "beside", "second model", "plain arrays", "naive_tree naive_steps naive")
 
-        box("meaning", 104, 334, 160, 116, "theory", "what words mean", "Sound, Holds, Becomes", "meaning layout")
-        box("rows", 304, 334, 270, 116, "store", "rows of the steps", "each proved to be the machine\047s", \
+        box("meaning", 104, 446, 160, 116, "theory", "what words mean", "Sound, Holds, Becomes", "meaning layout")
+        box("rows", 304, 446, 270, 116, "store", "rows of the steps", "each proved to be the machine\047s", \
             "starting root_entry walking arriving changing taking leaving aborting finishing grouping long_locks undoing")
-        box("soundness", 614, 334, 160, 116, "test", "proof of the test", "true exactly if Sound", "soundness")
-        box("judge", 814, 334, 160, 116, "beside", "second judge", "shares no code", "checker")
+        box("soundness", 614, 446, 160, 116, "test", "proof of the test", "true exactly if Sound", "soundness")
+        box("judge", 814, 446, 160, 116, "beside", "second judge", "shares no code", "checker")
 
-        box("leaf", 304, 490, 270, 96, "store", "leaf functions of the steps", "exit words equal a definition", \
+        box("leaf", 304, 602, 270, 96, "store", "leaf functions of the steps", "exit words equal a definition", \
             "descents splits joins members undo_log scans endings")
-        box("test", 614, 490, 160, 138, "test", "test of soundness", "one pass a part", \
+        box("test", 614, 602, 160, 138, "test", "test of soundness", "one pass a part", \
             "marks requests standing parties tree_walk undo_chains lists holders passing holdings sound")
-        box("damage", 814, 490, 160, 96, "beside", "samples, damage", "one word changed", "samples damage")
-        box("records", 304, 650, 470, 66, "store", "records", "20 words each, read and written", \
+        box("damage", 814, 602, 160, 96, "beside", "samples, damage", "one word changed", "samples damage")
+        box("records", 304, 762, 470, 66, "store", "records", "20 words each, read and written", \
             "kinds chain nodes reshaping groups undos")
 
-        box("words", 304, 752, 470, 58, "store", "words, session table, lock rule, answers", "", "words locks sessions seniority outcomes")
+        box("words", 304, 864, 470, 58, "store", "words, session table, lock rule, answers", "", "words locks sessions seniority outcomes")
 
         #     from, to, the points of the line
-        arrow("lent", "serial", "304,110 264,110")
-        arrow("lent", "calls", "439,158 439,192")
-        arrow("traces", "calls", "694,158 694,224 574,224")
-        arrow("compare", "calls", "814,130 794,130 794,246 574,246")
-        arrow("compare", "second", "894,158 894,198")
-        arrow("compare", "judge", "974,110 988,110 988,392 974,392")
-        arrow("machine", "serial", "184,198 184,158")
-        arrow("machine", "words", "104,246 94,246 94,781 304,781")
-        arrow("calls", "machine", "304,246 264,246")
-        arrow("calls", "rows", "439,306 439,334")
-        arrow("calls", "soundness", "574,268 694,268 694,334")
-        arrow("meaning", "machine", "184,334 184,294")
-        arrow("meaning", "records", "184,450 184,683 304,683")
-        arrow("rows", "meaning", "304,392 264,392")
-        arrow("rows", "leaf", "439,450 439,490")
-        arrow("soundness", "meaning", "614,420 594,420 594,470 284,470 284,424 264,424")
-        arrow("soundness", "test", "694,450 694,490")
-        arrow("damage", "judge", "894,490 894,450")
-        arrow("damage", "test", "814,538 774,538")
-        arrow("leaf", "records", "439,586 439,650")
-        arrow("test", "records", "694,628 694,650")
-        arrow("records", "words", "539,716 539,752")
+        arrow("journals", "journal", "614,110 574,110")
+        arrow("journal", "serial", "304,110 184,110 184,174")
+        arrow("lent", "journal", "439,174 439,158")
+        arrow("lent", "serial", "304,222 264,222")
+        arrow("lent", "calls", "439,270 439,304")
+        arrow("traces", "calls", "694,270 694,336 574,336")
+        arrow("compare", "calls", "814,242 794,242 794,358 574,358")
+        arrow("compare", "second", "894,270 894,310")
+        arrow("compare", "judge", "974,222 988,222 988,504 974,504")
+        arrow("machine", "serial", "184,310 184,270")
+        arrow("machine", "words", "104,358 94,358 94,893 304,893")
+        arrow("calls", "machine", "304,358 264,358")
+        arrow("calls", "rows", "439,418 439,446")
+        arrow("calls", "soundness", "574,380 694,380 694,446")
+        arrow("meaning", "machine", "184,446 184,406")
+        arrow("meaning", "records", "184,562 184,795 304,795")
+        arrow("rows", "meaning", "304,504 264,504")
+        arrow("rows", "leaf", "439,562 439,602")
+        arrow("soundness", "meaning", "614,532 594,532 594,582 284,582 284,536 264,536")
+        arrow("soundness", "test", "694,562 694,602")
+        arrow("damage", "judge", "894,602 894,562")
+        arrow("damage", "test", "814,650 774,650")
+        arrow("leaf", "records", "439,698 439,762")
+        arrow("test", "records", "694,740 694,762")
+        arrow("records", "words", "539,828 539,864")
     }
 
     # ---- the table kept, with what crates.txt says
@@ -130,7 +137,7 @@ draw() {
         text(x + 23, 27, "note", s)
     }
     function paint(  i) {
-        print "<svg xmlns=\"http://www.w3.org/2000/svg\" width=\"1000\" height=\"836\" viewBox=\"0 0 1000 836\""
+        print "<svg xmlns=\"http://www.w3.org/2000/svg\" width=\"1000\" height=\"948\" viewBox=\"0 0 1000 948\""
         print "    font-family=\"DejaVu Sans, Verdana, sans-serif\">"
         print "<title>The crates by layer and family</title>"
         print "<!-- made by docs/architecture.sh from crates.txt: change that, not this -->"
@@ -145,7 +152,7 @@ draw() {
         print "</style>"
         print "<defs><marker id=\"head\" viewBox=\"0 0 8 8\" refX=\"7\" refY=\"4\" markerWidth=\"6\" markerHeight=\"6\" orient=\"auto\">"
         print "<path d=\"M0,0 L8,4 L0,8 z\" fill=\"#444\"/></marker></defs>"
-        print "<rect x=\"0\" y=\"0\" width=\"1000\" height=\"836\" class=\"paper\"/>"
+        print "<rect x=\"0\" y=\"0\" width=\"1000\" height=\"948\" class=\"paper\"/>"
         for (i = 1; i <= L; i++) paint_layer(i)
         text(8, 27, "name", crates " crates")
         paint_key(104, "theory", "theory and meaning")

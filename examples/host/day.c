@@ -11,11 +11,13 @@
 // store_host.c). The planner holds that day too, so the reading waits and goes on from the place where it
 // stood. The same session then locates the day, reads the entries and writes them out: the same bytes.
 //
-// Usage: day [SCRIPT...]. What it prints is the same in every run. With scripts it plays these instead, and
-// compares their answers (scripts.c).
+// Usage: day [[--journals NAME] SCRIPT...]. What it prints is the same in every run. With scripts it plays
+// these instead, compares their answers, and writes the journals of their stores if it is given a name
+// (scripts.c).
 #include "scripts.h"
 #include "store_host.h"
 
+#include <errno.h>
 #include <stdio.h>
 #include <stdlib.h>
 #include <string.h>
@@ -191,13 +193,15 @@ static void write_card(struct store_host *h)
     list_free(&list);
 }
 
-static const char usage[] = "usage: day [SCRIPT...]\n"
-                            "Plays a desk's day, a planner and a card, and prints what happens.\n"
-                            "  SCRIPT  plays scripts instead: a call and its answer in each line, as at the "
-                            "top of scripts.c\n"
-                            "  --help  prints this\n"
-                            "The exit status is 0, 1 where an answer is another, or 2 where a script cannot "
-                            "be read.\n";
+static const char usage[] =
+    "usage: day [[--journals NAME] SCRIPT...]\n"
+    "Plays a desk's day, a planner and a card, and prints what happens.\n"
+    "  SCRIPT           plays scripts instead: a call and its answer in each line, as at the top of "
+    "scripts.c\n"
+    "  --journals NAME  writes the journals of the scripts' stores, to NAME-1.jnl, NAME-2.jnl and so on\n"
+    "  --help           prints this\n"
+    "The exit status is 0, 1 where an answer is another, or 2 where a file cannot be read or written or for\n"
+    "wrong arguments.\n";
 
 static int play(void)
 {
@@ -216,15 +220,39 @@ static int play(void)
     return 0;
 }
 
-int main(int argc, char **argv)
+static int wrong_arguments(const char *fault, const char *word)
 {
-    if (argc > 1 && strcmp(argv[1], "--help") == 0) {
+    fprintf(stderr, "day: %s%s\n%s", fault, word, usage);
+    return 2;
+}
+
+static int run(int count, char **words)
+{
+    const char *journals = NULL;
+    int at = 1;
+    if (count > 1 && strcmp(words[1], "--help") == 0) {
         fputs(usage, stdout);
         return 0;
     }
-    if (argc > 1 && argv[1][0] == '-') {
-        fprintf(stderr, "day: no such option: %s\n%s", argv[1], usage);
+    if (count > 1 && strcmp(words[1], "--journals") == 0) {
+        if (count < 4) {
+            return wrong_arguments("--journals takes a name, and scripts", "");
+        }
+        journals = words[2];
+        at = 3;
+    }
+    if (at < count && words[at][0] == '-') {
+        return wrong_arguments("no such option: ", words[at]);
+    }
+    return at < count ? play_scripts(count - at, words + at, journals) : play();
+}
+
+int main(int count, char **words)
+{
+    int status = run(count, words);
+    if (fflush(stdout) != 0 || ferror(stdout)) {
+        fprintf(stderr, "day: what it prints cannot be written: %s\n", strerror(errno));
         return 2;
     }
-    return argc > 1 ? play_scripts(argc - 1, argv + 1) : play();
+    return status;
 }

@@ -17,8 +17,9 @@
 //     the store at most one latch and the pins of two descriptors
 //   - a wait names, of the other sessions whose long locks are in the way, the one with the lowest number in
 //     the order of begins; of latches that of the highest node, then of the leftmost; both read off the words
-//   - done ends the request in hand, more leaves it; a read answers the entry's value; a locate's pairs rise,
-//     lie in its range and are as many as it says; nothing else writes the list
+//   - done ends the request in hand, more leaves it; a read answers the entry's value; an insert or a remove
+//     answers 1 exactly if the session's newest undo record is another; a locate's pairs rise, lie in its
+//     range and are as many as it says; nothing else writes the list
 //   - only the caller's record of the table changes, but that begin numbers all begun sessions anew, from 1
 //     on and in the order that they had, the caller last; begin and put leave the store
 //   - after every accepted call store and table are sound, M and R and the words beyond the records as before
@@ -713,6 +714,7 @@ static void facts_of_done(struct entry_store_answer a, uint32_t count)
         break;
     default:
         fact(a.value <= 1, "insert and remove answer 0 or 1");
+        fact(a.value == (table[now.party].undo != r->undo), "they answer 1 exactly with a new undo record");
     }
     fact(r->code == 5 || unchanged(&list_room), "only a locate writes the list");
 }

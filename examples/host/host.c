@@ -18,12 +18,15 @@
 //
 // What they type in and look for stands in morning.h.
 //
-// Usage: host [IMAGE]. With a file name the host saves store and table at the first wait for the planner, and
-// loads them again at the end. What it prints is the same in every run.
+// Usage: host [IMAGE [JOURNAL]]. With a file name the host saves store and table at the first wait for the
+// planner, and loads them again at the end. With a second one it writes the journal of all calls there
+// (docs/JOURNAL.md). What it prints is the same in every run.
 #include "image.h"
+#include "journal.h"
 #include "morning.h"
 
 #include <errno.h>
+#include <inttypes.h>
 #include <stdarg.h>
 #include <stdio.h>
 #include <stdlib.h>
@@ -62,11 +65,12 @@ struct actor {
     uint32_t starts; // the round in which it begins
     uint32_t after;  // the party whose end it waits for before that, or NOBODY
     enum state state, then;
-    uint32_t wakes_on;  // bit p: the end of party p wakes it
-    uint32_t waits_for; // who is in its way, or NOBODY
-    int waited;         // it has told that it waits
-    int tidied;         // the housekeeper was called for its request
-    size_t place;       // how many of its requests are done
+    uint32_t wakes_on;      // bit p: the end of party p wakes it
+    uint32_t waits_for;     // who is in its way, or NOBODY
+    int waited;             // it has told that it waits
+    int tidied;             // the housekeeper was called for its request
+    size_t place;           // how many of its requests are done
+    struct request request; // the one in hand
 
     const struct sheet *sheet; // a desk's
 
@@ -87,6 +91,8 @@ struct yard {
     int moved; // somebody moved in this round
     const char *image;
     int saved;
+    struct journal journal;
+    const char *journal_file;
 };
 
 // ---- the timeline
@@ -234,6 +240,7 @@ static int ended(const struct yard *y, uint32_t party)
 static void commit(struct yard *y, struct actor *a)
 {
     must_be(host_commit(&y->host, a->party), ENTRY_STORE_OK, "commit");
+    journal_commit(&y->journal, a->party);
     tell(y, a, "commits");
     a->state = GONE;
     wake(y, a->party);
@@ -503,6 +510,7 @@ static void step(struct yard *y, struct actor *a)
     }
     a->waits_for = NOBODY;
     if (answer.word == ENTRY_STORE_DONE) {
+        journal_done(&y->journal, a->party, a->request, answer.value, a->list.words);
         a->state = READY;
         a->tidied = 0;
         a->role->take(y, a, answer);
@@ -519,6 +527,7 @@ static void begin(struct yard *y, struct actor *a)
         return;
     }
     must_be(host_begin(&y->host, a->party), ENTRY_STORE_OK, "begin");
+    journal_begin(&y->journal, a->party);
     y->moved = 1;
     a->state = READY;
     tell(y, a, "begins%s%s", a->sheet == NULL ? "" : ": ", a->sheet == NULL ? "" : a->sheet->title);
@@ -526,13 +535,12 @@ static void begin(struct yard *y, struct actor *a)
 
 static void put(struct yard *y, struct actor *a)
 {
-    struct request r;
     y->moved = 1;
-    if (!a->role->next(a, &r)) {
+    if (!a->role->next(a, &a->request)) {
         a->role->finish(y, a);
         return;
     }
-    must_be(host_put(&y->host, a->party, r), ENTRY_STORE_OK, "put");
+    must_be(host_put(&y->host, a->party, a->request), ENTRY_STORE_OK, "put");
     a->state = MOVING;
 }
 
@@ -682,9 +690,10 @@ static int no_waiting(void *context, uint32_t party, uint32_t holder)
     return 0;
 }
 
+static const struct request all = {ENTRY_STORE_LOCATE, 0, ENTRY_STORE_MIN_KEY, ENTRY_STORE_MAX_KEY};
+
 static uint32_t locate_all(struct store_host *h, struct pair_list *list)
 {
-    struct request all = {ENTRY_STORE_LOCATE, 0, ENTRY_STORE_MIN_KEY, ENTRY_STORE_MAX_KEY};
     struct entry_store_answer a = host_run(h, AUDITOR, all, list, no_waiting, NULL);
     must_be(a, ENTRY_STORE_DONE, "a locate");
     return a.value;
@@ -692,8 +701,7 @@ static uint32_t locate_all(struct store_host *h, struct pair_list *list)
 
 // The reads of all entries found, and the commit, in one call. Each stretch has an entry of its own, so there
 // are no more than ENTRIES.
-static void read_and_commit(struct store_host *h, const struct pair_list *list, uint32_t count,
-                            uint64_t *answers)
+static void read_and_commit(struct yard *y, const struct pair_list *list, uint32_t count, uint64_t *answers)
 {
     struct entry_store_ask asks[ENTRIES + 1];
     size_t made;
@@ -702,19 +710,26 @@ static void read_and_commit(struct store_host *h, const struct pair_list *list, 
         asks[k] = ask_request(AUDITOR, read);
     }
     asks[count] = ask_call(ENTRY_STORE_ASK_COMMIT, AUDITOR);
-    must_be(host_session(h, asks, count + 1, answers, &made, no_waiting, NULL), ENTRY_STORE_OK,
+    must_be(host_session(&y->host, asks, count + 1, answers, &made, no_waiting, NULL), ENTRY_STORE_OK,
             "reads and a commit");
+    for (uint32_t k = 0; k < count; k++) {
+        struct request read = {ENTRY_STORE_READ, list->words[2 * k + 1], 0, 0};
+        journal_done(&y->journal, AUDITOR, read, entry_store_value_of(answers[k]), NULL);
+    }
+    journal_commit(&y->journal, AUDITOR);
 }
 
 // A session of its own that lists every stretch.
-static void print_stretches(struct store_host *h)
+static void print_stretches(struct yard *y)
 {
     struct pair_list list = {NULL, 0};
     uint64_t values[ENTRIES + 1];
-    must_be(host_begin(h, AUDITOR), ENTRY_STORE_OK, "begin");
-    uint32_t count = locate_all(h, &list);
+    must_be(host_begin(&y->host, AUDITOR), ENTRY_STORE_OK, "begin");
+    journal_begin(&y->journal, AUDITOR);
+    uint32_t count = locate_all(&y->host, &list);
+    journal_done(&y->journal, AUDITOR, all, count, list.words);
     printf("\nStored at the end, %u stretches:\n", count);
-    read_and_commit(h, &list, count, values);
+    read_and_commit(y, &list, count, values);
     for (uint32_t k = 0; k < count; k++) {
         struct text when, what;
         printf("  entry %2u  %-20s  %s\n", list.words[2 * k + 1], moment(&when, list.words[2 * k]),
@@ -742,31 +757,55 @@ static void print_line(const struct store_host *h)
 // Whoever the wait names is phoned, and commits.
 static int phone(void *context, uint32_t party, uint32_t holder)
 {
-    struct store_host *h = context;
-    print_line(h);
+    struct yard *y = context;
+    print_line(&y->host);
     printf("  session %u waits, and phones session %u, which commits\n", party, holder);
-    must_be(host_commit(h, holder), ENTRY_STORE_OK, "commit");
+    must_be(host_commit(&y->host, holder), ENTRY_STORE_OK, "commit");
+    journal_commit(&y->journal, holder);
     return 1;
 }
 
-static void print_phoning(struct store_host *h)
+// A session begins and runs one request to its end.
+static void begin_and_run(struct yard *y, uint32_t party, struct request r, wait_handler on_wait,
+                          const char *what)
+{
+    struct pair_list list = {NULL, 0};
+    must_be(host_begin(&y->host, party), ENTRY_STORE_OK, "begin");
+    journal_begin(&y->journal, party);
+    struct entry_store_answer a = host_run(&y->host, party, r, &list, on_wait, y);
+    must_be(a, ENTRY_STORE_DONE, what);
+    journal_done(&y->journal, party, r, a.value, list.words);
+    list_free(&list);
+}
+
+static void print_phoning(struct yard *y)
 {
     struct text when;
-    struct pair_list list = {NULL, 0};
     uint32_t noon = key_of(BERG, 4 * DAY_MINUTES + 12 * HOUR);
     struct request look = {ENTRY_STORE_LOCATE, 0, noon, noon};
     struct request insert = {ENTRY_STORE_INSERT, ENTRIES, noon, 0};
     printf("\nFour want %s: three look at it, and session %d types something in.\n", moment(&when, noon),
            CALLER);
     for (size_t k = 0; k < HOLDERS; k++) {
-        must_be(host_begin(h, holders[k]), ENTRY_STORE_OK, "begin");
-        must_be(host_run(h, holders[k], look, &list, no_waiting, NULL), ENTRY_STORE_DONE, "a locate");
+        begin_and_run(y, holders[k], look, no_waiting, "a locate");
     }
-    must_be(host_begin(h, CALLER), ENTRY_STORE_OK, "begin");
-    must_be(host_run(h, CALLER, insert, NULL, phone, h), ENTRY_STORE_DONE, "an insert");
+    begin_and_run(y, CALLER, insert, phone, "an insert");
     printf("  session %d goes on\n", CALLER);
-    must_be(host_abort(h, CALLER), ENTRY_STORE_OK, "abort");
-    list_free(&list);
+    must_be(host_abort(&y->host, CALLER), ENTRY_STORE_OK, "abort");
+}
+
+// ---- the journal
+
+static int write_journal(const struct yard *y)
+{
+    if (!journal_save(&y->journal, y->journal_file)) {
+        const char *reason = strerror(errno);
+        printf("\nThe journal cannot be written in %s: %s\n", y->journal_file, reason);
+        return 0;
+    }
+    printf("\nThe journal is written: %" PRIu64 " runs, %zu requests and commits, %zu pairs in lists.\n",
+           y->journal.begins, y->journal.line_count, y->journal.pair_count);
+    return 1;
 }
 
 // ---- a restart
@@ -806,13 +845,15 @@ static int play_morning(struct yard *y)
         "A store of %d entries and %d records, %zu words. (%u records would do for all of this at once.)\n",
         ENTRIES, RECORDS, y->host.length, records_wanted(ENTRIES, ENTRIES, 2 * WISHES));
     printf("\nround  who          what\n");
+    journal_start(&y->journal);
     set_yard(y);
     int good = play(y);
     if (good) {
         printf("\n%u times somebody waited for another's step on the way down the tree.\n", y->short_waits);
-        print_stretches(&y->host);
-        print_phoning(&y->host);
-        good = y->image == NULL || (y->saved && restart(y));
+        print_stretches(y);
+        print_phoning(y);
+        good = y->journal_file == NULL || write_journal(y);
+        good = (y->image == NULL || (y->saved && restart(y))) && good;
     }
     list_free(&y->actors[PLANNER].list);
     host_close(&y->host);
@@ -820,10 +861,11 @@ static int play_morning(struct yard *y)
 }
 
 static const char usage[] =
-    "usage: host [IMAGE]\n"
+    "usage: host [IMAGE [JOURNAL]]\n"
     "Plays a morning of six desks, a planner and the housekeeper in one store and prints a timeline.\n"
-    "  IMAGE   a file: store and table are saved there in the middle, and loaded again at the end\n"
-    "  --help  prints this\n"
+    "  IMAGE    a file: store and table are saved there in the middle, and loaded again at the end\n"
+    "  JOURNAL  a file: the journal of all calls is written there\n"
+    "  --help   prints this\n"
     "The exit status is 0, or 1 where a call or a file failed, or 2 for wrong arguments.\n";
 
 int main(int count, char **words)
@@ -837,11 +879,12 @@ int main(int count, char **words)
         fprintf(stderr, "host: no such option: %s\n%s", words[1], usage);
         return 2;
     }
-    if (count > 2) {
-        fprintf(stderr, "host: one image at most\n%s", usage);
+    if (count > 3) {
+        fprintf(stderr, "host: one image and one journal at most\n%s", usage);
         return 2;
     }
     y.image = count > 1 ? words[1] : NULL;
+    y.journal_file = count > 2 ? words[2] : NULL;
     int good = play_morning(&y);
     if (fflush(stdout) != 0 || ferror(stdout)) {
         fprintf(stderr, "host: the timeline cannot be written: %s\n", strerror(errno));

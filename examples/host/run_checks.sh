@@ -1,11 +1,12 @@
 #!/bin/sh
 # Usage: run_checks.sh FOLDER compare|write
 #
-# Runs hello, day, host and dump of FOLDER, and ../desk.py over its shared object where python3 is there. What they print
-# is compared with the files in expected/, or written there.
+# Runs hello, day, host, dump and show_journal of FOLDER, ../desk.py over its shared object where python3 is there, and
+# check_journal where it is proved and built. What they print is compared with the files in expected/, or written there.
 #   hello.txt      what ../hello.c prints
 #   day.txt        what day.c prints: sessions of one call, a wait, and a card that is read and written out again
-#   days.txt       how many lines day has played of the scripts in days/, each with its answer, and how many differ
+#   days.txt       how many lines day has played of the scripts in days/, each with its answer, how many differ, and
+#                  how many journals of their stores are written and are ok for show_journal
 #   desk.txt       what ../desk.py prints
 #   timeline.txt   the host's rounds, from begin to end
 #   dump.txt       the image that it saves in the middle, and the holders of four keys
@@ -13,12 +14,21 @@
 #   damaged.txt    the same image with a member's chain that leads into itself, in full
 #   parts.txt      the image damaged in eleven ways, one for each part of soundness; each can be drawn too
 #   short.txt      images that are cut short must be turned down
-#   words.txt      wrong options and files, with the reasons, and a script whose answers are others
+#   journal.txt    the host's journal, each call with its answer, and whether it is the one that check_journal is proved
+#                  to be run on (crates/check_journal/stdin)
+#   spoiled.txt    what show_journal finds in that journal with one thing changed, in eight ways
+#   shown.txt      its verdicts on the journals of crates/check_journal/data
+#   verdicts.txt   what check_journal prints of the host's journal, and of it with one thing changed; for how many of the
+#                  scripts' journals it prints ok
+#   words.txt      wrong options and files, with the reasons, and a script whose answers are others; output that cannot
+#                  be written, and a journal that cannot, where that of before stays
 set -eu
 folder=$1
 mode=$2
 here=$(cd "$(dirname "$0")" && pwd)
 image=$folder/middle.image
+checker=$here/../../target/bin/check_journal
+checked=$here/../../crates/check_journal
 failed=0
 
 # set_byte FILE PLACE VALUE: one byte of a file, the value in octal.
@@ -110,17 +120,129 @@ told() {
 
 # All scripts of a folder are played in one go: another one is only put there.
 days() {
-    "$folder/day" "$here"/days/*.txt | sed "s|$here/||"
+    rm -f "$folder"/days-*.jnl
+    told 0 "$folder/day" --journals "$folder/days" "$here"/days/*.txt | sed "s|$here/||"
+    day_journals show_verdict
 }
+
+# day_journals COMMAND: its verdict on each journal of the scripts' stores is ok; any other is told.
+day_journals() {
+    count=0
+    for file in "$folder"/days-*.jnl; do
+        said=$("$1" "$file")
+        [ "$said" = ok ] || echo "${file##*/}: $said"
+        [ "$said" != ok ] || count=$((count + 1))
+    done
+    echo "$count of the journals are ok"
+}
+show_verdict() {
+    "$folder/show_journal" "$1" | tail -n 1
+}
+check_verdict() {
+    "$checker" <"$1"
+}
+
+# spoil NAME RECORD WORD VALUE: a copy of the host's journal with the lowest byte of a word changed, the value in decimal.
+spoil() {
+    cp "$folder/morning.jnl" "$folder/$1.jnl"
+    set_byte "$folder/$1.jnl" $((32 * ($2 - 1) + 4 * $3)) "$(printf '%03o' "$4")"
+    spoiled="$spoiled $1"
+}
+
+# Records 76 and 77 are the planner's last locate and the read of the first entry that it found; 131 is a pair of its list.
+spoil_journal() {
+    spoiled=''
+    spoil answer 77 6 45           # 301 for 300
+    spoil pair 131 2 13            # entry 13 for 10
+    spoil count 76 6 6             # 6 pairs for 7
+    spoil code 77 2 6              # a tidy
+    spoil run 77 1 9               # that of a desk that has committed
+    spoil list 76 7 255            # a list outside the file
+    spoil next 120 0 77            # a chain that comes back
+    head -c $((32 * 162 - 1)) "$folder/morning.jnl" >"$folder/short.jnl"
+    spoiled="$spoiled short"
+}
+
+# Where the journal is not the stored one, this says in which byte, and what stands there.
+journal() {
+    grep '^The journal' "$folder/said" || echo "no word of a journal"
+    told 0 "$folder/show_journal" "$folder/morning.jnl"
+    if cmp "$folder/morning.jnl" "$checked/stdin" 2>&1; then
+        echo "it is the stored one"
+    else
+        told 0 "$folder/show_journal" "$checked/stdin" >"$folder/stored.txt"
+        told 0 "$folder/show_journal" "$folder/morning.jnl" | diff - "$folder/stored.txt" || true
+    fi
+}
+
+# The lines that have something wrong, and the verdict.
+show_spoiled() {
+    for name in $spoiled; do
+        echo "$name:"
+        told 1 "$folder/show_journal" "$folder/$name.jnl" | grep -e '<--' -e '^no journal' -e '^[0-9]*$' ||
+            echo "nothing is wrong"
+    done
+}
+
+# The last line of what is shown is the verdict that is stored.
+show_stored() {
+    count=0
+    while read -r name verdict; do
+        count=$((count + 1))
+        said=$(show_verdict "$checked/data/$name")
+        [ "$said" = "$verdict" ] || echo "$name: $said, and not $verdict"
+    done <"$checked/data/expected.txt"
+    echo "$count journals are shown"
+}
+
+verdicts() {
+    for name in morning $spoiled; do
+        echo "$name: $(check_verdict "$folder/$name.jnl")"
+    done
+    day_journals check_verdict
+}
+
+# Commands whose output cannot be written: there is no room, or it is closed.
+no_room() {
+    "$@" >/dev/full
+}
+closed() {
+    "$@" >&-
+}
+
+# No file may grow beyond one block, and the journal of this script is longer.
+keeps_journal() {
+    cp "$folder/morning.jnl" "$folder/kept-1.jnl"
+    told 2 one_block "$folder/day" --journals "$folder/kept" "$here/days/16-stored-again.txt"
+    if cmp "$folder/kept-1.jnl" "$folder/morning.jnl" 2>&1; then echo "the journal of before stays"; fi
+    [ ! -e "$folder/kept-1.jnl.new" ] || echo "half a journal is left"
+}
+one_block() (
+    trap '' XFSZ
+    ulimit -f 1
+    "$@"
+)
 
 words() {
     told 0 "$folder/host" --help
     told 0 "$folder/dump" --help
     told 0 "$folder/day" --help
+    told 0 "$folder/show_journal" --help
     told 2 "$folder/host" --nothing
     told 2 "$folder/dump" --nothing "$image"
     told 2 "$folder/day" --nothing
+    told 2 "$folder/show_journal" --nothing
+    told 2 "$folder/day" --journals
+    told 2 "$folder/show_journal" "$folder/none.jnl"
+    told 2 no_room "$folder/show_journal" "$folder/morning.jnl"
+    told 2 closed "$folder/show_journal" "$folder/morning.jnl"
+    told 2 no_room "$folder/show_journal" --help
+    told 2 no_room "$folder/day"
+    told 2 no_room "$folder/dump" "$image"
+    told 1 no_room "$folder/host"
+    keeps_journal
     told 2 "$folder/day" "$folder/none.txt"
+    told 2 "$folder/day" --journals "$folder/none/days" "$here/days/16-stored-again.txt"
     printf 'store 1 8 2 = ok\nb 1 = more\nb one = ok\nb 1\nb 2 = ok\n' >"$folder/wrong.txt"
     told 1 "$folder/day" "$folder/wrong.txt"
     told 2 "$folder/dump" "$image" 17 2/4/25:00
@@ -128,25 +250,26 @@ words() {
     told 2 "$folder/dump" --dot "$folder/none.image"
     told 2 "$folder/dump" "$here"/expected | sed "s|$here/||"
     told 1 "$folder/host" "$folder/none/middle.image" | grep 'cannot' || echo "host: no reason"
+    told 1 "$folder/host" "$folder/again.image" "$folder/none/morning.jnl" | grep 'cannot' || echo "host: no reason"
 }
 
-"$folder/hello" >"$folder/said"
+told 0 "$folder/hello" >"$folder/said"
 hold hello.txt <"$folder/said"
-"$folder/day" >"$folder/said"
+told 0 "$folder/day" >"$folder/said"
 hold day.txt <"$folder/said"
 days >"$folder/said"
 hold days.txt <"$folder/said"
 if command -v python3 >/dev/null 2>&1; then
-    python3 "$here/../desk.py" "$folder/libentry_store.so" >"$folder/said"
+    told 0 python3 "$here/../desk.py" "$folder/libentry_store.so" >"$folder/said"
     hold desk.txt <"$folder/said"
 else
     echo "skipped: desk.txt (python3 is missing; on Debian: apt install python3)"
 fi
-"$folder/host" "$image" >"$folder/timeline"
+told 0 "$folder/host" "$image" >"$folder/timeline"
 hold timeline.txt <"$folder/timeline"
-"$folder/dump" "$image" 2/4/01:30 2/4/05:00 2/3/15:00 17 >"$folder/dumped"
+told 0 "$folder/dump" "$image" 2/4/01:30 2/4/05:00 2/3/15:00 17 >"$folder/dumped"
 hold dump.txt <"$folder/dumped"
-"$folder/dump" --dot "$image" >"$folder/dumped"
+told 0 "$folder/dump" --dot "$image" >"$folder/dumped"
 hold middle.dot <"$folder/dumped"
 damage "$(record 83 6)" 83
 dump_damaged >"$folder/dumped"
@@ -155,6 +278,20 @@ parts >"$folder/dumped"
 hold parts.txt <"$folder/dumped"
 turned_down >"$folder/dumped"
 hold short.txt <"$folder/dumped"
+told 0 "$folder/host" "$folder/again.image" "$folder/morning.jnl" >"$folder/said"
+journal >"$folder/shown"
+hold journal.txt <"$folder/shown"
+spoil_journal
+show_spoiled >"$folder/shown"
+hold spoiled.txt <"$folder/shown"
+show_stored >"$folder/shown"
+hold shown.txt <"$folder/shown"
+if [ -x "$checker" ]; then
+    verdicts >"$folder/said"
+    hold verdicts.txt <"$folder/said"
+else
+    echo "skipped: verdicts.txt (check_journal is missing; make journals in the project's root proves and builds it)"
+fi
 words >"$folder/dumped"
 hold words.txt <"$folder/dumped"
 exit $failed

@@ -20,8 +20,10 @@
 //
 // An answer is its word and numbers: refused has two, done of a tidy too, done of a locate has the pairs
 // key:entry behind its count. Behind the answer of a day call stands the place, - for none.
+//
+// All calls are told to a journal, which starts anew with each store (journal.h).
 #include "scripts.h"
-#include "store_host.h"
+#include "journal.h"
 
 #include <errno.h>
 #include <stdarg.h>
@@ -29,7 +31,7 @@
 #include <stdlib.h>
 #include <string.h>
 
-enum { MAX_LINE = 65536, MAX_BYTES = MAX_LINE / 2, MAX_WORDS = 8 };
+enum { MAX_LINE = 65536, MAX_BYTES = MAX_LINE / 2, MAX_WORDS = 8, MAX_PATH = 4096 };
 
 struct player {
     struct store_host h;
@@ -39,6 +41,10 @@ struct player {
     char said[MAX_LINE]; // the answer, as a text
     size_t length;
     int wrong; // the line is no call
+    struct journal journal;
+    const char *journals; // how the names of the journals begin, NULL where none are wanted
+    unsigned saved;       // how many are written
+    int unsaved;          // one could not be
 };
 
 // ---- the answer as a text
@@ -134,6 +140,32 @@ static size_t bytes_of(struct player *p, const char *word)
     return length / 2;
 }
 
+// ---- the journal
+
+// Of the store that was there until now.
+static void save_journal(struct player *p)
+{
+    char path[MAX_PATH];
+    if (p->journals == NULL || journal_records(&p->journal) == 0) {
+        return;
+    }
+    int length = snprintf(path, sizeof path, "%s-%u.jnl", p->journals, p->saved + 1);
+    errno = ENAMETOOLONG;
+    if (length >= MAX_PATH || !journal_save(&p->journal, path)) {
+        fprintf(stderr, "%s cannot be written: %s\n", path, strerror(errno));
+        p->unsaved = 1;
+        return;
+    }
+    p->saved += 1;
+}
+
+// A party's record in the table; of one that is no party, a record without a request.
+static struct entry_store_session session_of(const struct player *p, uint32_t party)
+{
+    static const struct entry_store_session none;
+    return party < ENTRY_STORE_PARTIES ? p->h.table[party] : none;
+}
+
 // ---- the calls
 
 // A call by its name, how many numbers it takes and how many words behind them.
@@ -146,6 +178,8 @@ struct row {
 
 static void close_store(struct player *p)
 {
+    save_journal(p);
+    journal_start(&p->journal);
     host_close(&p->h);
     list_free(&p->list);
 }
@@ -164,19 +198,33 @@ static void play_store(struct player *p, const struct row *row, const uint32_t *
     say(p, host_open(&p->h, n[0], n[1]) ? "ok" : "no store");
 }
 
-static void play_session(struct player *p, const struct row *row, const uint32_t *n, char **words)
+static void play_begin(struct player *p, const struct row *row, const uint32_t *n, char **words)
 {
+    (void)row;
     (void)words;
-    switch (row->name[0]) {
-    case 'b':
-        say_answer(p, host_begin(&p->h, n[0]));
-        break;
-    case 'c':
-        say_answer(p, host_commit(&p->h, n[0]));
-        break;
-    default:
-        say_answer(p, host_abort(&p->h, n[0]));
+    struct entry_store_answer a = host_begin(&p->h, n[0]);
+    if (a.word == ENTRY_STORE_OK) {
+        journal_begin(&p->journal, n[0]);
     }
+    say_answer(p, a);
+}
+
+static void play_commit(struct player *p, const struct row *row, const uint32_t *n, char **words)
+{
+    (void)row;
+    (void)words;
+    struct entry_store_answer a = host_commit(&p->h, n[0]);
+    if (a.word == ENTRY_STORE_OK) {
+        journal_commit(&p->journal, n[0]);
+    }
+    say_answer(p, a);
+}
+
+static void play_abort(struct player *p, const struct row *row, const uint32_t *n, char **words)
+{
+    (void)row;
+    (void)words;
+    say_answer(p, host_abort(&p->h, n[0]));
 }
 
 static void play_put(struct player *p, const struct row *row, const uint32_t *n, char **words)
@@ -192,26 +240,21 @@ static void play_put(struct player *p, const struct row *row, const uint32_t *n,
     say_answer(p, host_put(&p->h, n[0], r));
 }
 
-// The code of the request that the party has in hand, 0 for none.
-static uint32_t code_in_hand(const struct player *p, uint32_t party)
-{
-    return party < ENTRY_STORE_PARTIES && p->h.table[party].stage != NO_REQUEST ? p->h.table[party].code : 0;
-}
-
 static void play_steps(struct player *p, const struct row *row, const uint32_t *n, char **words)
 {
     (void)words;
-    uint32_t code = code_in_hand(p, n[0]);
+    struct entry_store_session before = session_of(p, n[0]);
     struct entry_store_answer a =
         row->name[0] == 's' ? host_step(&p->h, n[0], &p->list) : host_steps(&p->h, n[0], &p->list);
     say_answer(p, a);
     if (a.word != ENTRY_STORE_DONE) {
         return;
     }
-    if (code == ENTRY_STORE_TIDY) {
+    journal_done(&p->journal, n[0], request_in_hand(&before), a.value, p->list.words);
+    if (before.code == ENTRY_STORE_TIDY) {
         say(p, " %u", a.number);
     }
-    for (uint32_t k = 0; code == ENTRY_STORE_LOCATE && k < a.value; k++) {
+    for (uint32_t k = 0; before.code == ENTRY_STORE_LOCATE && k < a.value; k++) {
         say(p, " %u:%u", p->list.words[2 * k], p->list.words[2 * k + 1]);
     }
 }
@@ -226,7 +269,10 @@ static void play_day(struct player *p, const struct row *row, const uint32_t *n,
         return;
     }
     do {
+        struct entry_store_session before = session_of(p, n[0]), after;
         a = host_day_call(&p->h, n[0], &d, &place);
+        after = session_of(p, n[0]);
+        journal_day(&p->journal, n[0], a, &before, &after);
         calls += 1;
     } while (runs && (a.word == ENTRY_STORE_OK || a.word == ENTRY_STORE_MORE));
     if (n[0] < ENTRY_STORE_PARTIES && (calls > 1 || a.word != ENTRY_STORE_REFUSED)) {
@@ -249,6 +295,7 @@ static int read_all(struct player *p, uint32_t party, uint32_t count, uint32_t *
             say_answer(p, a);
             return 0;
         }
+        journal_done(&p->journal, party, read, a.value, NULL);
         values[k] = a.value;
     }
     return 1;
@@ -265,6 +312,7 @@ static void play_out(struct player *p, const struct row *row, const uint32_t *n,
         say_answer(p, a);
         return;
     }
+    journal_done(&p->journal, n[0], locate, a.value, p->list.words);
     uint32_t count = a.value > DAY_MINUTES ? DAY_MINUTES + 1 : a.value;
     if (!read_all(p, n[0], count, values)) {
         return;
@@ -280,9 +328,9 @@ static void play_out(struct player *p, const struct row *row, const uint32_t *n,
 
 static const struct row rows[] = {
     {"store", 3, 0, play_store, 0},
-    {"b", 1, 0, play_session, 0},
-    {"c", 1, 0, play_session, 0},
-    {"a", 1, 0, play_session, 0},
+    {"b", 1, 0, play_begin, 0},
+    {"c", 1, 0, play_commit, 0},
+    {"a", 1, 0, play_abort, 0},
     {"r", 2, 0, play_put, ENTRY_STORE_READ},
     {"w", 3, 0, play_put, ENTRY_STORE_WRITE},
     {"i", 3, 0, play_put, ENTRY_STORE_INSERT},
@@ -365,10 +413,9 @@ struct tally {
     unsigned lines, differences;
 };
 
-// 0 where the file cannot be read.
-static int play_script(const char *name, struct tally *tally)
+// 0 where the file cannot be read, or a journal not written.
+static int play_script(struct player *p, const char *name, struct tally *tally)
 {
-    static struct player player;
     static char line[MAX_LINE];
     FILE *file = fopen(name, "r");
     if (file == NULL) {
@@ -379,23 +426,28 @@ static int play_script(const char *name, struct tally *tally)
         line[strcspn(line, "\r\n")] = 0;
         if (line[0] != '#' && line[0] != 0) {
             tally->lines += 1;
-            tally->differences += (unsigned)play_line(&player, name, number, line);
+            tally->differences += (unsigned)play_line(p, name, number, line);
         }
     }
     int whole = !ferror(file);
     fclose(file);
-    close_store(&player);
-    return whole;
+    close_store(p);
+    return whole && !p->unsaved;
 }
 
-int play_scripts(int count, char **names)
+int play_scripts(int count, char **names, const char *journals)
 {
+    static struct player player;
     struct tally tally = {0, 0};
+    player.journals = journals;
     for (int k = 0; k < count; k++) {
-        if (!play_script(names[k], &tally)) {
+        if (!play_script(&player, names[k], &tally)) {
             return 2;
         }
     }
     printf("%d files, %u lines, %u differences\n", count, tally.lines, tally.differences);
+    if (journals != NULL) {
+        printf("%u journals are written\n", player.saved);
+    }
     return tally.differences == 0 ? 0 : 1;
 }

@@ -3,7 +3,10 @@
 #define SCRIPTS_H
 
 // Plays the named files and prints each line whose answer is another, then how many files, lines and
-// differences there were. The exit status: 0, 1 where there are differences, 2 where a file cannot be read.
-int play_scripts(int count, char **names);
+// differences there were. Where journals is not NULL, the journal of each store is written: the first to the
+// file of this name with -1.jnl behind it, the next to -2.jnl, and so on; a store of which there is nothing
+// to write has none. The exit status: 0, 1 where there are differences, 2 where a file cannot be read or
+// written.
+int play_scripts(int count, char **names, const char *journals);
 
 #endif

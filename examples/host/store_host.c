@@ -147,6 +147,12 @@ int is_refused(struct entry_store_answer a, uint32_t number)
     return a.word == ENTRY_STORE_REFUSED && a.number == number;
 }
 
+struct request request_in_hand(const struct entry_store_session *s)
+{
+    struct request r = {s->code, s->entry, s->first, s->second};
+    return r;
+}
+
 int is_short_wait(const struct store_host *h, uint32_t party)
 {
     uint32_t stage = h->table[party].stage;

@@ -69,6 +69,9 @@ uint32_t host_fault(const struct store_host *h);
 
 int is_refused(struct entry_store_answer a, uint32_t number);
 
+// The request that a record of the table has in hand, as it was put.
+struct request request_in_hand(const struct entry_store_session *s);
+
 // Whether a party that waits does so on its way down the tree. Such a wait is
 // short: whoever is in the way has only to be stepped. Any other wait lasts
 // until a session commits or aborts.

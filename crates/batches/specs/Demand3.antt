@@ -1,5 +1,5 @@
--- Runs, requests and batches in lists of calls: each is a list of ordinary calls, and what the host sees of it tells the same history and the same line of
--- begun sessions; so demand 3 holds of every list with them in it.
+-- Runs, requests and batches in lists of calls: each is a list of ordinary calls, and what the host sees of it tells the same history, the same line of begun
+-- sessions and the same diary; so demand 3 holds of every list with them in it.
 use mathlib.Core.Path.{_≡_, refl, sym, ap, subst, _∙_}
 use mathlib.Core.List.{List, [], _∷_, _++_}
 use Prim.Native.Nat.{ℕ, zero, suc}
@@ -9,6 +9,7 @@ use Rattle.sessions.specs.declared.Session.{Session}
 use Rattle.serial.specs.Calls.{Turn, Told, nothing, tell, told, Run, stop, next, Demand-3}
 use Rattle.serial.specs.Calls as C
 use Rattle.serial.specs.Line.{in-line, line}
+use Rattle.own_journal.specs.Diary.{Diary, note, kept}
 use Rattle.meaning.specs.Sound.{Sound}
 use Rattle.promises.specs.Relations.{Formats}
 use Rattle.promises.specs.Demands.{Lending, Returns, words}
@@ -69,24 +70,31 @@ line-append : (ks ls : List Turn) (l : List ℕ) → line l (ks ++ ls) ≡ line 
 line-append [] ls l = refl
 line-append (k ∷ ks) ls l = line-append ks ls (in-line l k)
 
--- Lists of turns that tell the same: the same history, and the same line of begun sessions.
+kept-append : (ks ls : List Turn) (h : Told) (d : Diary) → kept h d (ks ++ ls) ≡ kept (told h ks) (kept h d ks) ls
+kept-append [] ls h d = refl
+kept-append (k ∷ ks) ls h d = kept-append ks ls (tell k h) (note k h d)
+
+-- Lists of turns that tell the same: the same history, the same line of begun sessions, and the same diary.
 pub record Alike (ks js : List Turn) : Type 0 where
   pub tells : (h : Told) → told h ks ≡ told h js
   pub lines : (l : List ℕ) → line l ks ≡ line l js
+  pub writes : (h : Told) (d : Diary) → kept h d ks ≡ kept h d js
 
 pub alike : (ks : List Turn) → Alike ks ks
-alike ks = record { tells = λ h. refl; lines = λ l. refl }
+alike ks = record { tells = λ h. refl; lines = λ l. refl; writes = λ h d. refl }
 
 pub alike-append : {ks js ks′ js′ : List Turn} → Alike ks js → Alike ks′ js′ → Alike (ks ++ ks′) (js ++ js′)
 alike-append {ks} {js} {ks′} {js′} a b = record {
   tells = λ h. told-append ks ks′ h ∙ b .tells (told h ks) ∙ ap (λ z. told z js′) (a .tells h) ∙ sym (told-append js js′ h);
   lines = λ l. line-append ks ks′ l ∙ b .lines (line l ks) ∙ ap (λ z. line z js′) (a .lines l) ∙ sym (line-append js js′ l);
+  writes = λ h d. kept-append ks ks′ h d ∙ b .writes (told h ks) (kept h d ks) ∙ ap (λ z. kept z (kept h d ks) js′) (a .tells h) ∙ ap (λ z. kept (told h js) z js′) (a .writes h d)
+      ∙ sym (kept-append js js′ h d);
 }
 
 -- An answer of more tells nothing.
 told-steps : (k p : ℕ) (l : List ℕ) (js : List Turn) → Alike (replicate k (step-turn p l C.more l) ++ js) js
 told-steps zero p l js = alike js
-told-steps (suc k) p l js = let a = told-steps k p l js in record { tells = a .tells; lines = a .lines }
+told-steps (suc k) p l js = let a = told-steps k p l js in record { tells = a .tells; lines = a .lines; writes = a .writes }
 
 run-told : (n p bound : ℕ) (l : List ℕ) (a : C.Answer) (l′ : List ℕ) → Within bound n a → Alike (steps n p l a l′) (step-turn p l a l′ ∷ [])
 run-told zero p bound l a l′ W = absurd (omega (arith, W .some))

@@ -18,9 +18,10 @@ use Rattle.day_model.specs.Written.{as-request, fed-by, OfDay, SameDay, Valued,
 use Rattle.sessions.specs.declared.Session.{Session}
 use Rattle.sessions.specs.Sessions.{session-at}
 use Rattle.serial.specs.Serial.{run-db, run-answers}
-use Rattle.serial.specs.Model.{Db, Pair, Req, read, locate, Item, value, cell, get, eff, two-words}
+use Rattle.serial.specs.Model.{Db, Req, read, locate, Item, value, cell, get, eff, two-words}
 use Rattle.serial.specs.Footprints.{Good, store, eff-local, Rd}
 use Rattle.serial.specs.Calls as C
+use Rattle.serial.specs.Codes.{length-two-words}
 use Rattle.machine.specs.State.{State, Request, Answer, ok, more, wait, done, refused, sessionOf}
 use Rattle.machine.specs.Calls as K
 use Rattle.machine.specs.Events.{unfinished}
@@ -299,10 +300,6 @@ unfolding valued stored
 valued-over k0 e [] rest = refl
 valued-over k0 e (st ∷ ss) rest = ap (λ z. (k0 + st .minute, st .value) ∷ z) (valued-over k0 (e + 1) ss rest)
 
-two-many : (l : List Pair) → length (two-words l) ≡ 2 * length l
-two-many [] = refl
-two-many (q ∷ l) = omega (arith, two-many l)
-
 -- The session's own locate, and its own reads of the entries, each at a state that the stored day leads to: the list at exit and the numbers are what the day is stored as.
 session-finds : (p : ℕ) (h : Handed) (x y : Lending) → Sound (x .store) (x .table) → Sound (y .store) (y .table) → proper (words (h .bytes)) ≡ true → Bare h x
     → Stores p h 0 x (2 * day-count h) y
@@ -321,7 +318,7 @@ session-finds p h x y S T q free r l ns l′ s′ t′ M vs n reads =
     (read-says p h x (R .at) S (R .sound) (R .stores) i (omega (arith, n, c)) (R .list) (getD vs i 0 ∷ []) (R .list′) (R .store′) (R .table′) (R .modelled))
     ∙ sym (List·getD-map (λ st. st .value) ss i no-stretch)) in (
       ap (λ z. valued z vs) found ∙ ap (valued (ps ++ drop (length ps) l)) same ∙ valued-over k0 (h .entry) ss (drop (length ps) l),
-      omega (arith, n, ap length found, length-append ps (drop (length ps) l), two-many (day-pairs k0 (h .entry) ss), pairs-many k0 (h .entry) ss),
+      omega (arith, n, ap length found, length-append ps (drop (length ps) l), length-two-words (day-pairs k0 (h .entry) ss), pairs-many k0 (h .entry) ss),
     )
 
 -- ---- a list of calls

@@ -1,5 +1,6 @@
 pub mod Brief
 pub mod Exported
+pub mod Journal
 pub mod Looks
 pub mod Made
 pub mod Servings

@@ -4,9 +4,9 @@
 // A store and a list cross as a pointer and how many words, a session table as a pointer and how many records, each of 14 words in the order of the
 // fields, a day as a pointer and how many bytes. An answer crosses in one number, which loses nothing (crate packing). Each call promises what the store's
 // call of its name promises, of the answer whose packing it returns (specs/Exported); so any list of calls from C, with the answers read off the numbers,
-// keeps demand 3 and the order of begins (specs/Turns, specs/Servings), and every list of the six has such numbers (specs/Made). Nothing is
-// asked of the caller but what C's types leave to it. It rests on store for the calls, on packing for the answers, on card_days for the day written out, on
-// locks for the count, on tables and sound for the test, on looking for free records and holders.
+// keeps demand 3 and the order of begins (specs/Turns, specs/Servings), its journal is accepted (specs/Journal), and every list of the six has such numbers
+// (specs/Made). Nothing is asked of the caller but what C's types leave to it. It rests on store for the calls, on packing for the answers, on card_days for
+// the day written out, on locks for the count, on tables and sound for the test, on looking for free records and holders.
 ghost use mathlib.Core.Path.{_≡_};
 ghost use lib.ListN.{length};
 ghost use Rattle.locks.specs.Holders.{holders, word-bits};

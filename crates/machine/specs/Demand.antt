@@ -4,12 +4,9 @@ use mathlib.Core.Bool.{Bool, true, false, cond}
 use mathlib.Core.List.{List, [], _∷_, _++_, map}
 use mathlib.Core.Logic.{_⊎_, inl, inr}
 use mathlib.Core.Option.{Option, none, some}
-use Prim.Native.Nat.{suc, _*_, _≤_, ℕ}
-use native.Mathlib.Decide.{ℕ-discrete}
-use native.Mathlib.Omega.{arith}
+use Prim.Native.Nat.{suc, _≤_, ℕ}
 use lib.Dec.{eqb}
-use lib.ListN.{length, take, drop}
-use lib.Seq.{take-append-seam}
+use lib.ListN.{length, drop}
 use Rattle.serial.specs.Serial.{true≢false, put-cases, hstep}
 use Rattle.serial.specs.Serial as S
 use Rattle.serial.specs.Model.{Item, two-words, request-of}
@@ -19,6 +16,7 @@ use Rattle.serial.specs.LockMachine.{Acts, Formatted}
 use Rattle.serial.specs.LockMachine as M
 use Rattle.serial.specs.Calls.{Turn, Asked, Told, nothing, tell-ok, tell-done, tell-refused, tell-answer, Machine, take-in-hand, finished, fed, answer-of, ends-request}
 use Rattle.serial.specs.Calls as C
+use Rattle.serial.specs.Codes.{by-code-upto-5, tells-answer}
 use Rattle.machine.specs.Holders.{elem}
 use Rattle.machine.specs.State.{Request, Stage, State, Outcome, sessionOf, fresh, Answer, wait, done, refused, ok, more}
 use Rattle.machine.specs.Steps.{rule}
@@ -175,50 +173,10 @@ silent-told (abort p) (refused n k) l t e = alike t
 
 -- ---- a finished request
 
-code-cases : (P : ℕ → Type 0) (c : ℕ) → 1 ≤ c → c ≤ 5 → P 1 → P 2 → P 3 → P 4 → P 5 → P c
-code-cases P c lo hi a b d e f = one (ℕ-discrete c 1)
-  where
-    five : Dec (c ≡ 5) → ¬ (c ≡ 1) → ¬ (c ≡ 2) → ¬ (c ≡ 3) → ¬ (c ≡ 4) → P c
-    five (yes q) n₁ n₂ n₃ n₄ = subst P (sym q) f
-    five (no q) n₁ n₂ n₃ n₄ = absurd (omega arith)
-
-    four : Dec (c ≡ 4) → ¬ (c ≡ 1) → ¬ (c ≡ 2) → ¬ (c ≡ 3) → P c
-    four (yes q) n₁ n₂ n₃ = subst P (sym q) e
-    four (no q) n₁ n₂ n₃ = five (ℕ-discrete c 5) n₁ n₂ n₃ q
-
-    three : Dec (c ≡ 3) → ¬ (c ≡ 1) → ¬ (c ≡ 2) → P c
-    three (yes q) n₁ n₂ = subst P (sym q) d
-    three (no q) n₁ n₂ = four (ℕ-discrete c 4) n₁ n₂ q
-
-    two : Dec (c ≡ 2) → ¬ (c ≡ 1) → P c
-    two (yes q) n₁ = subst P (sym q) b
-    two (no q) n₁ = three (ℕ-discrete c 3) n₁ q
-
-    one : Dec (c ≡ 1) → P c
-    one (yes q) = subst P (sym q) a
-    one (no q) = two (ℕ-discrete c 2) q
-
 -- What is fed is the request in hand.
 asked-is : (c e f g : ℕ) (st : Stage) → 1 ≤ c → c ≤ 5 → request-of c e f g ≡ some (req-of (record { code = c; entry = e; first = f; second = g; stage = st }))
 unfolding req-of
-asked-is c e f g st lo hi = code-cases (λ d. request-of d e f g ≡ some (req-of (record { code = d; entry = e; first = f; second = g; stage = st }))) c lo hi refl refl refl refl refl
-
-twice : (l : List (ℕ × ℕ)) → length (two-words l) ≡ 2 * length l
-twice [] = refl
-twice (p ∷ l) = omega (arith, twice l)
-
--- The model's answer is the number beside done and, for a locate, twice so many words of the list.
-answer-is : (c e f g : ℕ) (st : Stage) (d : R.Db) (l : List ℕ) → 1 ≤ c → c ≤ 5
-    → answer-of c (R.ans (req-of (record { code = c; entry = e; first = f; second = g; stage = st })) d .numbers)
-    (R.ans (req-of (record { code = c; entry = e; first = f; second = g; stage = st })) d .words ++ l)
-    ≡ R.ans (req-of (record { code = c; entry = e; first = f; second = g; stage = st })) d
-unfolding req-of
-answer-is c e f g st d l lo hi = code-cases
-    (λ b. answer-of b (R.ans (req-of (record { code = b; entry = e; first = f; second = g; stage = st })) d .numbers)
-    (R.ans (req-of (record { code = b; entry = e; first = f; second = g; stage = st })) d .words ++ l)
-    ≡ R.ans (req-of (record { code = b; entry = e; first = f; second = g; stage = st })) d) c lo hi refl refl refl refl
-    (ap (λ w. record { numbers = length (R.located f g d) ∷ []; words = w })
-    (ap (λ n. take n (two-words (R.located f g d) ++ l)) (sym (twice (R.located f g d))) ∙ take-append-seam (two-words (R.located f g d)) l))
+asked-is c e f g st lo hi = by-code-upto-5 c lo hi (λ k. rw k refl) (λ k. rw k refl) (λ k. rw k refl) (λ k. rw k refl) (λ k. rw k refl)
 
 -- ---- a fresh store
 
@@ -293,7 +251,8 @@ step-told m n r s o l t c h w (finishes i a u v x y) = subst (λ b. Told-so s (o
     answered : answer-of (r .code) (a .numbers) l ≡ a
     answered = ap (λ z. answer-of (r .code) (a .numbers) z) (w .1 ∙ ap (λ z. z ++ w .0) v)
         ∙ ap (λ z. answer-of (r .code) (z .numbers) (z .words ++ w .0)) (y .answer)
-        ∙ answer-is (r .code) (r .entry) (r .first) (r .second) (r .stage) (y .model) (w .0) (c .0) (c .1) ∙ sym (y .answer)
+        ∙ tells-answer (r .code) (r .entry) (r .first) (r .second) (req-of r) (y .model) (w .0)
+        (asked-is (r .code) (r .entry) (r .first) (r .second) (r .stage) (c .0) (c .1)) ∙ sym (y .answer)
 
 pub call-told : (c : Call) (s : State) (o : Outcome) (l : List ℕ) (t : Told) → Sound s → ((p : ℕ) → hand-put (sessionOf p s .hand) ≡ t .hands p) → ListOf c l o → Moves s o c
     → Told-so s (o .next) t (tell-of (as-told c) (o .answer) l t) ⊎ Told-new (o .next) (tell-of (as-told c) (o .answer) l t)

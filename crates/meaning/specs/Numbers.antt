@@ -8,16 +8,13 @@ use native.Mathlib.Decide.{ℕ-discrete}
 use native.Mathlib.Omega.{arith}
 use lib.Dec.{eqb}
 use borrow.Author.Tests.{eq-eqb, ne-eqb}
+pub use Rattle.serial.specs.Lists.{all-append, all-as}
 use Rattle.machine.specs.Sound.{times}
 use Rattle.meaning.specs.Sound.{All, Apart, Once}
 
 -- ---- all of a list
 
 module _ {A : Type 0} where
-  pub all-append : (P : A → Type 0) (a b : List A) → All P a → All P b → All P (a ++ b)
-  all-append P [] b p q = q
-  all-append P (x ∷ a) b p q = (p .0, all-append P a b (p .1) q)
-
   pub all-left : (P : A → Type 0) (a b : List A) → All P (a ++ b) → All P a
   all-left P [] b p = tt
   all-left P (x ∷ a) b p = (p .0, all-left P a b (p .1))
@@ -25,10 +22,6 @@ module _ {A : Type 0} where
   pub all-right : (P : A → Type 0) (a b : List A) → All P (a ++ b) → All P b
   all-right P [] b p = p
   all-right P (x ∷ a) b p = all-right P a b (p .1)
-
-  pub all-as : {P Q : A → Type 0} → ((x : A) → P x → Q x) → (l : List A) → All P l → All Q l
-  all-as f [] p = tt
-  all-as f (x ∷ l) p = (f x (p .0), all-as f l (p .1))
 
   pub all-both : {P Q R : A → Type 0} → ((x : A) → P x → Q x → R x) → (l : List A) → All P l → All Q l → All R l
   all-both f [] p q = tt

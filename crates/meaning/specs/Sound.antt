@@ -12,6 +12,7 @@ use Rattle.words.specs.Store.{wordOf}
 use Rattle.words.specs.Header.{headerWord, heightPlace, firstPlace, freePlace}
 use Rattle.sessions.specs.declared.Session.{Session}
 use Rattle.sessions.specs.Sessions.{session-at}
+pub use Rattle.serial.specs.Lists.{All}
 use Rattle.machine.specs.Tree.{pick, leaves}
 use Rattle.machine.specs.Holders.{width, latch-word}
 use Rattle.machine.specs.Calls.{records-for}
@@ -38,10 +39,6 @@ abbrev pub owners : List ℕ → List Session → List (List ℕ)
 owners s t =
     numbers (suc (height-of s)) (tree-of s)
     ∷ (map (λ l. member-chain s (M-of s) (R-of s) (l .num)) (leaves-of s) ++ (undo-chains s t ++ (free-chain s ∷ [])))
-
-abbrev pub All : {A : Type 0} → (A → Type 0) → List A → Type 0
-All P [] = Unit {0}
-All P (x ∷ l) = P x × All P l
 
 -- ---- members
 

@@ -33,16 +33,16 @@ part-of (suc i) (suc k) (x ∷ l) h = part-of i k l (omega arith) ∙ first-same
 take-past : {A : Type 0} (p q : List A) (i k : ℕ) → length p ≡ i → i ≤ k → take k (p ++ q) ≡ p ++ take (k - i) q
 take-past p q i k e h = first-same (p ++ q) k (length p + (k - i)) (omega arith) ∙ take-append-add p q (k - i)
 
-length-insertIn : (l : List ℕ) (i x : ℕ) → i ≤ length l → length (insertIn l i x) ≡ length l
+pub length-insertIn : (l : List ℕ) (i x : ℕ) → i ≤ length l → length (insertIn l i x) ≡ length l
 unfolding insertIn
 length-insertIn l i x h = simp (length-append, length-take, length-drop) (omega arith)
 
-length-removeIn : (l : List ℕ) (i : ℕ) → i < length l → length (removeIn l i) ≡ length l
+pub length-removeIn : (l : List ℕ) (i : ℕ) → i < length l → length (removeIn l i) ≡ length l
 unfolding removeIn
 length-removeIn l i h = simp (length-append, length-take, length-drop) (omega arith)
 
 -- of an array whose first k are used, one more is used
-used-insert : (l : List ℕ) (k i x : ℕ) → i ≤ k → k < length l → take (k + 1) (insertIn l i x) ≡ insertAt (take k l) i x
+pub used-insert : (l : List ℕ) (k i x : ℕ) → i ≤ k → k < length l → take (k + 1) (insertIn l i x) ≡ insertAt (take k l) i x
 unfolding insertIn
 used-insert l k i x h in-l =
     let d = drop i l in
@@ -51,7 +51,7 @@ used-insert l k i x h in-l =
     ∙ sym (rw (take-take i k l h, part-of i k l h) refl)
 
 -- and one less
-used-remove : (l : List ℕ) (k i : ℕ) → i < k → k ≤ length l → take (k - 1) (removeIn l i) ≡ removeAt (take k l) i
+pub used-remove : (l : List ℕ) (k i : ℕ) → i < k → k ≤ length l → take (k - 1) (removeIn l i) ≡ removeAt (take k l) i
 unfolding removeIn
 used-remove l k i h in-l =
     let d = drop (suc i) l in

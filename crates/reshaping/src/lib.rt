@@ -23,7 +23,7 @@ pub struct Neighbours {
 // ---- one array of a node
 
 // Puts x at `at`; the later ones move on by one, and the last one goes.
-fn insert_in(a: &mut [u32], at: usize, x: u32)
+pub fn insert_in(a: &mut [u32], at: usize, x: u32)
     requires { ⌜ at ≤ length (now a) ⌝ }
     ensures { λ _. ⌜ now (a .exit) ≡ insertIn (now (a .entry)) at x ⌝ }
 {
@@ -38,7 +38,7 @@ fn insert_in(a: &mut [u32], at: usize, x: u32)
 }
 
 // Takes out what stands at `at`; the later ones move up by one, and a 0 comes last.
-fn remove_in(a: &mut [u32], at: usize)
+pub fn remove_in(a: &mut [u32], at: usize)
     requires { ⌜ at < length (now a) ⌝ }
     ensures { λ _. ⌜ now (a .exit) ≡ removeIn (now (a .entry)) at ⌝ }
 {

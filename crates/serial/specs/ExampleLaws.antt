@@ -4,21 +4,21 @@ use mathlib.Core.Path.{_≡_, refl, sym, _∙_, ap, subst}
 use mathlib.Core.Bool.{Bool, true, false, cond, not}
 use mathlib.Core.List.{List, [], _∷_, _++_}
 use mathlib.Core.Logic.{_⊎_, inl, inr}
-use mathlib.Core.Option.{Option, none, some}
-use Prim.Native.Nat.{ℕ, zero, suc, _*_, _≤_, min, max}
+use mathlib.Core.Option.{Option, none, some, Option·some-injective, Option·none-ne-some, Option·some-ne-none}
+use Prim.Native.Nat.{ℕ, zero, suc, _≤_, min, max}
 use native.Mathlib.Decide.{ℕ-discrete}
 use native.Mathlib.Omega.{arith}
-use lib.Dec.{eqb, leb, T, eqb→eq}
-use lib.ListN.{length, take, drop}
-use lib.Seq.{take-append-seam}
-use Rattle.serial.specs.Serial.{pick, pick-yes, pick-no, put, put-same, put-other, put-cases, true≢false, by-bool, Log, set, undo, undo-cong, Event, Hist, hstep}
+use lib.Dec.{leb}
+use lib.ListN.{length, drop}
+use Rattle.serial.specs.Serial.{pick, pick-yes, pick-no, put, put-same, put-other, put-cases, true≢false, Log, set, undo, undo-cong, Event, Hist, hstep}
 use Rattle.serial.specs.Serial as S
-use Rattle.serial.specs.Model.{Pair, two-words, located, Db, Req, read, write, insert, remove, locate, ans, request-of, Item, value, cell, Item-discrete, get}
+use Rattle.serial.specs.Model.{Db, Req, read, write, insert, remove, locate, ans, request-of, Item, value, cell, Item-discrete, get}
 use Rattle.serial.specs.Footprints.{Good, eff-good, frame, store, cell-inserted, cell-removed}
 use Rattle.serial.specs.Locks.{Kind, entry, group, Mode, weak, strong, lock-rule, lock-rule-strict, Agree, Needs, undo-of}
 use Rattle.serial.specs.LockMachine as M
 use Rattle.serial.specs.Calls.{ok, Turn, Asked, Told, nothing, tell-answer, tell-refused, tell-ok, fed, finished, ends-request, take-in-hand, answer-of, told, Run, Knows, Moves, Anew, Laws, Demand-3, demand-3}
 use Rattle.serial.specs.Calls as C
+use Rattle.serial.specs.Codes.{tells-answer}
 use Rattle.serial.specs.Example.{Span, Lock, kind?, Covers, covers?, holds, meet?, conflicts, blocker, or-else, blocked, lock, taken, released, on, wanted, put-back, undone, State, meaning, blank, opened, handed, locked, served, ended, session, active, Check, checks, first-failed, written, serve, short, try, serve-asked, step-on, accepted, unless, call, Bit, Bits, Sound, Result, Does, example}
 
 -- ---- the locks agree
@@ -58,9 +58,6 @@ clear-one s w h f k n m t x c d = at (ℕ-discrete (h .holder) s) (kind? (h .spa
     at (no a) (yes e) (no b) z = absurd (b (omega arith))
     at (no a) (no b) r z = absurd (b (c .0 .0 ∙ sym (d .0 .0)))
 
-some≢none : {A : Type 0} {a : A} → some a ≡ none → ⊥
-some≢none e = let z : _≡_ {A = ℕ} 0 1 = cc in omega arith
-
 clear-none : (s : ℕ) (w : Span) (ls : List Lock) → blocker s w ls ≡ none → Clear s w ls
 clear-none s w [] e k n m t x h c = absurd (true≢false h refl)
 clear-none s w (l ∷ ls) e k n m t x h c = at (conflicts l s w) refl e (λ q. clear-none s w ls q k n m t x)
@@ -68,7 +65,7 @@ clear-none s w (l ∷ ls) e k n m t x h c = at (conflicts l s w) refl e (λ q. c
     at : (b : Bool) → conflicts l s w ≡ b → cond b (some (l .holder)) (blocker s w ls) ≡ none
         → (blocker s w ls ≡ none → holds ls k n t x ≡ true → Covers (lock s w) k m s x → (t ≡ s) ⊎ (lock-rule k n m ≡ true))
         → (t ≡ s) ⊎ (lock-rule k n m ≡ true)
-    at true f q rest = absurd (some≢none q)
+    at true f q rest = absurd (Option·some-ne-none (l .holder) q)
     at false f q rest = by (pick-true (covers? l k n t x) h)
       where
         by : Covers l k n t x ⊎ (holds ls k n t x ≡ true) → (t ≡ s) ⊎ (lock-rule k n m ≡ true)
@@ -119,7 +116,7 @@ agree-taken s (w ∷ ws) ls e A = at (blocker s w ls) refl e (λ q. agree-taken 
   where
     at : (o : Option ℕ) → blocker s w ls ≡ o → or-else o (blocked s ws ls) ≡ none → (blocked s ws ls ≡ none → Agree lock-rule (holds (taken s ws ls)))
         → Agree lock-rule (holds (taken s (w ∷ ws) ls))
-    at (some h) f q rest = absurd (some≢none q)
+    at (some h) f q rest = absurd (Option·some-ne-none h q)
     at none f q rest = agree-one s w (taken s ws ls) (clear-taken s w ws ls (clear-none s w ls f)) (rest q)
 
 -- Others keep what they hold, and a session's own grow.
@@ -225,48 +222,6 @@ bits-undo (insert e k) d = bits-pick (ℕ-discrete (get d (cell k e)) 0) ((cell 
 bits-undo (remove e k) d = bits-pick (ℕ-discrete (get d (cell k e)) 0) [] ((cell k e, 1) ∷ []) tt (omega arith, tt)
 bits-undo (locate lo hi) d = tt
 
--- ---- the number and the words tell the model's answer
-
-two-words-length : (l : List Pair) → length (two-words l) ≡ 2 * length l
-two-words-length [] = refl
-two-words-length (p ∷ l) = let h = two-words-length l in omega arith
-
--- A code of one request, or of none.
-code-cases : (P : ℕ → Type 0) → P 1 → P 2 → P 3 → P 4 → P 5 → ((c : ℕ) → ((e f g : ℕ) → request-of c e f g ≡ none) → P c) → (c : ℕ) → P c
-code-cases P p₁ p₂ p₃ p₄ p₅ rest c =
-    by-bool (eqb c 1) (is 1 p₁) λ n₁.
-    by-bool (eqb c 2) (is 2 p₂) λ n₂.
-    by-bool (eqb c 3) (is 3 p₃) λ n₃.
-    by-bool (eqb c 4) (is 4 p₄) λ n₄.
-    by-bool (eqb c 5) (is 5 p₅) λ n₅.
-    rest c (λ e f g. rw (n₁, n₂, n₃, n₄, n₅) refl)
-  where
-    is : (n : ℕ) → P n → eqb c n ≡ true → P c
-    is n p e = subst P (sym (eqb→eq c n (subst T (sym e) tt))) p
-
-abbrev Tells : ℕ → Type 0
-Tells c = (e f g : ℕ) (r : Req) (d : Db) (l : List ℕ) → request-of c e f g ≡ some r → answer-of c (ans r d .numbers) (written (ans r d) l) ≡ ans r d
-
-abbrev Told-as : ℕ → Db → List ℕ → Req → Type 0
-Told-as c d l r = answer-of c (ans r d .numbers) (written (ans r d) l) ≡ ans r d
-
-some-same : {A : Type 0} {a b : A} → some a ≡ some b → a ≡ b
-some-same e = cc
-
-locate-told : (f g : ℕ) (d : Db) (l : List ℕ) → Told-as 5 d l (locate f g)
-locate-told f g d l = ap (λ ws. record { numbers = length (located f g d) ∷ []; words = ws })
-    (ap (λ n. take n (written (ans (locate f g) d) l)) (sym (two-words-length (located f g d)))
-    ∙ take-append-seam (two-words (located f g d)) (drop (length (two-words (located f g d))) l))
-
-tells : (c : ℕ) → Tells c
-tells c = code-cases Tells
-    (λ e f g r d l q. subst (Told-as 1 d l) (some-same q) refl)
-    (λ e f g r d l q. subst (Told-as 2 d l) (some-same q) refl)
-    (λ e f g r d l q. subst (Told-as 3 d l) (some-same q) refl)
-    (λ e f g r d l q. subst (Told-as 4 d l) (some-same q) refl)
-    (λ e f g r d l q. subst (Told-as 5 d l) (some-same q) (locate-told f g d l))
-    (λ c n e f g r d l q. absurd (some≢none (sym q ∙ n e f g))) c
-
 -- ---- the laws
 
 abbrev Kept : Told → Told → State → State → Type 0
@@ -285,7 +240,7 @@ all-passed (c ∷ cs) e = at (c .0) refl e (all-passed cs)
   where
     at : (b : Bool) → c .0 ≡ b → cond b (first-failed cs) (some (c .1)) ≡ none → (first-failed cs ≡ none → Passed cs) → Passed (c ∷ cs)
     at true f q rest = (f, rest q)
-    at false f q rest = absurd (some≢none q)
+    at false f q rest = absurd (Option·some-ne-none (c .1) q)
 
 -- No check's refusal ends a request.
 refused-told : (c : C.Call) (x : State) (t : Told) (n : ℕ) → first-failed (checks c x) ≡ some n → tell-refused c n t ≡ t
@@ -297,9 +252,9 @@ refused-told (C.abort s) x t n e = refl
 refused-told (C.step p l) x t n e = at (leb p 16) (active x p) e
   where
     at : (a b : Bool) → cond a (cond b none (some 5)) (some 4) ≡ some n → cond (ends-request n) (take-in-hand p none t) t ≡ t
-    at true true q = absurd (some≢none (sym q))
-    at true false q = subst (λ z. cond (ends-request z) (take-in-hand p none t) t ≡ t) (some-same q) refl
-    at false b q = subst (λ z. cond (ends-request z) (take-in-hand p none t) t ≡ t) (some-same q) refl
+    at true true q = absurd (Option·none-ne-some n q)
+    at true false q = subst (λ z. cond (ends-request z) (take-in-hand p none t) t ≡ t) (Option·some-injective 5 n q) refl
+    at false b q = subst (λ z. cond (ends-request z) (take-in-hand p none t) t ≡ t) (Option·some-injective 4 n q) refl
 
 blank-knows : Knows example nothing blank
 blank-knows = record {
@@ -457,7 +412,7 @@ module _ (t : Told) (x : State) (w : Knows example t x) where
         events = S.grow (suc k) ∷ (S.finish (suc k) r (ans r (x .now)) ∷ []);
         moved = M.more {y = meaning (locked (suc k) r x)} (locked-acts (suc k) r b g) (M.more (served-acts (suc k) r b) M.still);
         as-told = done-told (some r) f _ (written (ans r (x .now)) l)
-            ∙ ap (λ a. fed (suc k) (some r) a (t .past)) (tells (q .code) (q .entry) (q .first) (q .second) r (x .now) l f);
+            ∙ ap (λ a. fed (suc k) (some r) a (t .past)) (tells-answer (q .code) (q .entry) (q .first) (q .second) r (x .now) (drop (length (ans r (x .now) .words)) l) f);
       }),
     )
 

@@ -1,10 +1,12 @@
 pub mod Serial
+pub mod Lists
 pub mod Rising
 pub mod Model
 pub mod Footprints
 pub mod Locks
 pub mod LockMachine
 pub mod Calls
+pub mod Codes
 pub mod Line
 pub mod Unfinished
 pub mod Values

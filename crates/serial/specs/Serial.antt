@@ -1,7 +1,7 @@
 -- Strict two-phase locking gives one run by order of commit: over any model and any footprints.
 use mathlib.Core.Path.{_≡_, refl, sym, _∙_, ap, subst}
 use mathlib.Core.Bool.{Bool, true, false}
-use mathlib.Core.List.{List, [], _∷_, _++_, map}
+use mathlib.Core.List.{List, [], _∷_, _++_, map, head-eq-of-cons-eq, tail-eq-of-cons-eq}
 use mathlib.Core.Logic.{_⊎_}
 use Prim.Native.Nat.{ℕ}
 use native.Mathlib.Decide.{ℕ-discrete}
@@ -216,9 +216,12 @@ module _ (𝓜 : Model) where
   covers-snoc touched changed [] x d c k = (k, tt)
   covers-snoc touched changed (y ∷ l) x d c k = (c .0, covers-snoc touched changed l x (eff (y .0) d) (c .1) k)
 
+  pub after-append : (l m : List Done) (d : Db) → after (l ++ m) d ≡ after m (after l d)
+  after-append [] m d = refl
+  after-append (x ∷ l) m d = after-append l m (eff (x .0) d)
+
   pub after-snoc : (l : List Done) (x : Done) (d : Db) → after (l ++ (x ∷ [])) d ≡ eff (x .0) (after l d)
-  after-snoc [] x d = refl
-  after-snoc (y ∷ l) x d = after-snoc l x (eff (y .0) d)
+  after-snoc l x d = after-append l (x ∷ []) d
 
   pub fits-snoc : (l : List Done) (x : Done) (d : Db) → Fits l d → x .1 ≡ ans (x .0) (after l d) → Fits (l ++ (x ∷ [])) d
   fits-snoc [] x d f h = (h, tt)
@@ -676,6 +679,10 @@ module _ (𝓜 : Model) where
   fits-run [] d f = refl
   fits-run (x ∷ l) d f = let q = fits-run l (eff (x .0) d) (f .1) in let p = f .0 in cc
 
+  pub run-fits : (l : List Done) (d : Db) → results l ≡ run-answers (requests l) d → Fits l d
+  run-fits [] d e = tt
+  run-fits (x ∷ l) d e = (head-eq-of-cons-eq e, run-fits l (eff (x .0) d) (tail-eq-of-cons-eq e))
+
   pub serial-run : (ls : List (List Done)) (d : Db) → serial ls d ≡ serial-db (map requests ls) d
   serial-run [] d = refl
   serial-run (l ∷ ls) d = serial-run ls (after l d) ∙ ap (λ e. serial-db (map requests ls) e) (after-run l d)
@@ -687,6 +694,13 @@ module _ (𝓜 : Model) where
       let q : map results ls ≡ serial-answers (map requests ls) (run-db (requests l) d)
       = fitsall-run ls (after l d) (f .1) ∙ ap (λ e. serial-answers (map requests ls) e) (after-run l d) in
       cc
+
+  pub run-fitsall : (ls : List (List Done)) (d : Db) → map results ls ≡ serial-answers (map requests ls) d → FitsAll ls d
+  run-fitsall [] d e = tt
+  run-fitsall (l ∷ ls) d e = (
+    run-fits l d (head-eq-of-cons-eq e),
+    run-fitsall ls (after l d) (tail-eq-of-cons-eq e ∙ ap (λ x. serial-answers (map requests ls) x) (sym (after-run l d))),
+  )
 
   -- Demand 3, of the history h and the state σ that it led to, from the database d₀.
   pub record Demand (d₀ : Db) (h : Hist) (σ : State) : Type 0 where

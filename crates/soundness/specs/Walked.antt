@@ -35,7 +35,7 @@ use Rattle.machine.specs.Looks.{shaped-ordered, ordered-rises}
 use Rattle.machine.specs.Sound.{times, stored-in, pins-in, total, pins-by, of-hand}
 use Rattle.meaning.specs.Reading.{Leaf, Mark, Numbered, numbers, erase, desc-at, M-of, R-of, height-of, tree-of, free-chain, meaning}
 use Rattle.meaning.specs.Sound.{All, Once, leaves-of, Members}
-use Rattle.soundness.specs.Marking.{once-most, all-as, times-append, times-once, once-times, mark-all, Fresh, Among, Marked, marked-all, mark-length, fresh-rest, fresh-then, all-in, all-from, In}
+use Rattle.soundness.specs.Marking.{once-most, all-append, all-as, times-append, times-once, once-times, mark-all, Fresh, Among, Marked, marked-all, mark-length, fresh-rest, fresh-then, all-in, all-from, In}
 use Rattle.soundness.specs.Chains.{chained-found, chained-walks}
 use Rattle.soundness.specs.Free.{Idle, idle-turns}
 use Rattle.soundness.specs.Filing.{Files}
@@ -101,10 +101,6 @@ leaf-times k (suc h) t = let q = go (t .sons) (leaf-times k h) in omega arith
         let d = f (p .0) in
         let e = go es f in
         omega arith
-
-all-append : (P : ℕ → Type 0) (a b : List ℕ) → All P a → All P b → All P (a ++ b)
-all-append P [] b x y = y
-all-append P (i ∷ a) b x y = (x .0, all-append P a b (x .1) y)
 
 abbrev no-files : List ℕ
 no-files = replicate 12291 0

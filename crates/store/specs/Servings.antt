@@ -47,7 +47,7 @@ use Rattle.store.specs.Listed.{RanBy, AskedBy, ListedOnTable}
 use Rattle.store.specs.Stints.{unsound-still}
 use Rattle.store.specs.Batched.{Batched, BatchedOnTable}
 use Rattle.store.specs.Days.{handed-by, DayBy, DayOnTable, served-calls}
-use Rattle.store.specs.Turns.{Lends, lends-return, Sound-lent, sound-long, Loan, loan-same, TurnedAway, Same, same-either, away-same, away-quiet, away-line, accepted-format}
+use Rattle.store.specs.Turns.{Lends, lends-return, Sound-lent, sound-long, Loan, loan-same, TurnedAway, Same, same-either, away-same, away-quiet, away-line, away-unwritten, accepted-format}
 
 -- ---- what the host sees of one return
 
@@ -161,7 +161,11 @@ loan-away a (inr e) = subst TurnedAway (sym e) refl
 
 -- It tells nothing.
 away-alike : (k : Turn) → TurnedAway (k .answer) → Alike [] (k ∷ [])
-away-alike k v = record { tells = λ h. sym (away-quiet (k .call) (k .answer) (k .list) v h); lines = λ l. sym (away-line k v l) }
+away-alike k v = record {
+  tells = λ h. sym (away-quiet (k .call) (k .answer) (k .list) v h);
+  lines = λ l. sym (away-line k v l);
+  writes = λ h d. sym (away-unwritten (k .call) (k .answer) (k .list) v h d);
+}
 
 pub away-told : {u u′ : Lending} {js : List Turn} → Away u js u′ → Alike [] js
 away-told (calls-away {k = k} v d) = away-alike k v

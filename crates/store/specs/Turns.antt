@@ -20,6 +20,7 @@ use Rattle.outcomes.specs.declared.Answer.the-variants.{Refused}
 use Rattle.outcomes.specs.Said.{said}
 use Rattle.meaning.specs.Sound.{Sound}
 use Rattle.meaning.specs.Table.{table-many}
+use Rattle.own_journal.specs.Diary.{Diary, note-answer}
 use Rattle.promises.specs.Relations.{stays, Calls, Formats, list-of}
 use Rattle.promises.specs.Demand1.{calls-not-1, format-not-1}
 use Rattle.promises.specs.Demands.{Lending, Returns, words}
@@ -148,6 +149,14 @@ away-quiet c C.more l v t = absurd v
 away-quiet c (C.wait p) l v t = absurd v
 away-quiet c (C.done ns) l v t = absurd v
 away-quiet c (C.refused n k) l v t = quiet c n v t
+
+-- Of a call that was turned away nothing is written.
+pub away-unwritten : (c : C.Call) (a : C.Answer) (l : List ℕ) → TurnedAway a → (t : Told) (d : Diary) → note-answer c a l t d ≡ d
+away-unwritten c C.ok l v t d = absurd v
+away-unwritten c C.more l v t d = absurd v
+away-unwritten c (C.wait p) l v t d = absurd v
+away-unwritten c (C.done ns) l v t d = absurd v
+away-unwritten c (C.refused n k) l v t d = refl
 
 pub away-line : (k : Turn) → TurnedAway (k .answer) → (l : List ℕ) → in-line l k ≡ l
 away-line k v l = go (k .answer) v

@@ -6,8 +6,8 @@
 // the others as they were (specs/OneRecord), and so do a run and a request (specs/Stints) and a day call (specs/Days). Format, begin and a batch store all
 // 17. Each promises what the call by value promises, over words, table and list at entry and at exit (specs/Lent, specs/Listed, specs/Batched, specs/Days);
 // so any list of calls after an accepted format keeps demand 3 (specs/Turns, specs/Demand3, specs/Servings), has the holders that its calls were granted and
-// the order of their begins (specs/Holding), and every list of calls has a run. Nothing is asked of the caller. It rests on tables for the lent table, on
-// calls for the calls by value, on seats for what is kept of them.
+// the order of their begins (specs/Holding), its journal is accepted (specs/Journal), and every list of calls has a run. Nothing is asked of the caller. It
+// rests on tables for the lent table, on calls for the calls by value, on seats for what is kept of them.
 ghost use mathlib.Core.Path.{_≡_};
 ghost use Rattle.store.specs.Lent.{Formatted, Begun, Put, Stepped, Committed, Aborted, OnTable, SteppedOnTable};
 ghost use Rattle.store.specs.Listed.{RanBy, AskedBy, ListedOnTable};

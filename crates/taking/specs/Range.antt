@@ -2,7 +2,7 @@
 use mathlib.Core.Path.{_≡_, refl, sym, ap, ap₂, _∙_}
 use mathlib.Core.Bool.{Bool, true, false, cond}
 use mathlib.Core.List.{List, [], _∷_, _++_}
-use Prim.Native.Nat.{ℕ, zero, suc, _*_, _≤_, _<_}
+use Prim.Native.Nat.{ℕ, zero, suc, _≤_, _<_}
 use native.Mathlib.Omega.{arith}
 use lib.Dec.{leb, eqb, ltb}
 use lib.ListN.{length}
@@ -11,6 +11,7 @@ use Rattle.words.specs.Store.{wordOf}
 use Rattle.scans.specs.Scans.{entriesIn, raise, rising, pairWords, rangeWords, rangeCount}
 use Rattle.scans.specs.Rising.{length-range}
 use Rattle.serial.specs.Model.{two-words}
+use Rattle.serial.specs.Codes.{length-two-words}
 use Rattle.machine.specs.Logic.{leb-yes, leb-no, leb-is, leb-not, eqb-no}
 use Rattle.machine.specs.Order.{In}
 use Rattle.machine.specs.Groups.{Rises, rises-in}
@@ -69,10 +70,6 @@ pairs-words : (k : ℕ) (es : List ℕ) (l : List (ℕ × ℕ)) → two-words (p
 unfolding pairs-of pairWords
 pairs-words k [] l = refl
 pairs-words k (e ∷ es) l = ap (λ w. k ∷ (e ∷ w)) (pairs-words k es l)
-
-pub twice : (l : List (ℕ × ℕ)) → length (two-words l) ≡ 2 * length l
-twice [] = refl
-twice (p ∷ l) = omega (arith, twice l)
 
 -- ---- memberships
 
@@ -143,4 +140,4 @@ module _ (s : List ℕ) (m r : ℕ) (g : ℕ → List (ℕ × ℕ)) (lo hi : ℕ
       → rangeCount s m r n i hi ≡ length (memberships lo hi (descs ls))
   range-count n i from e ls c a o h b =
       let w = ap length (range-words n i from e ls c a o h b) in
-      omega (arith, w, length-range s m r n i hi, twice (memberships lo hi (descs ls)))
+      omega (arith, w, length-range s m r n i hi, length-two-words (memberships lo hi (descs ls)))

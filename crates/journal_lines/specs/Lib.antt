@@ -1,0 +1,11 @@
+pub mod Journal
+pub mod Tests
+pub mod Walks
+pub mod Loops
+pub mod Ways
+pub mod Paths
+pub mod Accepts
+pub mod Ignored
+pub mod Written
+pub mod Causes
+pub mod Looked

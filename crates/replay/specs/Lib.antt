@@ -1,0 +1,5 @@
+pub mod Held
+pub mod Places
+pub mod Pairs
+pub mod Members
+pub mod Feeding
