@@ -17,6 +17,7 @@ draw() {
         layer(428, 152, "layout", "which record", "is what")
         layer(584, 258, "records", "nodes, groups,", "undo records")
         layer(846, 92, "words", "what runs", "")
+        layer(950, 84, "apart", "knows no", "store")
 
         #   id, x, y, width, height, colour, title, what it is, crates
         box("journal", 304, 62, 270, 96, "store", "a journal", "of any store, and of this one", \
@@ -48,6 +49,7 @@ draw() {
             "kinds chain nodes reshaping groups undos")
 
         box("words", 304, 864, 470, 58, "store", "words, session table, lock rule, answers", "", "words locks sessions seniority outcomes")
+        box("stamps", 304, 962, 470, 60, "stamps", "local stamps", "UTC minutes and local date, time and mark, for C", "calendar switches stamps local_stamps")
 
         #     from, to, the points of the line
         arrow("journals", "journal", "614,110 574,110")
@@ -137,7 +139,7 @@ draw() {
         text(x + 23, 27, "note", s)
     }
     function paint(  i) {
-        print "<svg xmlns=\"http://www.w3.org/2000/svg\" width=\"1000\" height=\"948\" viewBox=\"0 0 1000 948\""
+        print "<svg xmlns=\"http://www.w3.org/2000/svg\" width=\"1000\" height=\"1044\" viewBox=\"0 0 1000 1044\""
         print "    font-family=\"DejaVu Sans, Verdana, sans-serif\">"
         print "<title>The crates by layer and family</title>"
         print "<!-- made by docs/architecture.sh from crates.txt: change that, not this -->"
@@ -147,12 +149,12 @@ draw() {
         print ".crate { font-size: 12px; font-family: DejaVu Sans Mono, Menlo, Consolas, monospace }"
         print "rect { stroke: #8a8a8a; stroke-width: 1 }"
         print ".layer { fill: #f5f5f5; stroke: none } .paper { fill: #ffffff; stroke: none }"
-        print ".theory { fill: #dfe9fb } .store { fill: #e0f2e0 } .test { fill: #fcefcc } .beside { fill: #efe3f5 }"
+        print ".theory { fill: #dfe9fb } .store { fill: #e0f2e0 } .test { fill: #fcefcc } .beside { fill: #efe3f5 } .stamps { fill: #dcf1f3 }"
         print "polyline { fill: none; stroke: #444; stroke-width: 1.5; marker-end: url(#head) }"
         print "</style>"
         print "<defs><marker id=\"head\" viewBox=\"0 0 8 8\" refX=\"7\" refY=\"4\" markerWidth=\"6\" markerHeight=\"6\" orient=\"auto\">"
         print "<path d=\"M0,0 L8,4 L0,8 z\" fill=\"#444\"/></marker></defs>"
-        print "<rect x=\"0\" y=\"0\" width=\"1000\" height=\"948\" class=\"paper\"/>"
+        print "<rect x=\"0\" y=\"0\" width=\"1000\" height=\"1044\" class=\"paper\"/>"
         for (i = 1; i <= L; i++) paint_layer(i)
         text(8, 27, "name", crates " crates")
         paint_key(104, "theory", "theory and meaning")

@@ -1,0 +1,3 @@
+-- Lemmas of the proofs.
+pub mod Loops
+pub mod Starts
