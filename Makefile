@@ -32,7 +32,7 @@ prove: need-rt ## proves CRATE (the trace program) and what it rests on, 8 minut
 	@.ci/prove $(CRATE)
 	@if [ '$(CRATE)' = trace ]; then echo 'target/bin/trace < $(SCRIPT)'; target/bin/trace < '$(SCRIPT)'; fi
 
-check: need-rt need-cc ## everything from nothing, 22 minutes: proofs, must-fail edits, programs, the examples in C
+check: need-rt need-cc ## everything from nothing, 24 minutes: proofs, must-fail edits, programs, the examples in C
 	@.ci/run
 
 journals: need-rt ## proves the checker of journals and what it rests on, 2 minutes, and holds it to stored verdicts

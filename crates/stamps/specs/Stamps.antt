@@ -44,10 +44,11 @@ stamp b t = cond (summer t) (stampAt 1 (t + b + 60)) (stampAt 2 (t + b))
 unfoldable pub within : ℕ → ℕ → ℕ → Bool
 within a x e = leb a x && leb x e
 
--- a date of 1 January 2002 to 1 January 2106, which is day 49,673
+-- 1 January 2106
 abbrev pub lastDay : ℕ
 lastDay = 49673
 
+-- a date of 1 January 2002 to 1 January 2106
 unfoldable pub properDate : ℕ → ℕ → ℕ → Bool
 properDate y m d = within 2002 y 2106 && (within 1 m 12 && (within 1 d (monthDays y m) && leb (dayNumber y m d) lastDay))
 
