@@ -37,9 +37,9 @@ extern "C" {
 
 /* Of this header and the archive beside it. */
 #define ENTRY_STORE_VERSION_MAJOR 0
-#define ENTRY_STORE_VERSION_MINOR 4
+#define ENTRY_STORE_VERSION_MINOR 5
 #define ENTRY_STORE_VERSION_PATCH 0
-#define ENTRY_STORE_VERSION "0.4.0"
+#define ENTRY_STORE_VERSION "0.5.0"
 
 /* ---- sizes: Rules, section 3 */
 
@@ -142,6 +142,11 @@ typedef char entry_store_session_has_its_words
  * Whom wait names. Of long locks in the way: of the sessions that hold them the one that began first (field order of
  * struct entry_store_session), whenever each took its lock. Of latches in the way: whoever has the highest node's, and
  * of two nodes side by side the left one's; this may be party 0. No step waits for both. Rules, section 6.
+ *
+ * Which long locks are in the way. A read waits for others that hold the entry exclusive; a write, and the first step
+ * of an insert or remove, for others that hold it at all; the last step of an insert or remove for others that have
+ * located the key; a locate for others that have inserted or removed at the next key. So sessions that insert or remove
+ * different entries at one key do not wait for each other. Rules, section 5.
  */
 enum entry_store_word {
     ENTRY_STORE_OK = 0,     /* format, begin, put, commit, abort: accepted; day: the call was an accepted put */

@@ -18,8 +18,9 @@
 //   - a wait names, of the other sessions whose long locks are in the way, the one with the lowest number in
 //     the order of begins; of latches that of the highest node, then of the leftmost; both read off the words
 //   - done ends the request in hand, more leaves it; a read answers the entry's value; an insert or a remove
-//     answers 1 exactly if the session's newest undo record is another; a locate's pairs rise, lie in its
-//     range and are as many as it says; nothing else writes the list
+//     answers 1 exactly if the session's newest undo record is another, and has the update lock of a key that
+//     nobody else locates; a locate's pairs rise, lie in its range and are as many as it says; nothing else
+//     writes the list
 //   - only the caller's record of the table changes, but that begin numbers all begun sessions anew, from 1
 //     on and in the order that they had, the caller last; begin and put leave the store
 //   - after every accepted call store and table are sound, M and R and the words beyond the records as before
@@ -280,10 +281,11 @@ struct day {
 
 // What the runs have reached.
 static struct {
-    uint64_t done[7]; // by code
-    uint64_t removed; // by tidies
-    uint32_t levels;  // of the highest tree
-    uint64_t several; // waits with several sessions in the way
+    uint64_t done[7];  // by code
+    uint64_t removed;  // by tidies
+    uint32_t levels;   // of the highest tree
+    uint64_t several;  // waits with several sessions in the way
+    uint64_t together; // inserts and removes at a key that another session updates
     uint64_t damaged, still_sound;
     uint32_t steps, asks; // the most of a run, and of a batch
     uint64_t days;        // read to their ends
@@ -594,7 +596,8 @@ static uint32_t next_taken(const struct entry_store_session *r)
     return i;
 }
 
-// The holders that conflict with what the party asks for, by a long lock; its own among them.
+// The holders that conflict with what the party asks for, by a long lock; its own among them. In the way of
+// an insert or remove are those that locate the key, in the way of a locate those that update it.
 static uint32_t conflicting(const struct entry_store_session *r)
 {
     if (r->stage == 1) {
@@ -602,7 +605,7 @@ static uint32_t conflicting(const struct entry_store_session *r)
         return entry[2] | (r->code == ENTRY_STORE_READ ? 0 : entry[1]);
     }
     if (r->stage == 4) {
-        return record(r->low)[2] | record(r->low)[3];
+        return record(r->low)[2];
     }
     return record(next_taken(r))[3];
 }
@@ -693,6 +696,7 @@ static void facts_of_done(struct entry_store_answer a, uint32_t count)
 {
     const struct entry_store_session *r = &old_table()[now.party];
     const uint32_t *entry = store + entry_store_words(r->code <= 4 ? r->entry - 1 : 0, 0);
+    uint32_t own = now.party == 0 ? 0 : UINT32_C(1) << (now.party - 1);
     fact(r->stage != 0, "done needs a request in hand");
     fact(table[now.party].stage == 0, "done ends the request");
     fact((count == 2) == (r->code == 6), "a tidy's done has two numbers, any other one");
@@ -715,6 +719,9 @@ static void facts_of_done(struct entry_store_answer a, uint32_t count)
     default:
         fact(a.value <= 1, "insert and remove answer 0 or 1");
         fact(a.value == (table[now.party].undo != r->undo), "they answer 1 exactly with a new undo record");
+        fact((record(r->low)[3] >> (now.party - 1) & 1) == 1, "they have the update lock in the end");
+        fact((record(r->low)[2] & ~own) == 0, "nobody else locates the key then");
+        reached.together += (record(r->low)[3] & ~own) != 0;
     }
     fact(r->code == 5 || unchanged(&list_room), "only a locate writes the list");
 }
@@ -1914,6 +1921,8 @@ static void print_counts(uint64_t runs)
     printf(" of these removed a descriptor %llu; the highest tree had %u levels\n",
            (unsigned long long)reached.removed, reached.levels);
     printf("%llu waits had several sessions in the way\n", (unsigned long long)reached.several);
+    printf("%llu inserts and removes were done at a key that another session updates\n",
+           (unsigned long long)reached.together);
     printf(
         "the longest run had %u steps, the longest batch %u asks; %llu days were read to their ends, of at "
         "most %u stretches\n",

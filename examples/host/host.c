@@ -11,7 +11,8 @@
 // call. The host answers what the store can answer:
 //   wait        the party steps again in the next round; it tells whom it waits for, of several the one that
 //               began first; where two wait for each other, one is aborted and begins again once the other
-//               has ended
+//               has ended. Desks that type in at one minute do not wait for each other; two that then look
+//               at it do
 //   refused 11  no free record: the housekeeper tidies, and the request is put again once it has removed
 //               something or a session has ended
 //   refused 12  the list is too short: a longer one, and the request is put again
@@ -74,8 +75,8 @@ struct actor {
 
     const struct sheet *sheet; // a desk's
 
-    struct pair_list list; // the planner's
-    uint32_t values[ENTRIES];
+    struct pair_list list;    // the planner's, and a desk's that looks
+    uint32_t values[ENTRIES]; // the planner's
     uint32_t found;
     size_t wish;   // which of its wishes
     uint32_t kept; // for how many rounds it has held what it found
@@ -179,11 +180,26 @@ static uint32_t stretch_value(const struct stretch *s)
     return (uint32_t)s->activity * 2048 + s->length;
 }
 
-// Each stretch is two requests: its value is written, then its entry is inserted.
+// The stretch whose minute a desk looks at, once all are typed in; NULL where it does not.
+static const struct stretch *looked_at(const struct actor *a)
+{
+    const struct sheet *s = a->sheet;
+    int looks = s->looks && a->place >= 2 * s->count && a->place < 3 * s->count;
+    return looks ? &s->stretches[a->place - 2 * s->count] : NULL;
+}
+
+// Each stretch is two requests: its value is written, then its entry is inserted. A desk that looks makes a
+// locate of each minute in the end.
 static int desk_next(const struct actor *a, struct request *r)
 {
     size_t k = a->place / 2;
-    if (k == a->sheet->count) {
+    const struct stretch *seen = looked_at(a);
+    if (seen != NULL) {
+        struct request look = {ENTRY_STORE_LOCATE, 0, stretch_key(seen), stretch_key(seen)};
+        *r = look;
+        return 1;
+    }
+    if (k >= a->sheet->count) {
         return 0;
     }
     const struct stretch *s = &a->sheet->stretches[k];
@@ -196,9 +212,13 @@ static int desk_next(const struct actor *a, struct request *r)
 
 static void desk_take(struct yard *y, struct actor *a, struct entry_store_answer answer)
 {
-    if (a->place % 2 == 1) {
+    const struct stretch *seen = looked_at(a);
+    struct text when, what;
+    if (seen != NULL) {
+        tell(y, a, "sees %u stretch%s at %s", answer.value, answer.value == 1 ? "" : "es",
+             moment(&when, stretch_key(seen)));
+    } else if (a->place % 2 == 1) {
         const struct stretch *s = &a->sheet->stretches[a->place / 2];
-        struct text when, what;
         tell(y, a, "%s: %s%s", moment(&when, stretch_key(s)), value_text(&what, stretch_value(s)),
              answer.value == 1 ? "" : " (was there already)");
     }
@@ -663,9 +683,16 @@ static void set_planner(struct yard *y)
     set_actor(y, PLANNER, "planner", &planner, 1);
     struct actor *a = &y->actors[PLANNER];
     a->after = wish_of(a)->after;
-    if (!list_grow(&a->list, 2)) {
-        printf("no memory\n");
-        exit(1);
+}
+
+// Lists of two pairs to begin with.
+static void set_lists(struct yard *y)
+{
+    for (size_t k = 1; k < ACTORS; k++) {
+        if (!list_grow(&y->actors[k].list, 2)) {
+            printf("no memory\n");
+            exit(1);
+        }
     }
 }
 
@@ -675,6 +702,7 @@ static void set_yard(struct yard *y)
     y->actors[ENTRY_STORE_HOUSEKEEPER].state = ASLEEP;
     set_desks(y);
     set_planner(y);
+    set_lists(y);
 }
 
 // ---- the end
@@ -765,9 +793,10 @@ static int phone(void *context, uint32_t party, uint32_t holder)
     return 1;
 }
 
-// A session begins and runs one request to its end.
-static void begin_and_run(struct yard *y, uint32_t party, struct request r, wait_handler on_wait,
-                          const char *what)
+// A session begins and runs one request to its end. Gives the entry that a locate has found, where it is one
+// alone; else 0.
+static uint32_t begin_and_run(struct yard *y, uint32_t party, struct request r, wait_handler on_wait,
+                              const char *what)
 {
     struct pair_list list = {NULL, 0};
     must_be(host_begin(&y->host, party), ENTRY_STORE_OK, "begin");
@@ -775,7 +804,9 @@ static void begin_and_run(struct yard *y, uint32_t party, struct request r, wait
     struct entry_store_answer a = host_run(&y->host, party, r, &list, on_wait, y);
     must_be(a, ENTRY_STORE_DONE, what);
     journal_done(&y->journal, party, r, a.value, list.words);
+    uint32_t found = r.code == ENTRY_STORE_LOCATE && a.value == 1 ? list.words[1] : 0;
     list_free(&list);
+    return found;
 }
 
 static void print_phoning(struct yard *y)
@@ -792,6 +823,43 @@ static void print_phoning(struct yard *y)
     begin_and_run(y, CALLER, insert, phone, "an insert");
     printf("  session %d goes on\n", CALLER);
     must_be(host_abort(&y->host, CALLER), ENTRY_STORE_OK, "abort");
+}
+
+// ---- two desks, one minute
+
+// Two sessions type in at one minute, and a third looks at it.
+enum { CARD = 4, VEHICLE = 5, LOOKER = 7, CARD_ENTRY = ENTRIES - 2, VEHICLE_ENTRY = ENTRIES - 1 };
+
+// Of the two, one commits and the other is undone.
+static int end_named(void *context, uint32_t party, uint32_t holder)
+{
+    struct yard *y = context;
+    int stays = holder == CARD;
+    printf("  session %u waits for session %u, which %s\n", party, holder, stays ? "commits" : "is undone");
+    must_be(stays ? host_commit(&y->host, holder) : host_abort(&y->host, holder), ENTRY_STORE_OK, "an end");
+    if (stays) {
+        journal_commit(&y->journal, holder);
+    }
+    return 1;
+}
+
+static void print_crew(struct yard *y)
+{
+    struct text when;
+    uint32_t six = key_of(DUBOIS, 4 * DAY_MINUTES + 6 * HOUR);
+    struct request card = {ENTRY_STORE_INSERT, CARD_ENTRY, six, 0};
+    struct request vehicle = {ENTRY_STORE_INSERT, VEHICLE_ENTRY, six, 0};
+    struct request look = {ENTRY_STORE_LOCATE, 0, six, six};
+    printf("\nTwo type in %s, from the card and from the vehicle file, and session %d looks at it.\n",
+           moment(&when, six), LOOKER);
+    begin_and_run(y, CARD, card, no_waiting, "an insert");
+    begin_and_run(y, VEHICLE, vehicle, no_waiting, "an insert");
+    printf("  session %d puts entry %d there and session %d entry %d: neither waits\n", CARD, CARD_ENTRY,
+           VEHICLE, VEHICLE_ENTRY);
+    uint32_t found = begin_and_run(y, LOOKER, look, end_named, "a locate");
+    printf("  session %d goes on, and finds entry %u alone\n", LOOKER, found);
+    must_be(host_commit(&y->host, LOOKER), ENTRY_STORE_OK, "commit");
+    journal_commit(&y->journal, LOOKER);
 }
 
 // ---- the journal
@@ -852,10 +920,13 @@ static int play_morning(struct yard *y)
         printf("\n%u times somebody waited for another's step on the way down the tree.\n", y->short_waits);
         print_stretches(y);
         print_phoning(y);
+        print_crew(y);
         good = y->journal_file == NULL || write_journal(y);
         good = (y->image == NULL || (y->saved && restart(y))) && good;
     }
-    list_free(&y->actors[PLANNER].list);
+    for (size_t k = 1; k < ACTORS; k++) {
+        list_free(&y->actors[k].list);
+    }
     host_close(&y->host);
     return good;
 }

@@ -24,18 +24,22 @@ struct stretch {
     enum activity activity;
 };
 
-// What one desk types in as one session. Its entries are counted up from the first.
+// What one desk types in as one session. Its entries are counted up from the first. A desk that looks has,
+// before it commits, each minute that it has typed in shown with all that stands there.
 struct sheet {
     const char *title;
     uint32_t first_entry;
     size_t count;
     const struct stretch *stretches;
+    int looks;
 };
 
-#define SHEET(title, first_entry, stretches)                                                                 \
+#define SHEET(title, first_entry, stretches, looks)                                                          \
     {                                                                                                        \
-        title, first_entry, sizeof stretches / sizeof stretches[0], stretches                                \
+        title, first_entry, sizeof stretches / sizeof stretches[0], stretches, looks                         \
     }
+
+enum { TYPES = 0, LOOKS = 1 };
 
 enum { HOUR = 60 };
 
@@ -56,7 +60,8 @@ static const struct stretch late_notes[] = {
     {BERG, 4, HOUR + 30, HOUR, WORK},
 };
 
-// A crew of two: their cards, and the file of their vehicle, have the same minutes.
+// A crew of two: their cards, and the file of their vehicle, have the same minutes. The desks that type them
+// in do not wait for each other. Where both look, they do.
 static const struct stretch crew_cards[] = {
     {DUBOIS, 3, 6 * HOUR, 270, DRIVING},
     {ENGEL, 3, 6 * HOUR, 270, AVAILABILITY},
@@ -76,12 +81,12 @@ static const struct stretch two_cards[] = {
 };
 
 static const struct sheet sheets[] = {
-    SHEET("the card of Adams", 1, adams_day),
-    SHEET("the card of Berg", 7, berg_day),
-    SHEET("two late notes", 13, late_notes),
-    SHEET("the cards of the crew Dubois and Engel", 15, crew_cards),
-    SHEET("the vehicle file of the crew Dubois and Engel", 17, crew_vehicle),
-    SHEET("the cards of Farkas and Costa", 19, two_cards),
+    SHEET("the card of Adams", 1, adams_day, TYPES),
+    SHEET("the card of Berg", 7, berg_day, TYPES),
+    SHEET("two late notes", 13, late_notes, TYPES),
+    SHEET("the cards of the crew Dubois and Engel", 15, crew_cards, LOOKS),
+    SHEET("the vehicle file of the crew Dubois and Engel", 17, crew_vehicle, LOOKS),
+    SHEET("the cards of Farkas and Costa", 19, two_cards, TYPES),
 };
 
 // ---- wishes

@@ -149,17 +149,17 @@ spoil() {
     spoiled="$spoiled $1"
 }
 
-# Records 76 and 77 are the planner's last locate and the read of the first entry that it found; 131 is a pair of its list.
+# Records 81 and 82 are the planner's last locate and the read of the first entry that it found; 147 is a pair of its list.
 spoil_journal() {
     spoiled=''
-    spoil answer 77 6 45           # 301 for 300
-    spoil pair 131 2 13            # entry 13 for 10
-    spoil count 76 6 6             # 6 pairs for 7
-    spoil code 77 2 6              # a tidy
-    spoil run 77 1 9               # that of a desk that has committed
-    spoil list 76 7 255            # a list outside the file
-    spoil next 120 0 77            # a chain that comes back
-    head -c $((32 * 162 - 1)) "$folder/morning.jnl" >"$folder/short.jnl"
+    spoil answer 82 6 45           # 301 for 300
+    spoil pair 147 2 13            # entry 13 for 10
+    spoil count 81 6 6             # 6 pairs for 7
+    spoil code 82 2 6              # a tidy
+    spoil run 82 1 9               # that of a desk that has committed
+    spoil list 81 7 255            # a list outside the file
+    spoil next 120 0 82            # a chain that comes back
+    head -c $((32 * 179 - 1)) "$folder/morning.jnl" >"$folder/short.jnl"
     spoiled="$spoiled short"
 }
 

@@ -30,6 +30,9 @@ pub const ASKED: usize = 8;
 // What the sessions are mostly at.
 pub const PHASE: usize = 9;
 
+// The key of the last insert or remove that was chosen.
+pub const CHANGED: usize = 10;
+
 // The round, and the call in it. From here on all is 0 where a round begins: the last key of a rising row; not 0 once a difference was found.
 pub const ROUND: usize = 124;
 
@@ -50,51 +53,51 @@ pub const REFUSED: usize = 42;
 
 // Views compared, keys compared, calls that had to change nothing, replays of committed and of other sessions, finished requests, contents compared,
 // aborts of copies, questions to the checker, damaged copies found sound and unsound, the greatest height and number of descriptors.
-pub const VIEWS: usize = 90;
+pub const VIEWS: usize = 94;
 
-pub const KEYS_SEEN: usize = 91;
+pub const KEYS_SEEN: usize = 95;
 
-pub const UNCHANGED: usize = 93;
+pub const UNCHANGED: usize = 97;
 
-pub const COMMITTED: usize = 94;
+pub const COMMITTED: usize = 98;
 
-pub const UNFINISHED: usize = 95;
+pub const UNFINISHED: usize = 99;
 
-pub const REQUESTS: usize = 96;
+pub const REQUESTS: usize = 100;
 
-pub const CONTENTS: usize = 97;
+pub const CONTENTS: usize = 101;
 
-pub const COPIES_ABORTED: usize = 98;
+pub const COPIES_ABORTED: usize = 102;
 
-pub const CHECKED: usize = 99;
+pub const CHECKED: usize = 103;
 
-pub const DAMAGED_SOUND: usize = 100;
+pub const DAMAGED_SOUND: usize = 104;
 
-pub const DAMAGED_UNSOUND: usize = 101;
+pub const DAMAGED_UNSOUND: usize = 105;
 
-pub const HEIGHT: usize = 102;
+pub const HEIGHT: usize = 106;
 
-pub const DESCRIPTORS: usize = 103;
+pub const DESCRIPTORS: usize = 107;
 
 // Of the day calls that were not refused: those that put a request, those that were a step; the steps that finished a request before the day's last, and
 // the last.
-pub const DAY_PUTS: usize = 104;
+pub const DAY_PUTS: usize = 108;
 
-pub const DAY_STEPS: usize = 105;
+pub const DAY_STEPS: usize = 109;
 
-pub const DAY_REQUESTS: usize = 106;
+pub const DAY_REQUESTS: usize = 110;
 
-pub const DAYS: usize = 107;
+pub const DAYS: usize = 111;
 
 // How often the parties were given other numbers in the order of begins.
-pub const SPREAD: usize = 108;
+pub const SPREAD: usize = 112;
 
 // The first difference: round and call, the number of the store and that of the model; how many differences there are; what differs first.
-pub const FIRST: usize = 109;
+pub const FIRST: usize = 113;
 
-pub const DIFFERENCES: usize = 113;
+pub const DIFFERENCES: usize = 117;
 
-pub const WHAT: usize = 114;
+pub const WHAT: usize = 118;
 
 // What may differ.
 pub const WORD: u32 = 1;

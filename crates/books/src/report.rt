@@ -49,6 +49,8 @@ fn tell_label(n: u32) {
  of both, waits that name another than the lowest party
  values taken back\n inserts taken back\n removes taken back\n aborts with a request in hand
  commits with take-back records\n begins that gave a session another number
+ inserts and removes at a key that another session changes\n of these, that two others and more change
+ inserts and removes taken back under another's newer one\n taken back over another's older one
  whole comparisons of entries, tree and free count\n comparisons of a key's holders and members
  comparisons of the lists\n waits and refusals that changed no word
  committed sessions run on the logical model\n aborted sessions run on a copy of it
@@ -99,12 +101,12 @@ the number of a party in the order of begins
     );
 }
 
-// The number of line n: from 25 to 57 an event of the model; 60 is how often the lists were compared, which is at each call.
+// The number of line n: from 25 to 61 an event of the model; 64 is how often the lists were compared, which is at each call.
 fn number(a: &Model, b: &Book, n: u32) -> u32 {
-    if 24 < n && n < 58 {
+    if 24 < n && n < 62 {
         return naive::counted(a, n - 25);
     }
-    if n == 60 {
+    if n == 64 {
         return get(b, LINES);
     }
     get(b, LINES + wide(n))
@@ -124,10 +126,10 @@ fn tell_rows(a: &Model, b: &Book, from: u32, end: u32) {
 }
 
 pub fn report(a: &Model, b: &Book) {
-    tell_rows(a, b, 0, 77);
+    tell_rows(a, b, 0, 81);
     if get(b, DIFFERENCES) != 0 {
-        tell_rows(a, b, 77, 81);
+        tell_rows(a, b, 81, 85);
         tell_what(get(b, WHAT));
     }
-    tell_row(a, b, 81);
+    tell_row(a, b, 85);
 }

@@ -139,6 +139,10 @@ makes =
 
 -- ---- long locks: what agrees, what waits, and what a change takes
 
+-- Document 02, M-104: sessions 1 and 2 insert different entries at one key.
+abbrev two-desks : List (Line × Told)
+two-desks = i 1 1 10 ⇒ done 1 ∷ i 2 2 10 ⇒ done 1 ∷ []
+
 abbrev locks : List (Row String)
 locks =
     row "share asked, exclusive held" store (w 1 1 7 ⇒ done 0 ∷ r 2 1 ⇒ wait 1 ∷ []) (entry 1 7 0 1 ∷ [])
@@ -149,7 +153,13 @@ locks =
     ∷ row "update asked, locate held" store (l 1 10 10 ⇒ done 0 ∷ i 2 1 10 ⇒ wait 1 ∷ d 3 2 10 ⇒ wait 1 ∷ []) (group 10 1 0 0 2 [] ∷ entry 1 0 0 2 ∷ [])
     ∷ row "locate asked, update held; keys before it are taken" store (i 1 1 20 ⇒ done 1 ∷ l 2 10 30 ⇒ wait 1 ∷ [])
     (group 10 2 0 2 1 [] ∷ group 20 0 1 0 0 (1 ∷ []) ∷ group 30 0 0 0 1 [] ∷ [])
-    ∷ row "update asked, update held" store (i 1 1 10 ⇒ done 1 ∷ i 2 2 10 ⇒ wait 1 ∷ d 3 3 10 ⇒ wait 1 ∷ []) (group 10 0 1 0 2 (1 ∷ []) ∷ [])
+    ∷ row "update asked, update held" store (two-desks ++ d 3 3 10 ⇒ done 0 ∷ []) (group 10 0 7 0 0 (1 ∷ 2 ∷ []) ∷ free 5 ∷ [])
+    ∷ row "update asked, update held: not for the same entry" store (two-desks ++ d 3 1 10 ⇒ wait 1 ∷ i 4 2 10 ⇒ wait 2 ∷ []) (group 10 0 3 0 0 (1 ∷ 2 ∷ []) ∷ entry 1 0 0 1 ∷ entry 2 0 0 2 ∷ [])
+    ∷ row "locate asked, update held by two: it waits for both" store (two-desks ++ l 3 10 10 ⇒ wait 1 ∷ c 1 ⇒ ok ∷ s 3 ⇒ wait 2 ∷ a 2 ⇒ ok ∷ s 3 ⇒ found ((10, 1) ∷ []) ∷ [])
+    (group 10 4 0 0 0 (1 ∷ []) ∷ free 8 ∷ [])
+    ∷ row "locate asked by one of two that update: it waits for the other" store (two-desks ++ l 1 10 10 ⇒ wait 2 ∷ l 2 10 10 ⇒ wait 1 ∷ a 2 ⇒ ok ∷ s 1 ⇒ found ((10, 1) ∷ []) ∷ [])
+    (group 10 1 1 0 0 (1 ∷ []) ∷ free 7 ∷ [])
+    ∷ row "update asked, update and locate held by one: it waits" store (i 1 1 10 ⇒ done 1 ∷ l 1 10 10 ⇒ found ((10, 1) ∷ []) ∷ i 2 2 10 ⇒ wait 1 ∷ []) (group 10 1 1 0 1 (1 ∷ []) ∷ [])
     ∷ row "a 0-answer waits and takes its lock too" store (i 1 1 10 ⇒ done 1 ∷ c 1 ⇒ ok ∷ l 2 10 10 ⇒ found ((10, 1) ∷ []) ∷ i 3 1 10 ⇒ wait 2 ∷ c 2 ⇒ ok ∷ g 3 ⇒ done 0 ∷ [])
     (group 10 0 4 0 0 (1 ∷ []) ∷ free 8 ∷ [])
     ∷ row "locate asked, locate held" store (l 1 10 20 ⇒ done 0 ∷ l 2 10 20 ⇒ done 0 ∷ []) (group 10 3 0 3 0 [] ∷ group 20 3 0 0 0 [] ∷ [])
@@ -228,6 +238,8 @@ tidies =
     ∷ row "no longer pinned" store (along 2 1 (l 1 10 10) ++ a 1 ⇒ ok ∷ t 0 0 ⇒ tidied 10 1 ∷ []) (gone 10 ∷ free 10 ∷ [])
     ∷ row "declined: members" store (i 1 1 10 ⇒ done 1 ∷ c 1 ⇒ ok ∷ t 0 0 ⇒ tidied 10 0 ∷ []) (group 10 0 0 0 0 (1 ∷ []) ∷ free 8 ∷ [])
     ∷ row "declined: update holders" store (d 1 1 10 ⇒ done 0 ∷ t 0 0 ⇒ tidied 10 0 ∷ []) (group 10 0 1 0 0 [] ∷ free 9 ∷ [])
+    ∷ row "declined: one of two update holders left" store (d 1 1 10 ⇒ done 0 ∷ d 2 2 10 ⇒ done 0 ∷ c 1 ⇒ ok ∷ t 0 0 ⇒ tidied 10 0 ∷ a 2 ⇒ ok ∷ t 0 0 ⇒ tidied 10 1 ∷ [])
+    (gone 10 ∷ free 10 ∷ [])
     ∷ row "declined: locate holders unlike the gap's before" store (l 1 10 10 ⇒ done 0 ∷ t 0 0 ⇒ tidied 10 0 ∷ []) (group 0 0 0 0 0 [] ∷ group 10 1 0 0 0 [] ∷ free 9 ∷ [])
     ∷ row "declined: gap holders unlike the gap's before" store (l 1 10 20 ⇒ done 0 ∷ t 0 19 ⇒ tidied 20 0 ∷ []) (group 10 1 0 1 0 [] ∷ group 20 1 0 0 0 [] ∷ free 9 ∷ [])
     ∷ row "all held by two alike" store (l 1 10 30 ⇒ done 0 ∷ l 2 10 30 ⇒ done 0 ∷ t 0 19 ⇒ tidied 20 1 ∷ []) (gone 20 ∷ group 10 3 0 3 0 [] ∷ free 10 ∷ [])
@@ -294,6 +306,14 @@ ends =
     row "before the end" store changed (entry 1 8 0 1 ∷ group 10 0 1 0 0 (2 ∷ 3 ∷ []) ∷ free 2 ∷ [])
     ∷ row "commit keeps the changes" store (changed ++ c 1 ⇒ ok ∷ s 1 ⇒ refused 5 ∷ []) (entry 1 8 0 0 ∷ group 10 0 0 0 0 (2 ∷ 3 ∷ []) ∷ free 7 ∷ [])
     ∷ row "abort undoes them, newest first" store (changed ++ a 1 ⇒ ok ∷ s 1 ⇒ refused 5 ∷ []) (entry 1 5 0 0 ∷ group 10 0 0 0 0 (3 ∷ []) ∷ free 8 ∷ [])
+    ∷ row "two at one key: the first aborts, the second commits" store (two-desks ++ a 1 ⇒ ok ∷ c 2 ⇒ ok ∷ []) (group 10 0 0 0 0 (2 ∷ []) ∷ entry 1 0 0 0 ∷ free 8 ∷ [])
+    ∷ row "two at one key: the second aborts, the first commits" store (two-desks ++ a 2 ⇒ ok ∷ c 1 ⇒ ok ∷ []) (group 10 0 0 0 0 (1 ∷ []) ∷ entry 2 0 0 0 ∷ free 8 ∷ [])
+    ∷ row "two at one key: the first commits, the second aborts" store (two-desks ++ c 1 ⇒ ok ∷ a 2 ⇒ ok ∷ []) (group 10 0 0 0 0 (1 ∷ []) ∷ free 8 ∷ [])
+    ∷ row "two at one key: the second commits, the first aborts" store (two-desks ++ c 2 ⇒ ok ∷ a 1 ⇒ ok ∷ []) (group 10 0 0 0 0 (2 ∷ []) ∷ free 8 ∷ [])
+    ∷ row "two at one key: both abort, the first first" store (two-desks ++ a 1 ⇒ ok ∷ a 2 ⇒ ok ∷ []) (group 10 0 0 0 0 [] ∷ free 9 ∷ [])
+    ∷ row "two at one key: both abort, the second first" store (two-desks ++ a 2 ⇒ ok ∷ a 1 ⇒ ok ∷ []) (group 10 0 0 0 0 [] ∷ free 9 ∷ [])
+    ∷ row "three at one key take out and add, and abort in another sequence" store (i 1 1 10 ⇒ done 1 ∷ i 1 3 10 ⇒ done 1 ∷ c 1 ⇒ ok ∷ d 2 3 10 ⇒ done 1 ∷ d 3 1 10 ⇒ done 1 ∷ i 4 2 10 ⇒ done 1 ∷ a 2 ⇒ ok ∷ a 4 ⇒ ok ∷ a 3 ⇒ ok ∷ [])
+    (group 10 0 0 0 0 (1 ∷ 3 ∷ []) ∷ free 7 ∷ [])
     ∷ row "abort ends a descent" (two 0 (trio 0 4 0 4)) (along 2 1 (l 1 10 10) ++ a 1 ⇒ ok ∷ []) (tree 1 (over 0 (trio 0 4 0 4)) ∷ [])
     ∷ row "abort ends pins, and descriptors stay" store (along 5 1 (l 1 5 15) ++ a 1 ⇒ ok ∷ []) (group 5 0 0 0 0 [] ∷ group 15 0 0 0 0 [] ∷ free 7 ∷ [])
     ∷ row "abort between a locate's two descents" store (along 2 1 (l 1 5 15) ++ a 1 ⇒ ok ∷ []) (group 5 0 0 0 0 [] ∷ gone 15 ∷ free 8 ∷ [])

@@ -1,5 +1,5 @@
 // Clauses: the paragraph's clauses by number, in its order, and what each asks of records, parties and entries; last the clause that M-101 adds.
-use super::holders::agree;
+use super::holders::agree_on_entry;
 use super::holders::are_begun;
 use super::orders::are_apart;
 use super::reach::BEFORE;
@@ -166,7 +166,7 @@ fn all_entries_keep(s: &[u32], t: &Table, c: u32) -> bool {
         let exclusive = entry_field(s, e, EXCLUSIVE);
         let is_kept = match c {
             BEGUN => are_begun(t, share | exclusive),
-            AGREED => agree(share, exclusive),
+            AGREED => agree_on_entry(share, exclusive),
             _ => return true,
         };
         if !is_kept {

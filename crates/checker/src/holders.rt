@@ -18,8 +18,13 @@ pub fn are_begun(t: &Table, holders: u32) -> bool {
     left == 0
 }
 
-// "no two holders conflict": the first mode agrees with itself and the second with nothing. Whoever holds the second is the only holder of
-// both.
-pub fn agree(first: u32, second: u32) -> bool {
-    (second == 0) | (u32::count_ones(first | second) == 1)
+// "no two holders conflict", of an entry: share agrees with share, exclusive with nothing. Whoever holds it exclusive is its only holder.
+pub fn agree_on_entry(share: u32, exclusive: u32) -> bool {
+    (exclusive == 0) | (u32::count_ones(share | exclusive) == 1)
+}
+
+// The same of a group: locate agrees with locate and update with update (document 02, M-104), but not with each other. Where it is held in both
+// modes, one session is its only holder.
+pub fn agree_on_group(locate: u32, update: u32) -> bool {
+    (locate == 0) | (update == 0) | (u32::count_ones(locate | update) == 1)
 }

@@ -1,5 +1,5 @@
-// Checker: a second judge of soundness, written from document 01's paragraph "Sound means", document 02's M-101 and readings 15, 16 and 28 of docs/DECISIONS.md, a
-// function for each clause in its order.
+// Checker: a second judge of soundness, written from document 01's paragraph "Sound means", document 02's M-101 and M-104 and readings 15, 16 and 28 of
+// docs/DECISIONS.md, a function for each clause in its order.
 //
 // It is slow on purpose: it lists every record as it is reached and then looks through that list again and again. It has no definition and
 // shares no code with the store's own test, so that the two can be held against each other. It takes any words and any session records, and

@@ -9,7 +9,7 @@ use super::clauses::PIN_COUNTS;
 use super::clauses::RISING;
 use super::clauses::SEPARATED;
 use super::clauses::ZERO_EMPTY;
-use super::holders::agree;
+use super::holders::agree_on_group;
 use super::holders::are_begun;
 use super::reach::DESCRIPTOR;
 use super::reach::FROM;
@@ -118,7 +118,7 @@ pub fn descriptor_keeps(s: &[u32], t: &Table, list: &List, c: u32, j: u32, i: u3
         ZERO_EMPTY => (key != 0) | (field(s, i, MEMBER) == 0),
         // "only begun sessions hold", groups with their gaps; "no two holders conflict": a gap has no update holders
         BEGUN => are_begun(t, locate | update | field(s, i, GAP)),
-        AGREED => agree(locate, update),
+        AGREED => agree_on_group(locate, update),
         // "seize counts .. match the requests in hand"
         PIN_COUNTS => field(s, i, PINS) == pins(t, key),
         _ => true,

@@ -13,6 +13,7 @@ use crate::shares::HOUSEKEEPER;
 use crate::shares::RISE;
 use crate::shares::code;
 use crate::shares::share;
+use books::book::CHANGED;
 use books::book::KEYS;
 use books::book::Model;
 use books::book::PHASE;
@@ -22,6 +23,7 @@ use books::call::Call;
 use books::call::plain;
 use schedules::book::Book;
 use schedules::book::get;
+use schedules::book::put;
 use schedules::logs::FINISHED;
 use schedules::logs::WAITED;
 use schedules::logs::hand;
@@ -144,10 +146,21 @@ fn some_group(s: &Side, b: &mut Book) -> u32 {
     0
 }
 
+// A key, often that of the change before, so that several sessions change one group; but in a rising row.
+fn change_key(s: &Side, b: &mut Book) -> u32 {
+    let last = get(b, CHANGED);
+    if last != 0 && get(b, PHASE) != RISE && chance(b, 1, 2) {
+        return last;
+    }
+    let k = some_key(s, b);
+    put(b, CHANGED, k);
+    k
+}
+
 // An insert or a remove of some entry at some key.
 fn some_change(s: &Side, b: &mut Book, p: u32, code: u32) -> Call {
     let e = some_entry(b);
-    request(p, code, e, some_key(s, b), 0)
+    request(p, code, e, change_key(s, b), 0)
 }
 
 // A remove: mostly of an entry out of a group in which it is.

@@ -1,7 +1,7 @@
 // Compare: a second model beside the store on long random schedules of 6 and of 16 sessions and the housekeeper.
 //
-// Every call is made on the store (crate calls) and on a model of plain arrays that was written from document 01 and document 02's M-101 alone (crate
-// naive). A day call is on that model the put or step that a second reading of the day makes of it. Answers and lists are compared at every call, the
+// Every call is made on the store (crate calls) and on a model of plain arrays that was written from document 01 and document 02's M-101 and M-104 alone
+// (crate naive). A day call is on that model the put or step that a second reading of the day makes of it. Answers and lists are compared at every call, the
 // party that a wait names among them, the place too that a day call returns, and all words where none may change; entries, the holders and members of
 // keys, free count, tree and the numbers in the order of begins at every call that may change a word. Now and then a call is made on a table with other
 // such numbers in the same order. Each committed session runs whole on the logical model, in order of commit, and each aborted one on a copy; at every

@@ -15,7 +15,7 @@ ghost use Rattle.locks.specs.Holders.{word-bits, holds, held-by, left-by
 // update.
 pub const AGREES: [[[bool; 2]; 2]; 2] = [
     [[true, false], [false, false]], // entries
-    [[true, false], [false, false]], // groups
+    [[true, false], [false, true]], // groups
 ];
 
 pub fn agrees(kind: usize, held: usize, asked: usize) -> bool

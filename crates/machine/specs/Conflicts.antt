@@ -19,7 +19,7 @@ use Rattle.machine.specs.Steps.{entry-blockers, group-blockers, level-bl
 use Rattle.machine.specs.View.{holders}
 use Rattle.machine.specs.Sound.{Sound, Shaped, Room, stored-in}
 use Rattle.machine.specs.Context.{Ctx, hole, down, plug, OnWay, Clear, Focus, Focused}
-use Rattle.machine.specs.InTheWay.{Asks, LongLock, Involved, At, ShortLock, InTheWay}
+use Rattle.machine.specs.InTheWay.{LowestFrom, Asks, LongLock, Involved, At, ShortLock, InTheWay}
 use Rattle.machine.specs.Blocking.{Clash, Blocks, entry-blocks, group-blocks, root-blocks, level-blocks}
 use Rattle.machine.specs.Checks.{code-range}
 use Rattle.machine.specs.Housekeeping.{lvs}
@@ -245,3 +245,57 @@ exactly-from p r s g (b ∷ bs) o w f = record {
 -- Every step of every party, from every sound state.
 pub waits-exactly : (n p : ℕ) (r : Request) (s : State) → Sound s → sessionOf p s .hand ≡ some r → WaitsExactly p r s (r .stage) (next-step n p r s (r .stage))
 waits-exactly n p r s S e = exactly-from p r s (r .stage) (step-blockers p r s (r .stage)) (next-step n p r s (r .stage)) (step-waits n p r s (r .stage)) (blockers-exactly S p r e)
+
+-- ---- who that is, by the kind of step: an entry's exclusive lock is alone, update locks of one key agree, locate and update conflict (document 02, M-104)
+
+-- In the way of the first step of an insert or remove are exactly the others that hold its entry.
+pub entry-meets : (p : ℕ) (r : Request) (s : State) (q : ℕ) → 3 ≤ r .code → r .code ≤ 4 → InTheWay p r s start q ↔ ((¬ (q ≡ p)) × ((m : Mode) × (holders s L.entry m q (r .entry) ≡ true)))
+entry-meets p r s q lo hi = ((λ W. (W .another, by (W .lock))), λ h. record { another = h .0; lock = inl (lock (h .1 .0) (h .1 .1)) })
+  where
+    by : LongLock r s start q ⊎ ShortLock p s start q → (m : Mode) × (holders s L.entry m q (r .entry) ≡ true)
+    by (inl l) = (l .held, subst (λ z. holders s L.entry (l .held) q z ≡ true) (l .asks .1) (subst (λ k. holders s k (l .held) q (l .what) ≡ true) (l .asks .0) (l .holding)))
+    by (inr l) = absurd l
+
+    lock : (m : Mode) → holders s L.entry m q (r .entry) ≡ true → LongLock r s start q
+    lock m h = record { kind = L.entry; asked = strong; held = m; what = r .entry; asks = (refl, refl, inr (omega (arith, lo), hi, refl)); holding = h; conflict = apart-from m }
+      where
+        apart-from : (m : Mode) → lock-rule L.entry m strong ≡ false
+        apart-from weak = refl
+        apart-from strong = refl
+
+-- In the way of its change are exactly the others that hold its key to locate.
+pub change-meets : (p : ℕ) (r : Request) (s : State) (q : ℕ) → InTheWay p r s change q ↔ ((¬ (q ≡ p)) × (holders s L.group weak q (r .first) ≡ true))
+change-meets p r s q = ((λ W. (W .another, by (W .lock))), λ h. record { another = h .0; lock = inl (lock (h .1)) })
+  where
+    located : (m : Mode) → lock-rule L.group m strong ≡ false → holders s L.group m q (r .first) ≡ true → holders s L.group weak q (r .first) ≡ true
+    located weak c h = h
+    located strong c h = absurd (true≢false refl c)
+
+    by : LongLock r s change q ⊎ ShortLock p s change q → holders s L.group weak q (r .first) ≡ true
+    by (inl l) = located (l .held)
+        (subst (λ m. lock-rule L.group (l .held) m ≡ false) (l .asks .2) (subst (λ k. lock-rule k (l .held) (l .asked) ≡ false) (l .asks .0) (l .conflict)))
+        (subst (λ z. holders s L.group (l .held) q z ≡ true) (l .asks .1) (subst (λ k. holders s k (l .held) q (l .what) ≡ true) (l .asks .0) (l .holding)))
+    by (inr l) = absurd l
+
+    lock : holders s L.group weak q (r .first) ≡ true → LongLock r s change q
+    lock h = record { kind = L.group; asked = strong; held = weak; what = r .first; asks = (refl, refl, refl); holding = h; conflict = refl }
+
+-- In the way of a locate that takes are exactly the others that hold the next key to update.
+pub take-meets : (p : ℕ) (r : Request) (s : State) (x q : ℕ) → InTheWay p r s (take x) q ↔ ((¬ (q ≡ p)) × ((z : ℕ) × LowestFrom x s z × (holders s L.group strong q z ≡ true)))
+take-meets p r s x q = ((λ W. (W .another, by (W .lock))), λ h. record { another = h .0; lock = inl (lock (h .1 .0) (h .1 .1) (h .1 .2)) })
+  where
+    updated : (m : Mode) (z : ℕ) → lock-rule L.group m weak ≡ false → holders s L.group m q z ≡ true → holders s L.group strong q z ≡ true
+    updated weak z c h = absurd (true≢false refl c)
+    updated strong z c h = h
+
+    by : LongLock r s (take x) q ⊎ ShortLock p s (take x) q → (z : ℕ) × LowestFrom x s z × (holders s L.group strong q z ≡ true)
+    by (inl l) = (
+      l .what,
+      l .asks .1,
+      updated (l .held) (l .what) (subst (λ m. lock-rule L.group (l .held) m ≡ false) (l .asks .2) (subst (λ k. lock-rule k (l .held) (l .asked) ≡ false) (l .asks .0) (l .conflict)))
+      (subst (λ k. holders s k (l .held) q (l .what) ≡ true) (l .asks .0) (l .holding)),
+    )
+    by (inr l) = absurd l
+
+    lock : (z : ℕ) → LowestFrom x s z → holders s L.group strong q z ≡ true → LongLock r s (take x) q
+    lock z f h = record { kind = L.group; asked = weak; held = strong; what = z; asks = (refl, f, refl); holding = h; conflict = refl }

@@ -1,4 +1,5 @@
-// Naive: a second model of the whole entry store, written from document 01 and document 02's M-101 alone, to be run beside the store and compared with it.
+// Naive: a second model of the whole entry store, written from document 01 and document 02's M-101 and M-104 alone, to be run beside the store and compared
+// with it.
 //
 // The model is plain arrays in one lent slice: the entries, the descriptors rising by key with their groups as sets of bits, the tree nodes, the
 // parties, the begun sessions in the order in which they began, an undo log in order of time, and a count of free records. There are no records and no
@@ -6,8 +7,8 @@
 // off the numbers that the sessions have in it. It is made for M from 1 to 32 and every R; a larger M that document 01 allows is formatted, and its entries
 // above 32 read as 0.
 //
-// It promises that every function is safe and ends, on any words. That it does what document 01 and document 02's M-101 say is tested and not proved. It
-// rests on naive_tree for its arrays, descriptors and tree, on naive_steps for the descent, the parties, the order of begins and the undo log.
+// It promises that every function is safe and ends, on any words. That it does what these documents say is tested and not proved. It rests on naive_tree
+// for its arrays, descriptors and tree, on naive_steps for the descent, the parties, the order of begins and the undo log.
 mod request;
 
 use crate::request::change;

@@ -17,6 +17,7 @@ use naive_steps::party::reply;
 use naive_steps::party::unless;
 use naive_steps::undo::change_word;
 use naive_tree::arrays::CODE;
+use naive_tree::arrays::COUNTERS;
 use naive_tree::arrays::ENTRY;
 use naive_tree::arrays::ENTRY_SLOTS;
 use naive_tree::arrays::EXCLUSIVES;
@@ -38,6 +39,7 @@ use naive_tree::arrays::field;
 use naive_tree::arrays::get;
 use naive_tree::arrays::minus;
 use naive_tree::arrays::plus;
+use naive_tree::arrays::raise;
 use naive_tree::arrays::set_field;
 use naive_tree::events::ADDED;
 use naive_tree::events::ENTRY_WAIT;
@@ -49,6 +51,8 @@ use naive_tree::events::NO_EVENT;
 use naive_tree::events::NOTHING_ABOVE;
 use naive_tree::events::READ_DONE;
 use naive_tree::events::TAKEN_OUT;
+use naive_tree::events::UPDATED_BY_MANY;
+use naive_tree::events::UPDATED_TOO;
 use naive_tree::events::VALUE_UNDONE;
 use naive_tree::events::WAS_ABSENT;
 use naive_tree::events::WRITE_DONE;
@@ -103,14 +107,20 @@ pub fn entry_plan(a: &Words, p: u32) -> Plan {
     lock_plan(a, p, holders, ENTRY_WAIT, refusal, lock)
 }
 
-// The last step of an insert or remove. An insert needs a record for the membership and one for the log; the record of a membership that is taken out
-// becomes the undo record.
+// The last step of an insert or remove, which only those that locate the key keep waiting. An insert needs a record for the membership and one for the
+// log; the record of a membership that is taken out becomes the undo record.
 pub fn group_plan(a: &Words, p: u32) -> Plan {
     let i = group_of(a, p);
     let is_new = change_event(a, p) == ADDED;
-    let holders = get(a, LOCATES, i) | get(a, UPDATES, i);
     let refusal = lack(a, (is_new as u32) << 1);
-    lock_plan(a, p, holders, KEY_WAIT, refusal, plus(UPDATES, i))
+    lock_plan(
+        a,
+        p,
+        get(a, LOCATES, i),
+        KEY_WAIT,
+        refusal,
+        plus(UPDATES, i),
+    )
 }
 
 // A locate's step to its next key. With the last one it must have room in its list for all that it finds.
@@ -187,8 +197,16 @@ fn change_event(a: &Words, p: u32) -> u32 {
     minus(WAS_ABSENT, is_member as u32)
 }
 
+// Counts an insert or remove at a key where others have the group's lock too.
+fn count_together(a: &mut Words, p: u32) {
+    let n = u32::count_ones(others(get(a, UPDATES, group_of(a, p)), p));
+    raise(a, COUNTERS, UPDATED_TOO, (0 < n) as u32);
+    raise(a, COUNTERS, UPDATED_BY_MANY, (1 < n) as u32);
+}
+
 // The last step of an insert or remove, with the group's lock.
 pub fn change(a: &mut Words, p: u32) -> Said {
+    count_together(a, p);
     let event = change_event(a, p);
     if event % 2 == 1 {
         let key = field(a, p, FIRST);

@@ -1,4 +1,5 @@
 // Undo: the log of what abort takes back.
+use naive_tree::arrays::COUNTERS;
 use naive_tree::arrays::GROUPS;
 use naive_tree::arrays::HEADER;
 use naive_tree::arrays::UNDO_ARRAYS;
@@ -13,8 +14,11 @@ use naive_tree::arrays::insert_row;
 use naive_tree::arrays::minus;
 use naive_tree::arrays::note;
 use naive_tree::arrays::plus;
+use naive_tree::arrays::raise;
 use naive_tree::arrays::remove_row;
 use naive_tree::arrays::set;
+use naive_tree::events::UNDONE_OVER_OLDER;
+use naive_tree::events::UNDONE_UNDER_NEWER;
 use naive_tree::keys::place;
 
 // Where a word lies that the log speaks of. The mark of a group is its key, since descriptors come and go; that of a value is its place.
@@ -25,22 +29,48 @@ fn word_of(a: &Words, base: u32, mark: u32) -> u32 {
     plus(base, mark)
 }
 
-// Session p changes a word. What it was goes to the end of the log, with the event that counts that it is taken back.
+// Session p changes a word. The bits that it changes go to the end of the log, with the event that counts that they are taken back. The other bits of a
+// group are other entries, which other sessions may change meanwhile.
 pub fn change_word(a: &mut Words, p: u32, event: u32, base: u32, mark: u32, x: u32) {
     let at = word_of(a, base, mark);
-    let old = get(a, at, 0);
+    let bits = get(a, at, 0) ^ x;
     let i = get(a, HEADER, UNDOS);
-    insert_row(a, UNDO_SESSIONS, UNDOS, i, [p, event, base, mark, old]);
+    insert_row(a, UNDO_SESSIONS, UNDOS, i, [p, event, base, mark, bits]);
     set(a, at, 0, x);
 }
 
-// Undoes record i of the log.
+// Whether records i and k are of one group, and of two sessions.
+fn meet(a: &Words, i: u32, k: u32) -> bool {
+    let are_groups = (get(a, UNDO_ARRAYS, i) == GROUPS) & (get(a, UNDO_ARRAYS, k) == GROUPS);
+    let is_same = get(a, UNDO_MARKS, i) == get(a, UNDO_MARKS, k);
+    are_groups & is_same & (get(a, UNDO_SESSIONS, i) != get(a, UNDO_SESSIONS, k))
+}
+
+// How many of the records from..end meet record i.
+fn count_met(a: &Words, i: u32, from: u32, end: u32) -> u32 {
+    let mut n = 0;
+    for k in from..end {
+        n = plus(n, meet(a, i, k) as u32);
+    }
+    n
+}
+
+// Counts that record i is undone while others' records of the same group stand.
+fn note_met(a: &mut Words, i: u32) {
+    let newer = count_met(a, i, i, get(a, HEADER, UNDOS));
+    let older = count_met(a, i, 0, i);
+    raise(a, COUNTERS, UNDONE_UNDER_NEWER, (newer != 0) as u32);
+    raise(a, COUNTERS, UNDONE_OVER_OLDER, (older != 0) as u32);
+}
+
+// Undoes record i of the log: its bits are changed again.
 fn undo(a: &mut Words, i: u32) {
     let at = word_of(a, get(a, UNDO_ARRAYS, i), get(a, UNDO_MARKS, i));
-    let old = get(a, UNDO_WORDS, i);
+    let x = get(a, at, 0) ^ get(a, UNDO_WORDS, i);
     let event = get(a, UNDO_EVENTS, i);
-    set(a, at, 0, old);
+    set(a, at, 0, x);
     note(a, event);
+    note_met(a, i);
 }
 
 // Takes record i out of the log if it is of session p, and undoes it first where that is asked; gives how many that were.

@@ -68,4 +68,14 @@ pub const COMMIT_WITH_UNDOS: u32 = 31;
 // A begin that gave a session another number than it had.
 pub const RENUMBERED: u32 = 32;
 
+// An insert or remove at a key that another session has inserted or removed at and not ended; of these, one with two such sessions and more.
+pub const UPDATED_TOO: u32 = 33;
+
+pub const UPDATED_BY_MANY: u32 = 34;
+
+// An insert or remove that is taken back while another session's newer one at the same key stands; and while another's older one does.
+pub const UNDONE_UNDER_NEWER: u32 = 35;
+
+pub const UNDONE_OVER_OLDER: u32 = 36;
+
 pub const NO_EVENT: u32 = 4294967295;

@@ -4,20 +4,21 @@ use mathlib.Core.Bool.{Bool, true, false, _||_}
 use mathlib.Core.List.{List, [], _∷_, _++_}
 use mathlib.Core.Logic.{_↔_}
 use mathlib.Core.Option.{some}
-use Prim.Native.Nat.{ℕ, zero, suc, _<_}
+use Prim.Native.Nat.{ℕ, zero, suc, _≤_, _<_}
 use lib.Dec.{eqb}
 use lib.ListN.{length, drop}
 use Rattle.sessions.specs.declared.Session.{Session}
 use Rattle.serial.specs.Serial.{true≢false}
 use Rattle.serial.specs.Model.{Item, Req, ans, eff}
-use Rattle.serial.specs.Locks.{Kind, Mode}
+use Rattle.serial.specs.Locks.{Kind, Mode, weak, strong}
+use Rattle.serial.specs.Locks as L
 use Rattle.serial.specs.Calls as C
 use Rattle.machine.specs.Holders.{elem}
-use Rattle.machine.specs.State.{State, Stage, Request, Answer, ok, more, wait, done, refused, Outcome, sessionOf}
+use Rattle.machine.specs.State.{State, Stage, start, change, take, Request, Answer, ok, more, wait, done, refused, Outcome, sessionOf}
 use Rattle.machine.specs.Logic.{eqb-is}
 use Rattle.machine.specs.Steps.{next-step, named, settled}
-use Rattle.machine.specs.InTheWay.{InTheWay, Named}
-use Rattle.machine.specs.Conflicts.{blockers-exactly}
+use Rattle.machine.specs.InTheWay.{LowestFrom, InTheWay, Named}
+use Rattle.machine.specs.Conflicts.{blockers-exactly, entry-meets, change-meets, take-meets}
 use Rattle.machine.specs.Naming.{whom-named, named-one}
 use Rattle.machine.specs.Tidying.{Chooses, put-chooses, Tidy, tidy, tidy-said}
 use Rattle.machine.specs.Calls.{Call, call}
@@ -258,3 +259,28 @@ module _ (p : ℕ) (l s : List ℕ) (t : List Session) (a : C.Answer) (l′ s′
         (descents-keep p (length l) (meaning s t) (S .state) (ap (λ k. unseen-step k (meaning s t)) e));
     tidies = tidied;
   }
+
+-- ---- for whom an insert, a remove and a locate wait, said of holders alone: update locks of one key agree, locate and update conflict (document 02, M-104)
+
+module _ (p : ℕ) (r : Request) (l s : List ℕ) (t : List Session) (a : C.Answer) (l′ s′ : List ℕ) (t′ : List Session) (D : Demand-2 p r l s t a l′ s′ t′) where
+  -- The step waits, and these are the ones that it may wait for.
+  abbrev Waits : (ℕ → Type 0) → Type 0
+  Waits X = ((q : ℕ) × (a ≡ C.wait q)) ↔ ((q : ℕ) × (¬ (q ≡ p)) × X q)
+
+  waits-as : (g : Stage) → r .stage ≡ g → (X : ℕ → Type 0) → ((q : ℕ) → InTheWay p r (meaning s t) g q ↔ ((¬ (q ≡ p)) × X q)) → Waits X
+  waits-as g e X f = (
+    (λ h. let w = D .waits .0 h in let i = f (w .0) .0 (subst (λ y. InTheWay p r (meaning s t) y (w .0)) e (w .1)) in (w .0, i .0, i .1)),
+    λ h. D .waits .1 (h .0, subst (λ y. InTheWay p r (meaning s t) y (h .0)) (sym e) (f (h .0) .1 (h .1, h .2))),
+  )
+
+  -- The first step of an insert or remove waits exactly if another session holds the entry.
+  pub entry-waits : 3 ≤ r .code → r .code ≤ 4 → r .stage ≡ start → Waits (λ q. (m : Mode) × (holders (meaning s t) L.entry m q (r .entry) ≡ true))
+  entry-waits lo hi e = waits-as start e (λ q. (m : Mode) × (holders (meaning s t) L.entry m q (r .entry) ≡ true)) (λ q. entry-meets p r (meaning s t) q lo hi)
+
+  -- Its change waits exactly if another session holds the key to locate.
+  pub change-waits : r .stage ≡ change → Waits (λ q. holders (meaning s t) L.group weak q (r .first) ≡ true)
+  change-waits e = waits-as change e (λ q. holders (meaning s t) L.group weak q (r .first) ≡ true) (λ q. change-meets p r (meaning s t) q)
+
+  -- A locate that takes waits exactly if another session holds the next stored key to update.
+  pub take-waits : (x : ℕ) → r .stage ≡ take x → Waits (λ q. (z : ℕ) × LowestFrom x (meaning s t) z × (holders (meaning s t) L.group strong q z ≡ true))
+  take-waits x e = waits-as (take x) e (λ q. (z : ℕ) × LowestFrom x (meaning s t) z × (holders (meaning s t) L.group strong q z ≡ true)) (λ q. take-meets p r (meaning s t) x q)

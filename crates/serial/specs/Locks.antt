@@ -1,9 +1,9 @@
--- The long locks of document 01: the lock rule as two tables, what a session may depend on and change under its locks, what each request needs,
+-- The long locks of document 01, and document 02's M-104: the lock rule as two tables, what a session may depend on and change under its locks, what each request needs,
 -- and what a finished request adds to its session's undo log.
 use mathlib.Core.Path.{_≡_, refl, sym, _∙_, ap, subst}
 use mathlib.Core.Bool.{Bool, true, false, _&&_, _||_}
 use mathlib.Core.List.{[], _∷_}
-use mathlib.Core.Logic.{_⊎_, inl, inr}
+use mathlib.Core.Logic.{_↔_, _⊎_, inl, inr}
 use Prim.Native.Nat.{ℕ, _≤_}
 use native.Mathlib.Decide.{ℕ-discrete}
 use Rattle.serial.specs.Serial.{pick, true≢false, Covered, Within, undo, Log}
@@ -31,7 +31,7 @@ lock-rule entry strong strong = false
 lock-rule group weak weak = true
 lock-rule group weak strong = false
 lock-rule group strong weak = false
-lock-rule group strong strong = false
+lock-rule group strong strong = true
 
 -- What the serial-run theorem asks of a lock rule: exclusive agrees with nothing, and update disagrees with locate.
 pub record Strict (T : Table) : Type 0 where
@@ -120,6 +120,24 @@ changes-touches H s (cell k e) p = or-right (H group weak s k) (H group strong s
 apart : {A : Type 0} {b : Bool} → A ⊎ (b ≡ true) → b ≡ false → A
 apart (inl a) n = a
 apart (inr p) n = absurd (true≢false p n)
+
+-- What the lock rule asks of holders, in words: whoever has an entry exclusive is its only holder, whoever has a key to update is the only one to hold it to locate;
+-- nothing else.
+pub agree-exactly : (H : Holds)
+    → Agree lock-rule H ↔ (((m : Mode) (s t e : ℕ) → H entry strong s e ≡ true → H entry m t e ≡ true → s ≡ t) × ((s t k : ℕ) → H group strong s k ≡ true → H group weak t k ≡ true → s ≡ t))
+agree-exactly H = (
+  (λ A. ((λ m s t e h g. apart (A entry strong m s t e h g) (lock-rule-strict .exclusive-alone m)), λ s t k h g. apart (A group strong weak s t k h g) refl)),
+  λ E. agreed E,
+)
+  where
+    agreed : ((m : Mode) (s t e : ℕ) → H entry strong s e ≡ true → H entry m t e ≡ true → s ≡ t) × ((s t k : ℕ) → H group strong s k ≡ true → H group weak t k ≡ true → s ≡ t) → Agree lock-rule H
+    agreed E entry weak weak s t x h g = inr refl
+    agreed E entry weak strong s t x h g = inl (sym (E .0 weak t s x g h))
+    agreed E entry strong n s t x h g = inl (E .0 n s t x h g)
+    agreed E group weak weak s t x h g = inr refl
+    agreed E group weak strong s t x h g = inl (sym (E .1 t s x g h))
+    agreed E group strong weak s t x h g = inl (E .1 s t x h g)
+    agreed E group strong strong s t x h g = inr refl
 
 pub changes-alone : (T : Table) → Strict T → (H : Holds) → Agree T H → (s t : ℕ) (i : Item) → changes H s i ≡ true → touches H t i ≡ true → s ≡ t
 changes-alone T S H A s t (value e) p q = at (or-cases (H entry weak t e) (H entry strong t e) q)

@@ -1,4 +1,4 @@
-// Sound: the test that a store and a session table are sound, in document 01's sense ("Sound means"), with document 02's clause of M-101.
+// Sound: the test that a store and a session table are sound, in document 01's sense ("Sound means"), with document 02's M-101 and M-104.
 //
 // `first_fault` runs the passes one after the other and answers the first part that is broken, or that none is and how many records are
 // free; `is_sound` answers whether none is. Neither asks anything of the words that it is given. Each result EQUALS a definition

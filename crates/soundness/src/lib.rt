@@ -1,4 +1,4 @@
-// Soundness: the test of a store and its session table is true exactly if they are sound as document 01 says, with document 02's M-101.
+// Soundness: the test of a store and its session table is true exactly if they are sound as document 01 says, with document 02's M-101 and M-104.
 //
 // It promises: `is_sound` answers exactly whether `meaning.Sound` holds. specs/: Parts (what each number of the test stands for), Tested (what each pass
 // leaves for the next), a file for each pass, Walked (each pass goes well exactly if its part holds), Named (the number that the test answers names the first

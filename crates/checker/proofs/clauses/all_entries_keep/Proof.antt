@@ -28,8 +28,8 @@ entry-field-requires-2 c κs = search needs
 are-begun-requires : tie.Need-are-begun-requires Inv-loop μ-loop
 are-begun-requires c κs = search needs
 
-agree-requires : tie.Need-agree-requires Inv-loop μ-loop
-agree-requires c κs = search needs
+agree-on-entry-requires : tie.Need-agree-on-entry-requires Inv-loop μ-loop
+agree-on-entry-requires c κs = search needs
 
 returns : tie.Need-returns Inv-loop μ-loop
 returns c = search needs
@@ -61,7 +61,7 @@ all-entries-keep-spec =
     entry-field-requires
     entry-field-requires-2
     are-begun-requires
-    agree-requires
+    agree-on-entry-requires
     returns
     returns-2
     loop-less
