@@ -293,7 +293,7 @@ take-meets p r s x q = ((λ W. (W .another, by (W .lock))), λ h. record { anoth
       l .what,
       l .asks .1,
       updated (l .held) (l .what) (subst (λ m. lock-rule L.group (l .held) m ≡ false) (l .asks .2) (subst (λ k. lock-rule k (l .held) (l .asked) ≡ false) (l .asks .0) (l .conflict)))
-      (subst (λ k. holders s k (l .held) q (l .what) ≡ true) (l .asks .0) (l .holding)),
+          (subst (λ k. holders s k (l .held) q (l .what) ≡ true) (l .asks .0) (l .holding)),
     )
     by (inr l) = absurd l
 

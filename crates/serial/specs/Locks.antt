@@ -121,24 +121,6 @@ apart : {A : Type 0} {b : Bool} → A ⊎ (b ≡ true) → b ≡ false → A
 apart (inl a) n = a
 apart (inr p) n = absurd (true≢false p n)
 
--- What the lock rule asks of holders, in words: whoever has an entry exclusive is its only holder, whoever has a key to update is the only one to hold it to locate;
--- nothing else.
-pub agree-exactly : (H : Holds)
-    → Agree lock-rule H ↔ (((m : Mode) (s t e : ℕ) → H entry strong s e ≡ true → H entry m t e ≡ true → s ≡ t) × ((s t k : ℕ) → H group strong s k ≡ true → H group weak t k ≡ true → s ≡ t))
-agree-exactly H = (
-  (λ A. ((λ m s t e h g. apart (A entry strong m s t e h g) (lock-rule-strict .exclusive-alone m)), λ s t k h g. apart (A group strong weak s t k h g) refl)),
-  λ E. agreed E,
-)
-  where
-    agreed : ((m : Mode) (s t e : ℕ) → H entry strong s e ≡ true → H entry m t e ≡ true → s ≡ t) × ((s t k : ℕ) → H group strong s k ≡ true → H group weak t k ≡ true → s ≡ t) → Agree lock-rule H
-    agreed E entry weak weak s t x h g = inr refl
-    agreed E entry weak strong s t x h g = inl (sym (E .0 weak t s x g h))
-    agreed E entry strong n s t x h g = inl (E .0 n s t x h g)
-    agreed E group weak weak s t x h g = inr refl
-    agreed E group weak strong s t x h g = inl (sym (E .1 t s x g h))
-    agreed E group strong weak s t x h g = inl (E .1 s t x h g)
-    agreed E group strong strong s t x h g = inr refl
-
 pub changes-alone : (T : Table) → Strict T → (H : Holds) → Agree T H → (s t : ℕ) (i : Item) → changes H s i ≡ true → touches H t i ≡ true → s ≡ t
 changes-alone T S H A s t (value e) p q = at (or-cases (H entry weak t e) (H entry strong t e) q)
   where
@@ -240,3 +222,25 @@ undo-of-undoes (remove e k) d g i = at (ℕ-discrete (has by-key (k, e) (d .memb
     at (no n) (inl p) = absurd (n p)
     at (no n) (inr p) = undo-one (cell k e) 1 (get (eff (remove e k) d)) (get d) i p (frame (remove e k) d g i)
 undo-of-undoes (locate lo hi) d g i = refl
+
+-- ---- the lock rule in words
+
+-- Whoever has an entry exclusive is its only holder; whoever has a key to update is the only one to hold it to locate.
+abbrev pub Apart : Holds → Type 0
+Apart H = ((m : Mode) (s t e : ℕ) → H entry strong s e ≡ true → H entry m t e ≡ true → s ≡ t) × ((s t k : ℕ) → H group strong s k ≡ true → H group weak t k ≡ true → s ≡ t)
+
+-- That is all that the lock rule asks of holders.
+pub agree-exactly : (H : Holds) → Agree lock-rule H ↔ Apart H
+agree-exactly H = (
+  (λ A. ((λ m s t e h g. apart (A entry strong m s t e h g) (lock-rule-strict .exclusive-alone m)), λ s t k h g. apart (A group strong weak s t k h g) refl)),
+  agreed,
+)
+  where
+    agreed : Apart H → Agree lock-rule H
+    agreed E entry weak weak s t x h g = inr refl
+    agreed E entry weak strong s t x h g = inl (sym (E .0 weak t s x g h))
+    agreed E entry strong n s t x h g = inl (E .0 n s t x h g)
+    agreed E group weak weak s t x h g = inr refl
+    agreed E group weak strong s t x h g = inl (sym (E .1 t s x g h))
+    agreed E group strong weak s t x h g = inl (E .1 s t x h g)
+    agreed E group strong strong s t x h g = inr refl
