@@ -1,7 +1,7 @@
 // Changing: the last step of an insert or remove, at the pinned descriptor of its key.
 //
-// It waits for others' locate and update locks of the key. Then it takes the update lock, and where the entry is to come in, or to go
-// out, changes the group and logs that in an undo record; an insert that finds fewer than two free records is refused. The request
+// It waits for others' locate locks of the key; their update locks are not in its way. Then it takes the update lock, and where the entry
+// is to come in, or to go out, changes the group and logs that in an undo record; an insert that finds fewer than two free records is refused. The request
 // ends in the same step. It promises that the words a step leaves, its party's session record and the answer EQUAL a definition of
 // specs/Changing; specs/Rows says that this is the machine's step where the words hold a layout of a sound state (the effects:
 // specs/Adding and specs/TakingOut), and specs/Ready that such words have what the code asks for. It rests on members for groups, on
