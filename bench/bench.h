@@ -109,6 +109,9 @@ void fill_and_empty(struct host *h, uint32_t records, const struct mix *mix);
 void print_growth(const char *file);
 void print_mixes(void);
 
+// Recover, beside the test and beside aborts: recover.c.
+void print_recovers(void);
+
 // Whole sessions of a desk and of a planner in the store and in SQLite: day.c. Single requests: work.c.
 void print_days(uint32_t records);
 void print_work(uint32_t records);

@@ -18,8 +18,12 @@ static const char about_calls[] =
     "the same without vectors; test: the test of the whole store alone, which every call here starts with; put and\n"
     "step: those of a read; commit: that of a session that has read.\n";
 
+static const char about_recovers[] =
+    "Recover of so many sessions, each with a write and three inserts: microseconds of processor time, medians, beside\n"
+    "the test alone and beside an abort of each session. ratio: the aborts to the recover.\n";
+
 // How far the program is, on standard error: what comes next of how many parts.
-enum { PARTS = 6 };
+enum { PARTS = 7 };
 
 static void next_part(const char *what)
 {
@@ -56,5 +60,8 @@ int main(int argc, char **argv)
     printf("\n");
     next_part("calls on other stores");
     print_mixes();
+    printf("\n%s\n", about_recovers);
+    next_part("recovers");
+    print_recovers();
     return 0;
 }

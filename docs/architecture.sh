@@ -36,7 +36,7 @@ draw() {
 
         box("meaning", 104, 446, 160, 116, "theory", "what words mean", "Sound, Holds, Becomes", "meaning layout")
         box("rows", 304, 446, 270, 116, "store", "rows of the steps", "each proved to be the machine\047s", \
-            "starting root_entry walking arriving changing taking leaving aborting finishing grouping long_locks undoing")
+            "starting root_entry walking arriving changing taking leaving aborting recovering finishing grouping long_locks undoing")
         box("soundness", 614, 446, 160, 116, "test", "proof of the test", "true exactly if Sound", "soundness")
         box("judge", 814, 446, 160, 116, "beside", "second judge", "shares no code", "checker")
 

@@ -18,7 +18,7 @@ REST, WORK, DRIVING = 0, 2, 3                         # a value is activity x 20
 TYPED_IN = [(0, 360, REST), (360, 270, DRIVING), (630, 45, REST), (675, 255, DRIVING), (930, 30, WORK)]
 
 store = (c_uint32 * (16 + 3 * ENTRIES + 20 * RECORDS))()
-table, pairs = (c_uint32 * (14 * PARTIES))(), (c_uint32 * (2 * ENTRIES))()
+table, pairs = (c_uint32 * (15 * PARTIES))(), (c_uint32 * (2 * ENTRIES))()
 library = ctypes.CDLL(sys.argv[1] if len(sys.argv) > 1 else "target/host/libentry_store.so")
 library.entry_store_format.restype = library.entry_store_batch.restype = c_uint64
 lent = store, c_size_t(len(store)), table, c_size_t(PARTIES)

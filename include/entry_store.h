@@ -4,9 +4,10 @@
  * A store holds entries 1 to M, each with a value of one word (0: no value), and groups of entries by key. Up to 16
  * sessions (parties 1 to 16) read and change it under long locks, and a housekeeper (party 0) tidies it. A session
  * begins, puts one request after another, makes steps until each is done, and commits or aborts. A whole request may be
- * one call (entry_store_request), and so may a whole session (entry_store_batch). A day of a driver's card can be read
- * from its bytes (entry_store_day) and written out again. No call blocks, allocates or keeps a pointer: all memory is
- * the caller's.
+ * one call (entry_store_request), and so may a whole session (entry_store_batch). A session that shall commit only if
+ * another program does is asked first (entry_store_ask), and is then there still after a restart (entry_store_recover).
+ * A day of a driver's card can be read from its bytes (entry_store_day) and written out again. No call blocks,
+ * allocates or keeps a pointer: all memory is the caller's.
  *
  * The rules are in docs/RULES.md; "Rules, section 5" below is a section of it. docs/HOST.md is for whoever writes the
  * program around the store, docs/STORE.md has the store's words, and examples/hello.c is a whole program.
@@ -37,9 +38,9 @@ extern "C" {
 
 /* Of this header and the archive beside it. */
 #define ENTRY_STORE_VERSION_MAJOR 0
-#define ENTRY_STORE_VERSION_MINOR 5
+#define ENTRY_STORE_VERSION_MINOR 6
 #define ENTRY_STORE_VERSION_PATCH 0
-#define ENTRY_STORE_VERSION "0.5.0"
+#define ENTRY_STORE_VERSION "0.6.0"
 
 /* ---- sizes: Rules, section 3 */
 
@@ -52,7 +53,7 @@ extern "C" {
 #define ENTRY_STORE_HEADER_WORDS 16
 #define ENTRY_STORE_ENTRY_WORDS 3
 #define ENTRY_STORE_RECORD_WORDS 20
-#define ENTRY_STORE_SESSION_WORDS 14
+#define ENTRY_STORE_SESSION_WORDS 15
 
 /* What format accepts: M entries and at least so many records. Above 4,096 records the words beyond are never
  * touched. */
@@ -109,6 +110,7 @@ struct entry_store_session {
     uint32_t undo;   /* the newest undo record, 0 for none; unused for party 0 */
     uint32_t order;  /* the place in the order of begins: of two begun sessions the one with the lower number began
                         first; unused where the session is not begun, and for party 0 */
+    uint32_t asked;  /* not 0: the session is asked, so that only commit and abort remain to it; 0 for party 0 */
 };
 
 /* The archive has these words one after the other, with nothing between them: elsewhere this does not compile. */
@@ -149,7 +151,8 @@ typedef char entry_store_session_has_its_words
  * different entries at one key do not wait for each other. Rules, section 5.
  */
 enum entry_store_word {
-    ENTRY_STORE_OK = 0,     /* format, begin, put, commit, abort: accepted; day: the call was an accepted put */
+    ENTRY_STORE_OK = 0,     /* format, begin, put, commit, abort, ask, recover: accepted; day: the call was an accepted
+                               put */
     ENTRY_STORE_MORE = 1,   /* step: the request moved, and another step is due; day: another call is due */
     ENTRY_STORE_WAIT = 2,   /* step, day: the named party's lock is in the way; nothing changed; step or call again once
                                that party has moved on or ended */
@@ -210,9 +213,9 @@ static inline struct entry_store_answer entry_store_unpack(uint64_t answer)
 
 /*
  * A refusal changes no word of store, table or list, but that 11 and 12 also end the request in hand, its latch and its
- * pins; long locks of earlier steps stay. Where more than one applies the first in the order 1, 3 or 2, 4, 5, 7, 6, 8,
- * 9, 10 is answered; of a day 1, 2, 4, 5, 6, 13, 14, 8, 9; of a batch as a whole 1, 2, 102. What a run, a request, a
- * batch or the calls of a day made before stays.
+ * pins; long locks of earlier steps stay. Where more than one applies the first in the order 1, 3 or 2, 4, 5, 21, 7, 6,
+ * 8, 9, 10 is answered; of a day 1, 2, 4, 5, 21, 6, 13, 14, 8, 9; of a batch as a whole 1, 2, 102. What a run, a
+ * request, a batch or the calls of a day made before stays.
  */
 enum entry_store_refusal {
     /* The host program causes these: a fault of the caller's code or of its memory. */
@@ -224,12 +227,12 @@ enum entry_store_refusal {
                                 entry_store_words(m, r) words, r at least 8 */
 
     /* The session's user causes these: answer them to that user. */
-    ENTRY_STORE_PARTY = 4,   /* party above ENTRY_STORE_SESSIONS; or 0 in begin, commit or abort */
-    ENTRY_STORE_BEGUN = 5,   /* begin of a begun session: commit or abort it first; put, step, day, commit or abort of
-                                one not begun: begin it first */
+    ENTRY_STORE_PARTY = 4,   /* party above ENTRY_STORE_SESSIONS; or 0 in begin, commit, abort or ask */
+    ENTRY_STORE_BEGUN = 5,   /* begin of a begun session: commit or abort it first; put, step, day, commit, abort or ask
+                                of one not begun: begin it first */
     ENTRY_STORE_CODE = 6,    /* put: code outside 1 to 6, 6 from a session, or 1 to 5 from party 0; day: party 0 */
-    ENTRY_STORE_HAND = 7,    /* put or commit with a request in hand: make its steps, or abort; step with none in hand:
-                                put first */
+    ENTRY_STORE_HAND = 7,    /* put, commit or ask with a request in hand: make its steps, or abort; step with none in
+                                hand: put first */
     ENTRY_STORE_ENTRY = 8,   /* put, codes 1 to 4: entry outside 1 to M; day: the entry of any of its stretches is */
     ENTRY_STORE_KEY = 9,     /* put, codes 3 to 5, and holders: a key 0 or 4,294,967,295; day: driver outside 1 to
                                 ENTRY_STORE_MAX_DRIVER, or a start above ENTRY_STORE_MAX_DAY_START */
@@ -240,6 +243,7 @@ enum entry_store_refusal {
     ENTRY_STORE_DAY = 14,    /* day: the bytes are no day: none, the first minute is not 0, a minute is above 1,439, or
                                 minutes fall; or the place lies past the day, or names another request than the one that
                                 the session has in hand */
+    ENTRY_STORE_ASKED = 21,  /* put, day or ask of an asked session: commit or abort it */
 
     /* The sessions together cause this. */
     ENTRY_STORE_FULL = 11,   /* step: fewer free records than it needs; put the request again once a session has
@@ -282,8 +286,9 @@ uint64_t entry_store_format(uint32_t *store, size_t store_words, struct entry_st
 uint64_t entry_store_begin(uint32_t *store, size_t store_words, struct entry_store_session *table,
                            size_t table_records, uint32_t party);
 
-/* A party's request: it is in hand until a step answers done, 11 or 12, or until an abort. Arguments that the code does
- * not use are ignored. Answers ok; refuses 1, 2, 4 to 10. The store is not changed. Rules, section 2. */
+/* A party's request: it is in hand until a step answers done, 11 or 12, or until an abort or a recover. Arguments that
+ * the code does not use are ignored. Answers ok; refuses 1, 2, 4, 5, 21, 7, 6, 8, 9 or 10. The store is not changed.
+ * Rules, section 2. */
 uint64_t entry_store_put(uint32_t *store, size_t store_words, struct entry_store_session *table, size_t table_records,
                          uint32_t party, uint32_t code, uint32_t entry, uint32_t first, uint32_t second);
 
@@ -293,7 +298,8 @@ uint64_t entry_store_put(uint32_t *store, size_t store_words, struct entry_store
 uint64_t entry_store_step(uint32_t *store, size_t store_words, struct entry_store_session *table, size_t table_records,
                           uint32_t *list, size_t list_words, uint32_t party);
 
-/* A session ends, and what it did stays. Its locks end. Answers ok; refuses 1, 2, 4, 5 or 7. Rules, section 7. */
+/* A session ends, and what it did stays. Its locks end. Answers ok; refuses 1, 2, 4, 5 or 7, but of an asked session
+ * nothing beside 1 and 2. A commit without ask is fine. Rules, section 7. */
 uint64_t entry_store_commit(uint32_t *store, size_t store_words, struct entry_store_session *table,
                             size_t table_records, uint32_t party);
 
@@ -301,6 +307,28 @@ uint64_t entry_store_commit(uint32_t *store, size_t store_words, struct entry_st
  * 5. Rules, section 7. */
 uint64_t entry_store_abort(uint32_t *store, size_t store_words, struct entry_store_session *table,
                            size_t table_records, uint32_t party);
+
+/* ---- ask, then commit: docs/HOST.md, "Ask, then commit" */
+
+/* A session is asked whether it will commit, and is fixed by it: from an accepted ask on put, day and ask of it are
+ * refused 21, a step 7 and a begin 5, and only commit and abort remain, which are accepted. Proved: from then on,
+ * whatever others do and over any number of recovers, a commit of the session is accepted until its commit or abort (or
+ * a format), on store and table as the calls leave them. It keeps its locks all the while. The ask lasts as long as
+ * these words do: save store and table after it, and before another program is told that the store will commit. Answers
+ * ok; refuses 1, 2, 4, 5, 21 or 7. The store is not changed, and of the table only this record's field asked. Rules,
+ * section 7.
+ *
+ * (struct entry_store_ask, below, is another thing: one ask of a batch, of any kind. C and C++ keep the two apart; the
+ * call ask among a batch's asks is kind ENTRY_STORE_ASK_ASK.) */
+uint64_t entry_store_ask(uint32_t *store, size_t store_words, struct entry_store_session *table, size_t table_records,
+                         uint32_t party);
+
+/* After a restart, or at any other time: the housekeeper's request in hand ends with its latch, and what it has done
+ * stays; every begun session that is not asked is aborted, as entry_store_abort does it; the asked ones keep their
+ * locks, their undo records and their places in the order of begins. Then nobody has a request in hand, and the begun
+ * sessions are the asked ones. Answers ok, also where there is nothing to do; refuses 1 or 2. Rules, section 7. */
+uint64_t entry_store_recover(uint32_t *store, size_t store_words, struct entry_store_session *table,
+                             size_t table_records);
 
 /* ---- several calls in one */
 
@@ -323,15 +351,17 @@ uint64_t entry_store_request(uint32_t *store, size_t store_words, struct entry_s
 
 /* What an ask of a batch asks for, and which of its fields count. */
 enum entry_store_kind {
-    ENTRY_STORE_ASK_BEGIN = 1,  /* party */
-    ENTRY_STORE_ASK_PUT = 2,    /* party, code, entry, first, second */
-    ENTRY_STORE_ASK_STEP = 3,   /* party */
-    ENTRY_STORE_ASK_COMMIT = 4, /* party */
-    ENTRY_STORE_ASK_ABORT = 5,  /* party */
-    ENTRY_STORE_ASK_RUN = 6,    /* party, most */
-    ENTRY_STORE_ASK_REQUEST = 7 /* party, code, entry, first, second, most */
+    ENTRY_STORE_ASK_BEGIN = 1,   /* party */
+    ENTRY_STORE_ASK_PUT = 2,     /* party, code, entry, first, second */
+    ENTRY_STORE_ASK_STEP = 3,    /* party */
+    ENTRY_STORE_ASK_COMMIT = 4,  /* party */
+    ENTRY_STORE_ASK_ABORT = 5,   /* party */
+    ENTRY_STORE_ASK_RUN = 6,     /* party, most */
+    ENTRY_STORE_ASK_REQUEST = 7, /* party, code, entry, first, second, most */
+    ENTRY_STORE_ASK_ASK = 8      /* party: the call ask, so that a whole session up to its ask is one call */
 };
 
+/* An ask of a batch. */
 struct entry_store_ask {
     uint32_t kind;  /* enum entry_store_kind */
     uint32_t party; /* the rest as in the call of this kind; what the kind does not use is ignored */
@@ -394,7 +424,7 @@ uint64_t entry_store_batch(uint32_t *store, size_t store_words, struct entry_sto
  * What was stored before a refusal stays until the session commits or aborts. An insert that finds its member there
  * already goes on as any other, and counts.
  *
- * Refuses 1, 2, 4, 5, 6 (party 0), 13, 14, 8, 9, in this order, checked at every call; then a step's wait or 11.
+ * Refuses 1, 2, 4, 5, 21, 6 (party 0), 13, 14, 8, 9, in this order, checked at every call; then a step's wait or 11.
  * docs/HOST.md, "Reading a card". */
 uint64_t entry_store_day(uint32_t *store, size_t store_words, struct entry_store_session *table, size_t table_records,
                          const uint8_t *bytes, size_t length, uint32_t party, uint32_t driver, uint32_t day_start,
@@ -450,7 +480,8 @@ enum entry_store_part {
     ENTRY_STORE_PART_FREE_CHAIN = 9, /* the free chain goes only to records that nothing else reaches */
     ENTRY_STORE_PART_UNREACHED = 10, /* every record is reached */
     ENTRY_STORE_PART_TABLE = 11,     /* the table is of ENTRY_STORE_PARTIES records */
-    ENTRY_STORE_PART_ORDERS = 12     /* no two begun sessions share a number in the order of begins */
+    ENTRY_STORE_PART_ORDERS = 12,    /* no two begun sessions share a number in the order of begins */
+    ENTRY_STORE_PART_ASKED = 13      /* only a begun session with no request in hand is asked */
 };
 
 /* ---- names */
@@ -478,7 +509,7 @@ static inline const char *entry_store_refusal_text(uint32_t refusal)
     case ENTRY_STORE_TABLE: return "the table is not of " ENTRY_STORE_TEXT(ENTRY_STORE_PARTIES) " records";
     case ENTRY_STORE_UNSOUND: return "store or table is not sound";
     case ENTRY_STORE_SIZES: return "format sizes are out of bounds";
-    case ENTRY_STORE_PARTY: return "no such party, or the housekeeper in begin, commit or abort";
+    case ENTRY_STORE_PARTY: return "no such party, or the housekeeper in begin, commit, abort or ask";
     case ENTRY_STORE_BEGUN: return "the session is begun already, or is not begun";
     case ENTRY_STORE_CODE: return "no such request, or not for this party";
     case ENTRY_STORE_HAND: return "a request is in hand, or none is";
@@ -489,6 +520,7 @@ static inline const char *entry_store_refusal_text(uint32_t refusal)
     case ENTRY_STORE_LIST: return "the list is too short";
     case ENTRY_STORE_ODD: return "the day has half a word";
     case ENTRY_STORE_DAY: return "the bytes are no day, or the place is not where it stands";
+    case ENTRY_STORE_ASKED: return "the session is asked: only commit and abort remain to it";
     case ENTRY_STORE_NO_ASK: return "no such ask";
     case ENTRY_STORE_ANSWERS: return "fewer answers than asks, or too many asks";
     case ENTRY_STORE_NO_DAY: return "no day can be written of these, or not here";
@@ -512,6 +544,7 @@ static inline const char *entry_store_part_text(uint32_t part)
     case ENTRY_STORE_PART_UNREACHED: return "unreached records";
     case ENTRY_STORE_PART_TABLE: return "table";
     case ENTRY_STORE_PART_ORDERS: return "order of begins";
+    case ENTRY_STORE_PART_ASKED: return "asked sessions";
     default: return "no such part";
     }
 }

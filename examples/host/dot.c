@@ -254,12 +254,6 @@ static void print_level(const struct dump *d, uint32_t l)
 
 // ---- the title
 
-static int takes_part(const struct dump *d, uint32_t p)
-{
-    const struct entry_store_session *s = &d->host.table[p];
-    return s->stage != NO_REQUEST || (p != ENTRY_STORE_HOUSEKEEPER && (s->begun != 0 || s->undo != 0));
-}
-
 static void party_row(const struct dump *d, uint32_t p)
 {
     const struct entry_store_session *s = &d->host.table[p];
@@ -270,7 +264,7 @@ static void party_row(const struct dump *d, uint32_t p)
     } else if (s->begun == 0) {
         printf("</B>, not begun</TD><TD>-</TD>");
     } else {
-        printf("</B></TD><TD>%u</TD>", s->order);
+        printf("</B>%s</TD><TD>%u</TD>", s->asked != 0 ? ", asked" : "", s->order);
     }
     printf("<TD ALIGN=\"LEFT\">");
     if (s->stage == NO_REQUEST) {

@@ -164,20 +164,26 @@ static void print_begun(const struct entry_store_session *s)
     } else {
         printf("not begun");
     }
+    if (s->asked != 0) {
+        printf(", asked");
+    }
 }
 
 static void print_party(const struct dump *d, uint32_t p)
 {
     const struct entry_store_session *s = &d->host.table[p];
     int housekeeper = p == ENTRY_STORE_HOUSEKEEPER;
-    if (s->stage == NO_REQUEST && (housekeeper || (s->begun == 0 && s->undo == 0))) {
+    if (!takes_part(d, p)) {
         return;
     }
     if (housekeeper) {
-        printf("  housekeeper: ");
+        printf("  housekeeper%s: ", s->asked != 0 ? ", asked" : "");
     } else {
         printf("  session %u: ", p);
         print_begun(s);
+        if (d->host.notes[p] != 0) {
+            printf(", note %u", d->host.notes[p]);
+        }
         printf("; ");
     }
     if (s->stage == NO_REQUEST) {

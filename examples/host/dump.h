@@ -49,6 +49,10 @@ void take_sizes(struct dump *d, uint32_t fault);
 // Meets all records, where there are any.
 void meet_all(struct dump *d);
 
+// Whether there is something to show of a party: a request in hand, or a session that is begun, has undo
+// records or is asked.
+int takes_part(const struct dump *d, uint32_t p);
+
 // ---- texts, on standard output
 
 // A key as a number and as driver/day/hours:minutes.

@@ -10,7 +10,7 @@
 //
 // The facts (each is a function below, and prints its name where it fails):
 //   - the bits of an answer are those that the header names: word, number, value, how many numbers there are
-//   - which words each call may answer, and refusals 1 to 12 only
+//   - which words each call may answer, and refusals 1 to 12 and 21 only
 //   - a call is refused exactly by the first check that fails, in the order of docs/RULES.md, section 8; 11
 //     and 12 only in a step; and it is refused with 2 exactly if entry_store_fault names a part
 //   - a refusal but 11 and 12, and a wait, change nothing; 11 and 12 change the party's own record, and in
@@ -22,7 +22,17 @@
 //     nobody else locates; a locate's pairs rise, lie in its range and are as many as it says; nothing else
 //     writes the list
 //   - only the caller's record of the table changes, but that begin numbers all begun sessions anew, from 1
-//     on and in the order that they had, the caller last; begin and put leave the store
+//     on and in the order that they had, the caller last; begin, put and ask leave the store
+//   - an accepted ask sets the caller's mark and no other word of the table; of a session that has it, put
+//   and
+//     ask are refused 21, a step 7 and a begin 5, and commit and abort are accepted: tried on copies after
+//     each ask and each recover
+//   - recover is refused by 1 and 2 alone. It leaves, in every word, what is left when the housekeeper's
+//     request and latch are taken off by hand and each begun session that is not asked is aborted on a copy,
+//     one by one; the records of the others stay as they were, nobody has a request in hand, and whoever is
+//     begun is asked
+//   - of sound words only a begun session with no request in hand is asked, and part 13 is named only where
+//     another is
 //   - after every accepted call store and table are sound, M and R and the words beyond the records as before
 //   - a run, a request and a batch answer and leave, in every word of store, table, list and answers, what
 //     the single calls that they stand for do, made one by one on copies
@@ -255,6 +265,8 @@ enum call {
     STEP,
     COMMIT,
     ABORT,
+    ASK,
+    RECOVER,
     RUN,
     REQUEST,
     BATCH,
@@ -264,10 +276,11 @@ enum call {
     ASKS = CALLS, // the row of a batch's asks
     ROWS
 };
-enum { SINGLE = ABORT + 1 };
+enum { SINGLE = RECOVER + 1 };
 
-static const char *const call_names[ROWS] = {"format", "begin",   "put",   "step", "commit", "abort",
-                                             "run",    "request", "batch", "day",  "bytes",  "its asks"};
+static const char *const call_names[ROWS] = {"format", "begin", "put",     "step",    "commit",
+                                             "abort",  "ask",   "recover", "run",     "request",
+                                             "batch",  "day",   "bytes",   "its asks"};
 
 struct asked {
     enum call call;
@@ -286,6 +299,8 @@ static struct {
     uint32_t levels;   // of the highest tree
     uint64_t several;  // waits with several sessions in the way
     uint64_t together; // inserts and removes at a key that another session updates
+    uint64_t undone, tidies, latches,
+        spared; // by recovers: sessions, tidies, those at a node; asked sessions
     uint64_t damaged, still_sound;
     uint32_t steps, asks; // the most of a run, and of a batch
     uint64_t days;        // read to their ends
@@ -327,6 +342,10 @@ static uint64_t make_call(const struct asked *a, struct loan l)
         return entry_store_commit(l.store, store_len, l.table, table_len, a->party);
     case ABORT:
         return entry_store_abort(l.store, store_len, l.table, table_len, a->party);
+    case ASK:
+        return entry_store_ask(l.store, store_len, l.table, table_len, a->party);
+    case RECOVER:
+        return entry_store_recover(l.store, store_len, l.table, table_len);
     case RUN:
         return entry_store_run(l.store, store_len, l.table, table_len, l.list, l.list_len, a->party, a->most);
     case REQUEST:
@@ -420,7 +439,7 @@ static uint32_t request_refusal(const struct asked *a)
     return code == 5 && a->first > a->second ? ENTRY_STORE_RANGE : 0;
 }
 
-// The checks 4, 5 and 7 of a party.
+// The checks 4, 5, 21 and 7 of a party.
 static uint32_t party_refusal(const struct asked *a)
 {
     if (a->party > ENTRY_STORE_SESSIONS || (a->party == 0 && a->call != PUT && a->call != STEP)) {
@@ -431,7 +450,11 @@ static uint32_t party_refusal(const struct asked *a)
     if (begun == (a->call == BEGIN)) {
         return ENTRY_STORE_BEGUN;
     }
-    if (((a->call == PUT || a->call == COMMIT) && in_hand) || (a->call == STEP && !in_hand)) {
+    if ((a->call == PUT || a->call == ASK) && s->asked != 0) {
+        return ENTRY_STORE_ASKED;
+    }
+    if (((a->call == PUT || a->call == COMMIT || a->call == ASK) && in_hand) ||
+        (a->call == STEP && !in_hand)) {
         return ENTRY_STORE_HAND;
     }
     return 0;
@@ -449,7 +472,7 @@ static uint32_t expected_refusal(const struct asked *a, uint32_t fault)
     if (fault != 0) {
         return ENTRY_STORE_UNSOUND;
     }
-    uint32_t refusal = party_refusal(a);
+    uint32_t refusal = a->call == RECOVER ? 0 : party_refusal(a);
     return refusal == 0 && a->call == PUT ? request_refusal(a) : refusal;
 }
 
@@ -470,7 +493,8 @@ static void facts_of_bits(uint64_t bits, struct entry_store_answer a)
         break;
     case ENTRY_STORE_REFUSED:
         fact(count == 2, "refused has two numbers");
-        fact(a.number >= 1 && a.number <= 12, "a refusal is 1 to 12");
+        fact((a.number >= 1 && a.number <= 12) || a.number == ENTRY_STORE_ASKED,
+             "a refusal is 1 to 12 or 21");
         fact(a.value == 0 || a.number == ENTRY_STORE_LIST, "0 stands beside a refusal but 12");
         break;
     default:
@@ -741,6 +765,36 @@ static void facts_of_step(struct entry_store_answer a, uint32_t count)
     }
 }
 
+// The caller's record has the mark, and nothing else is another.
+static void facts_of_ask(void)
+{
+    struct entry_store_session due = old_table()[now.party];
+    fact(unchanged(&store_room), "ask leaves the store");
+    fact(table[now.party].asked != 0, "ask asks");
+    due.asked = table[now.party].asked;
+    fact(memcmp(&table[now.party], &due, sizeof due) == 0, "ask changes the mark alone");
+}
+
+// Nobody has a request in hand, whoever is begun is asked, and the records of sessions that were asked, or
+// not begun, are as they were.
+static void facts_of_recover(void)
+{
+    fact(unchanged(&list_room), "recover leaves the list");
+    fact(table[0].stage == 0, "recover ends the housekeeper's request");
+    for (size_t p = 1; p < ENTRY_STORE_PARTIES; p++) {
+        const struct entry_store_session *was = &old_table()[p], *is = &table[p];
+        int ends = was->begun != 0 && was->asked == 0;
+        fact(is->stage == 0, "after recover nobody has a request in hand");
+        fact((is->begun != 0) == (is->asked != 0), "after recover whoever is begun is asked");
+        fact(!ends || (is->begun == 0 && is->undo == 0 && is->order == 0), "recover ends who is not asked");
+        fact(ends || memcmp(is, was, sizeof *is) == 0, "recover leaves all other records");
+        reached.undone += ends;
+        reached.spared += was->asked != 0;
+    }
+    reached.tidies += old_table()[0].stage != 0;
+    reached.latches += old_table()[0].stage == 3;
+}
+
 static void facts_of_ok(void)
 {
     const struct entry_store_session *s = &table[now.party];
@@ -749,8 +803,11 @@ static void facts_of_ok(void)
         fact(unchanged(&store_room), "begin and put leave the store");
         fact(now.call == BEGIN ? s->begun != 0 : s->stage != 0, "begin begins, put leaves a request in hand");
         fact(now.call != BEGIN || s->order == last_number(), "whoever begins is the last");
+        fact(s->asked == 0, "whoever begins or puts is not asked");
+    } else if (now.call == ASK) {
+        facts_of_ask();
     } else {
-        fact(s->begun == 0 && s->stage == 0 && s->order == 0,
+        fact(s->begun == 0 && s->stage == 0 && s->order == 0 && s->asked == 0,
              "commit and abort end the session and its request");
     }
 }
@@ -760,7 +817,8 @@ static void facts_of_format(void)
     fact(unchanged(&list_room), "format leaves the list");
     fact(store[0] == now.entry, "format sets M");
     for (size_t p = 0; p < ENTRY_STORE_PARTIES; p++) {
-        fact((p == 0 || table[p].begun == 0) && table[p].stage == 0 && table[p].order == 0,
+        fact((p == 0 || table[p].begun == 0) && table[p].stage == 0 && table[p].order == 0 &&
+                 table[p].asked == 0,
              "format clears the table");
     }
 }
@@ -770,6 +828,9 @@ static void facts_of_accepted(struct entry_store_answer a, uint32_t count)
 {
     if (now.call == FORMAT) {
         facts_of_format();
+    } else if (now.call == RECOVER) {
+        fact(store[0] == old_store()[0] && store[1] == old_store()[1], "M and R stay");
+        facts_of_recover();
     } else {
         only_own_record();
         fact(store[0] == old_store()[0] && store[1] == old_store()[1], "M and R stay");
@@ -789,17 +850,22 @@ static int ends_request(struct entry_store_answer a)
     return a.number == ENTRY_STORE_FULL || a.number == ENTRY_STORE_LIST;
 }
 
-// By the word, and by the refusal: 1 to 14, 101 to 103.
-enum { LAST_REFUSAL = 14, COLUMNS = 5 + LAST_REFUSAL + 3 };
+// By the word, and by the refusal.
+static const uint32_t refusals[] = {1, 2, 3, 4, 5, 6, 7, 8, 9, 10, 11, 12, 13, 14, 21, 101, 102, 103};
+enum { REFUSALS = sizeof refusals / sizeof refusals[0], COLUMNS = ENTRY_STORE_REFUSED + REFUSALS };
 static uint64_t counts[ROWS][COLUMNS];
 static int waits[ENTRY_STORE_PARTIES]; // the party's last call answered wait
 
 static uint32_t column(struct entry_store_answer a)
 {
+    uint32_t k = 0;
     if (a.word != ENTRY_STORE_REFUSED) {
         return a.word;
     }
-    return a.number > 100 ? a.number - 100 + 4 + LAST_REFUSAL : a.number + 4;
+    while (k + 1 < REFUSALS && refusals[k] != a.number) {
+        k += 1;
+    }
+    return ENTRY_STORE_REFUSED + k;
 }
 
 static void count(struct entry_store_answer a)
@@ -815,6 +881,26 @@ static void count(struct entry_store_answer a)
     }
 }
 
+// Whether only begun sessions with no request in hand are asked.
+static int marks_are_sound(void)
+{
+    for (size_t p = 0; p < ENTRY_STORE_PARTIES; p++) {
+        if (table[p].asked != 0 && (p == 0 || table[p].begun == 0 || table[p].stage != 0)) {
+            return 0;
+        }
+    }
+    return 1;
+}
+
+static void facts_of_fault(uint32_t fault)
+{
+    fact(fault <= ENTRY_STORE_PART_ASKED &&
+             (fault == ENTRY_STORE_PART_TABLE) == (table_len != ENTRY_STORE_PARTIES),
+         "a part of soundness is 1 to 13, 11 for a wrong table");
+    fact(fault != ENTRY_STORE_PART_NONE || marks_are_sound(), "sound marks are those of begun sessions");
+    fact(fault != ENTRY_STORE_PART_ASKED || !marks_are_sound(), "part 13 is named where a mark is not sound");
+}
+
 static struct entry_store_answer call(struct asked asked)
 {
     now = asked;
@@ -822,9 +908,7 @@ static struct entry_store_answer call(struct asked asked)
     keep_all();
     uint32_t fault = entry_store_fault(store, store_len, table, table_len);
     nothing_changed();
-    fact(fault <= ENTRY_STORE_PART_ORDERS &&
-             (fault == ENTRY_STORE_PART_TABLE) == (table_len != ENTRY_STORE_PARTIES),
-         "a part of soundness is 1 to 12, 11 for a wrong table");
+    facts_of_fault(fault);
     uint64_t bits = make_call(&now, lent_now());
     struct entry_store_answer a = entry_store_unpack(bits);
     facts_of_bits(bits, a);
@@ -917,10 +1001,10 @@ static uint64_t one_by_one(struct asked a, struct loan l)
 // Ask k of the lent asks; CALLS for its call where it is none.
 static struct asked ask_at(size_t k)
 {
-    static const enum call kinds[] = {CALLS, BEGIN, PUT, STEP, COMMIT, ABORT, RUN, REQUEST};
+    static const enum call kinds[] = {CALLS, BEGIN, PUT, STEP, COMMIT, ABORT, RUN, REQUEST, ASK};
     const uint32_t *w = asks + ENTRY_STORE_ASK_WORDS * k;
     struct asked a = {CALLS, 0, 0, 0, 0, 0, 0};
-    if (asks_len - ENTRY_STORE_ASK_WORDS * k >= ENTRY_STORE_ASK_WORDS && w[0] <= ENTRY_STORE_ASK_REQUEST) {
+    if (asks_len - ENTRY_STORE_ASK_WORDS * k >= ENTRY_STORE_ASK_WORDS && w[0] <= ENTRY_STORE_ASK_ASK) {
         struct asked whole = {kinds[w[0]], w[1], w[2], w[3], w[4], w[5], w[6]};
         a = whole;
     }
@@ -1015,6 +1099,80 @@ static void call_several(struct asked asked)
     reached.steps = steps > reached.steps ? steps : reached.steps;
     if (now.call != BATCH && now.party <= ENTRY_STORE_SESSIONS) {
         waits[now.party] = a.word == ENTRY_STORE_WAIT;
+    }
+}
+
+// ---- ask and recover, held against single calls on copies
+
+static uint64_t single_on_copy(enum call c, uint32_t party)
+{
+    struct asked a = {c, party, ENTRY_STORE_READ, 1, 0, 0, 0};
+    return make_call(&a, copy_all());
+}
+
+// Only commit and abort remain to an asked session.
+static void only_end_remains(uint32_t party)
+{
+    fact(single_on_copy(PUT, party) == refusal(ENTRY_STORE_ASKED) && same_all(),
+         "a put of who is asked is 21");
+    fact(single_on_copy(ASK, party) == refusal(ENTRY_STORE_ASKED) && same_all(),
+         "an ask of who is asked is 21");
+    fact(single_on_copy(STEP, party) == refusal(ENTRY_STORE_HAND) && same_all(),
+         "a step of who is asked is 7");
+    fact(single_on_copy(BEGIN, party) == refusal(ENTRY_STORE_BEGUN) && same_all(),
+         "a begin of who is asked is 5");
+    fact(single_on_copy(COMMIT, party) == 0, "a commit of who is asked is accepted");
+    fact(single_on_copy(ABORT, party) == 0, "an abort of who is asked is accepted");
+}
+
+// The housekeeper's request and its latch, taken off by hand: a tidy has no pins.
+static void end_tidy(struct loan l)
+{
+    const struct entry_store_session *s = &l.table[0];
+    if (s->stage == 3) {
+        l.store[entry_store_words(l.store[0], s->at - 1)] = 0;
+    }
+    l.table[0].stage = 0;
+}
+
+static void recover_one_by_one(struct loan l)
+{
+    end_tidy(l);
+    for (uint32_t p = 1; p < ENTRY_STORE_PARTIES; p++) {
+        struct asked abort_it = {ABORT, p, 0, 0, 0, 0, 0};
+        if (l.table[p].begun != 0 && l.table[p].asked == 0) {
+            fact(make_call(&abort_it, l) == 0, "a begun session aborts");
+        }
+    }
+}
+
+static void call_ask(struct asked ask)
+{
+    if (call(ask).word == ENTRY_STORE_OK) {
+        only_end_remains(ask.party);
+    }
+}
+
+static void call_recover(struct asked recover)
+{
+    static uint32_t due_store[MAX_STORE];
+    static struct entry_store_session due_table[MAX_TABLE];
+    if (entry_store_fault(store, store_len, table, table_len) == 0) {
+        struct loan twin = copy_all();
+        recover_one_by_one(twin);
+        memcpy(due_store, twin_store, store_room.bytes);
+        memcpy(due_table, twin_table, table_room.bytes);
+    }
+    if (call(recover).word != ENTRY_STORE_OK) {
+        return;
+    }
+    fact(memcmp(due_store, store, store_room.bytes) == 0 && memcmp(due_table, table, table_room.bytes) == 0,
+         "recover leaves what the aborts of all who are not asked leave");
+    memset(waits, 0, sizeof waits);
+    for (uint32_t p = 1; p < ENTRY_STORE_PARTIES; p++) {
+        if (table[p].asked != 0) {
+            only_end_remains(p);
+        }
     }
 }
 
@@ -1122,6 +1280,9 @@ static uint32_t day_refusal(uint32_t party, const struct loan *l)
     }
     if (party != 0 && l->table[party].begun == 0) {
         return ENTRY_STORE_BEGUN;
+    }
+    if (l->table[party].asked != 0) {
+        return ENTRY_STORE_ASKED;
     }
     return party == 0 ? ENTRY_STORE_CODE : bytes_refusal(&l->table[party], l->store[0]);
 }
@@ -1319,6 +1480,12 @@ static struct asked sensible_call(uint32_t party)
     if (s->stage != 0) {
         return plain(party != 0 && one_in(waits[party] ? 6 : 60) ? ABORT : STEP, party);
     }
+    if (s->asked != 0 && !one_in(3)) {
+        return one_in(2) ? random_put(party) : plain(one_in(2) ? ASK : STEP, party);
+    }
+    if (party != 0 && (s->asked != 0 || one_in(20))) {
+        return plain(s->asked == 0 ? ASK : one_in(3) ? ABORT : COMMIT, party);
+    }
     if (party != 0 && one_in(8)) {
         return plain(one_in(4) ? ABORT : COMMIT, party);
     }
@@ -1333,6 +1500,9 @@ static struct asked random_call(void)
     }
     struct asked a = random_put(party);
     a.call = BEGIN + (enum call)below(SINGLE - 1);
+    if (a.call == RECOVER && !one_in(20)) {
+        a.call = STEP; // a recover ends nearly everything, so it is rare
+    }
     return a;
 }
 
@@ -1344,7 +1514,7 @@ static uint32_t random_most(void)
 
 // What a session is thought to be like when an ask of it is made.
 struct guess {
-    int begun, in_hand;
+    int begun, in_hand, asked;
 };
 
 // An ask that makes sense, for a batch.
@@ -1359,9 +1529,10 @@ static struct asked sensible_ask(uint32_t party, struct guess *g)
         a.call = one_in(4) ? STEP : party != 0 && one_in(12) ? ABORT : RUN;
         g->in_hand = a.call == STEP;
         g->begun = a.call != ABORT;
-    } else if (party != 0 && one_in(10)) {
-        a.call = one_in(4) ? ABORT : COMMIT;
-        g->begun = 0;
+    } else if (party != 0 && (g->asked ? !one_in(10) : one_in(10))) {
+        a.call = g->asked || one_in(2) ? (one_in(4) ? ABORT : COMMIT) : ASK;
+        g->asked = a.call == ASK;
+        g->begun = g->asked;
     } else {
         a.call = one_in(8) ? PUT : REQUEST;
         g->in_hand = a.call == PUT;
@@ -1377,9 +1548,11 @@ static void write_ask(uint32_t *w, const struct asked *a)
                                           ENTRY_STORE_ASK_STEP,
                                           ENTRY_STORE_ASK_COMMIT,
                                           ENTRY_STORE_ASK_ABORT,
+                                          ENTRY_STORE_ASK_ASK,
+                                          ENTRY_STORE_ASK_ASK + 1,
                                           ENTRY_STORE_ASK_RUN,
                                           ENTRY_STORE_ASK_REQUEST,
-                                          ENTRY_STORE_ASK_REQUEST + 1,
+                                          ENTRY_STORE_ASK_ASK + 1,
                                           0,
                                           0};
     uint32_t words[ENTRY_STORE_ASK_WORDS] = {kinds[a->call], a->party,  a->code, a->entry,
@@ -1395,14 +1568,15 @@ static void random_asks(uint32_t count, size_t rest)
     for (size_t p = 0; p < ENTRY_STORE_PARTIES; p++) {
         guesses[p].begun = p < table_len && table[p].begun != 0;
         guesses[p].in_hand = p < table_len && table[p].stage != 0;
+        guesses[p].asked = p < table_len && table[p].asked != 0;
     }
     for (uint32_t k = 0; k < count; k++) {
         uint32_t party = mixed ? random_party() : one, *w = asks + ENTRY_STORE_ASK_WORDS * k;
-        struct guess none = {one_in(2), one_in(2)};
+        struct guess none = {one_in(2), one_in(2), one_in(2)};
         struct asked a = sensible_ask(party, party <= ENTRY_STORE_SESSIONS ? &guesses[party] : &none);
         write_ask(w, &a);
         if (one_in(strange)) {
-            w[0] = one_in(2) ? odd_word() : below(10);
+            w[0] = one_in(2) ? odd_word() : below(12);
         }
     }
     for (size_t k = 0; k < rest; k++) {
@@ -1616,16 +1790,30 @@ static int is_taken(uint32_t p)
 }
 
 // Other numbers in the order of begins, of a sound table. They only have to differ, and those of parties that
-// have not begun are free.
+// have not begun are free, and so is the begun mark of the housekeeper. Any word but 0 says that a session is
+// asked.
 static void change_orders(void)
 {
     if (!one_in(30) || entry_store_fault(store, store_len, table, table_len) != 0) {
         return;
     }
+    table[0].begun = odd_word();
     for (uint32_t p = 0; p < ENTRY_STORE_PARTIES; p++) {
         do {
             table[p].order = odd_word();
         } while (is_taken(p));
+        table[p].asked = table[p].asked == 0 ? 0 : 1 + odd_word() % UINT32_MAX;
+    }
+}
+
+static void call_single(struct asked a)
+{
+    if (a.call == ASK) {
+        call_ask(a);
+    } else if (a.call == RECOVER) {
+        call_recover(a);
+    } else {
+        call(a);
     }
 }
 
@@ -1639,7 +1827,7 @@ static void random_calls(uint32_t count)
         } else if (one_in(5)) {
             read_days();
         } else {
-            call(random_call());
+            call_single(one_in(300) ? plain(RECOVER, 0) : random_call());
         }
         if (one_in(6)) {
             look(one_in(16) ? odd_word() : random_key());
@@ -1756,6 +1944,13 @@ static size_t used_place(void)
     }
 }
 
+// A word of the table: any, or one that says whether a party is asked.
+static uint32_t *table_place(void)
+{
+    uint32_t words = ENTRY_STORE_PARTIES * ENTRY_STORE_SESSION_WORDS;
+    return one_in(4) ? &table[below(ENTRY_STORE_PARTIES)].asked : (uint32_t *)(void *)table + below(words);
+}
+
 static uint32_t damaged_word(uint32_t w)
 {
     switch (below(4)) {
@@ -1774,10 +1969,7 @@ static uint32_t damaged_word(uint32_t w)
 // go on.
 static void damaged_calls(void)
 {
-    int in_table = one_in(4);
-    uint32_t *word = in_table
-                         ? (uint32_t *)(void *)table + below(ENTRY_STORE_PARTIES * ENTRY_STORE_SESSION_WORDS)
-                         : store + used_place();
+    uint32_t *word = one_in(4) ? table_place() : store + used_place();
     uint32_t kept = *word;
     *word = damaged_word(kept);
     if (*word == kept) {
@@ -1900,16 +2092,14 @@ static void print_counts(uint64_t runs)
     for (int k = 0; k < 4; k++) {
         printf("%9s", words[k]);
     }
-    for (int k = 1; k < COLUMNS - 4; k++) {
-        printf("%9d", k <= LAST_REFUSAL ? k : k - LAST_REFUSAL + 100);
+    for (int k = 0; k < REFUSALS; k++) {
+        printf("%9u", refusals[k]);
     }
     printf("\n");
     for (int c = 0; c < ROWS; c++) {
         printf("%-8s", call_names[c]);
         for (int k = 0; k < COLUMNS; k++) {
-            if (k != 4) {
-                printf("%9llu", (unsigned long long)counts[c][k]);
-            }
+            printf("%9llu", (unsigned long long)counts[c][k]);
         }
         printf("\n");
     }
@@ -1923,6 +2113,10 @@ static void print_counts(uint64_t runs)
     printf("%llu waits had several sessions in the way\n", (unsigned long long)reached.several);
     printf("%llu inserts and removes were done at a key that another session updates\n",
            (unsigned long long)reached.together);
+    printf("recovers ended %llu sessions and %llu tidies, %llu of these at a node, and left %llu asked "
+           "sessions\n",
+           (unsigned long long)reached.undone, (unsigned long long)reached.tidies,
+           (unsigned long long)reached.latches, (unsigned long long)reached.spared);
     printf(
         "the longest run had %u steps, the longest batch %u asks; %llu days were read to their ends, of at "
         "most %u stretches\n",

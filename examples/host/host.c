@@ -878,7 +878,8 @@ static int write_journal(const struct yard *y)
 
 // ---- a restart
 
-// After a restart: whoever had begun is there no more, so what they did is undone.
+// After a restart: whoever had begun is there no more, and nobody of them was asked, so what they did is
+// undone (docs/HOST.md, "Ask, then commit"; restart.c has asked sessions).
 static int restart(struct yard *y)
 {
     struct store_host h;
@@ -890,11 +891,11 @@ static int restart(struct yard *y)
     }
     printf("\nThe saved image is loaded. Undone:");
     for (uint32_t p = 1; p <= ENTRY_STORE_SESSIONS; p++) {
-        if (h.table[p].begun != 0) {
-            must_be(host_abort(&h, p), ENTRY_STORE_OK, "abort");
+        if (h.table[p].begun != 0 && h.table[p].asked == 0) {
             printf(" %s,", y->actors[p].name);
         }
     }
+    must_be(host_recover(&h), ENTRY_STORE_OK, "recover");
     must_be(host_begin(&h, AUDITOR), ENTRY_STORE_OK, "begin");
     printf(" and %u stretches stay.\n", locate_all(&h, &list));
     list_free(&list);

@@ -11,7 +11,7 @@ enum { MAGIC_BYTES = 8, HEAD_BYTES = 20, WORD_BYTES = 4, FIELDS = ENTRY_STORE_SE
 // More than any store needs: words beyond 4,096 records are never touched.
 enum { MAX_IMAGE_WORDS = 1 << 24 };
 
-static const unsigned char magic[MAGIC_BYTES] = {'E', 'N', 'T', 'R', 'Y', 'S', 'T', '2'};
+static const unsigned char magic[MAGIC_BYTES] = {'E', 'N', 'T', 'R', 'Y', 'S', 'T', '3'};
 
 // ---- bytes
 
@@ -45,15 +45,16 @@ static uint32_t crc32(const unsigned char *bytes, size_t count)
 
 static size_t image_bytes(size_t words)
 {
-    return HEAD_BYTES + WORD_BYTES * (words + (size_t)ENTRY_STORE_PARTIES * FIELDS);
+    return HEAD_BYTES + WORD_BYTES * (words + (size_t)ENTRY_STORE_PARTIES * (FIELDS + 1));
 }
 
 // ---- a record of the table as words
 
 static void session_to_words(const struct entry_store_session *s, uint32_t *w)
 {
-    const uint32_t fields[FIELDS] = {s->begun, s->code,  s->entry, s->first, s->second, s->stage, s->target,
-                                     s->at,    s->level, s->low,   s->high,  s->last,   s->undo,  s->order};
+    const uint32_t fields[FIELDS] = {s->begun, s->code,   s->entry, s->first, s->second,
+                                     s->stage, s->target, s->at,    s->level, s->low,
+                                     s->high,  s->last,   s->undo,  s->order, s->asked};
     memcpy(w, fields, sizeof fields);
 }
 
@@ -61,7 +62,7 @@ static void session_from_words(struct entry_store_session *s, const uint32_t *w)
 {
     uint32_t *const fields[FIELDS] = {&s->begun, &s->code,   &s->entry, &s->first, &s->second,
                                       &s->stage, &s->target, &s->at,    &s->level, &s->low,
-                                      &s->high,  &s->last,   &s->undo,  &s->order};
+                                      &s->high,  &s->last,   &s->undo,  &s->order, &s->asked};
     for (int k = 0; k < FIELDS; k++) {
         *fields[k] = w[k];
     }
@@ -81,6 +82,9 @@ static void fill_image(const struct store_host *h, unsigned char *bytes)
         for (int k = 0; k < FIELDS; k++, at += WORD_BYTES) {
             put_word(at, fields[k]);
         }
+    }
+    for (int p = 0; p < ENTRY_STORE_PARTIES; p++, at += WORD_BYTES) {
+        put_word(at, h->notes[p]);
     }
     memcpy(bytes, magic, MAGIC_BYTES);
     put_word(bytes + 8, (uint32_t)h->length);
@@ -125,6 +129,9 @@ static int take_image(struct store_host *h, const unsigned char *bytes, size_t w
         }
         session_from_words(&h->table[p], fields);
     }
+    for (int p = 0; p < ENTRY_STORE_PARTIES; p++, bytes += WORD_BYTES) {
+        h->notes[p] = get_word(bytes);
+    }
     return 1;
 }
 
@@ -134,6 +141,13 @@ static int head_words(const unsigned char *head, size_t *words)
     *words = get_word(head + 8);
     return memcmp(head, magic, MAGIC_BYTES) == 0 && *words <= MAX_IMAGE_WORDS &&
            get_word(head + 12) == ENTRY_STORE_PARTIES;
+}
+
+// Whether it is that of an older version: the same letters with a lower digit.
+static int is_older(const unsigned char *head)
+{
+    return memcmp(head, magic, MAGIC_BYTES - 1) == 0 && head[MAGIC_BYTES - 1] >= '1' &&
+           head[MAGIC_BYTES - 1] < magic[MAGIC_BYTES - 1];
 }
 
 static enum image_state read_body(struct store_host *h, FILE *file, size_t words, uint32_t sum)
@@ -168,6 +182,8 @@ enum image_state image_read(struct store_host *h, const char *path)
         state = IMAGE_NOT_READ;
     } else if (count == HEAD_BYTES && head_words(head, &words)) {
         state = read_body(h, file, words, get_word(head + 16));
+    } else if (count == HEAD_BYTES && is_older(head)) {
+        state = IMAGE_OLDER;
     }
     int reason = errno;
     fclose(file);
@@ -199,6 +215,8 @@ const char *image_reason(enum image_state state)
         return "store or table is not sound";
     case IMAGE_NOT_WHOLE:
         return "not a whole image";
+    case IMAGE_OLDER:
+        return "an image of an older version, whose session records have fewer words";
     default:
         return strerror(errno);
     }

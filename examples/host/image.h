@@ -5,15 +5,16 @@
 // written whole beside the old one and then takes its name.
 //
 //   bytes    what, in words of four bytes, the lowest byte first
-//   0        the letters ENTRYST2
+//   0        the letters ENTRYST3
 //   8        number of words of the store, n
 //   12       number of records of the table
 //   16       CRC-32 of all that follows
 //   20       the n words of the store
 //   20 + 4n  the records, fields in the header file's order
+//   behind   the host's notes, a word for each record
 //
-// Files with the letters ENTRYST1 are older: their records lack the order of
-// begins, and they are turned down.
+// Files with the letters ENTRYST1 or ENTRYST2 are older: their records have
+// fewer fields, and they are turned down.
 //
 // The soundness test sees damage to the structure, but any value of an entry
 // is sound: the sum sees those too.
@@ -27,6 +28,7 @@ enum image_state {
     IMAGE_SUM_DIFFERS, // whole, but not what was written
     IMAGE_NOT_SOUND,   // as it was written, but no sound store and table
     IMAGE_NOT_WHOLE,   // cut short, too long, or no image
+    IMAGE_OLDER,       // of an older version, whose records have fewer words
     IMAGE_NOT_READ,    // no such file, or it cannot be read, or no memory: errno says which
 };
 

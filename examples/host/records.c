@@ -95,6 +95,15 @@ void meet_all(struct dump *d)
     d->free_count = meet_chain(d, d->host.words[H_FREE]);
 }
 
+// ---- parties
+
+int takes_part(const struct dump *d, uint32_t p)
+{
+    const struct entry_store_session *s = &d->host.table[p];
+    int session = p != ENTRY_STORE_HOUSEKEEPER;
+    return s->stage != NO_REQUEST || s->asked != 0 || (session && (s->begun != 0 || s->undo != 0));
+}
+
 // ---- the whole
 
 void take_sizes(struct dump *d, uint32_t fault)

@@ -1,19 +1,22 @@
 #!/bin/sh
 # Usage: run_checks.sh FOLDER compare|write
 #
-# Runs hello, day, host, dump and show_journal of FOLDER, ../desk.py over its shared object where python3 is there, and
-# check_journal where it is proved and built. What they print is compared with the files in expected/, or written there.
+# Runs hello, day, host, restart, dump and show_journal of FOLDER, ../desk.py over its shared object where python3 is
+# there, and check_journal where it is proved and built. What they print is compared with the files in expected/, or
+# written there.
 #   hello.txt      what ../hello.c prints
 #   day.txt        what day.c prints: sessions of one call, a wait, and a card that is read and written out again
 #   days.txt       how many lines day has played of the scripts in days/, each with its answer, how many differ, and
 #                  how many journals of their stores are written and are ok for show_journal
 #   desk.txt       what ../desk.py prints
 #   timeline.txt   the host's rounds, from begin to end
+#   restart.txt    at how many points the host was killed and restarted
+#   asked.txt      the image that it leaves where two sessions are asked, and the parties of its picture
 #   dump.txt       the image that it saves in the middle, and the holders of four keys
 #   middle.dot     the same image as a picture; docs/middle.svg is drawn from it
 #   damaged.txt    the same image with a member's chain that leads into itself, in full
-#   parts.txt      the image damaged in eleven ways, one for each part of soundness; each can be drawn too
-#   short.txt      images that are cut short must be turned down
+#   parts.txt      the image damaged in twelve ways, one for each part of soundness; each can be drawn too
+#   short.txt      images that are cut short, and older ones, must be turned down
 #   journal.txt    the host's journal, each call with its answer, and whether it is the one that check_journal is proved
 #                  to be run on (crates/check_journal/stdin)
 #   spoiled.txt    what show_journal finds in that journal with one thing changed, in eight ways
@@ -65,9 +68,9 @@ part() {
     [ "$(tail -n 1 "$folder/damaged.dot")" = "}" ] || echo "--dot: not whole"
 }
 
-# Where things lie in this image: 32 entries, so record i starts at word 112 + 20 (i - 1); 1792 words, then 14 a session.
+# Where things lie in this image: 32 entries, so record i starts at word 112 + 20 (i - 1); 1792 words, then 15 a session.
 record() { echo $((112 + 20 * ($1 - 1) + $2)); }
-session() { echo $((1792 + 14 * $1 + $2)); }
+session() { echo $((1792 + 15 * $1 + $2)); }
 
 parts() {
     part 1 83                      # R
@@ -81,6 +84,7 @@ parts() {
     part 5 1                       # free chain that starts at a node
     part "$(session 6 12)" 0       # take-backs that nothing reaches
     part "$(session 3 13)" 1       # session 6's number in the order of begins
+    part "$(session 3 14)" 1       # asked, with a request in hand
 }
 
 # hold NAME: what comes in is compared with a file in expected/, or written to it.
@@ -99,13 +103,25 @@ hold() {
 
 # Every prefix of an image, and every file that is none, is turned down with exit status 2.
 turned_down() {
-    for size in 0 7 19 20 21 1000 8139; do
+    for size in 0 7 19 20 21 1000 8207 8275; do
         head -c "$size" "$image" >"$folder/damaged.image"
         status=0
         "$folder/dump" "$folder/damaged.image" >/dev/null || status=$?
         [ "$status" -eq 2 ] || echo "$size bytes: exit status $status"
     done
     echo "short images are turned down"
+    for digit in 1 2; do
+        cp "$image" "$folder/older.image"
+        set_byte "$folder/older.image" 7 "06$digit"
+        told 2 "$folder/dump" "$folder/older.image"
+    done
+}
+
+# The host is killed where two sessions are asked and saved, and the wages program is told nothing yet.
+asked() {
+    told 0 "$folder/restart" "$folder/killed" 26
+    told 0 "$folder/dump" "$folder/killed/yard.image" 560 800
+    told 0 "$folder/dump" --dot "$folder/killed/yard.image" | grep -e '<B>session' -e '<B>the housekeeper'
 }
 
 # told STATUS COMMAND...: what a command says, whose exit status is to be this one; names of folders are left out.
@@ -228,10 +244,14 @@ words() {
     told 0 "$folder/dump" --help
     told 0 "$folder/day" --help
     told 0 "$folder/show_journal" --help
+    told 0 "$folder/restart" --help
     told 2 "$folder/host" --nothing
     told 2 "$folder/dump" --nothing "$image"
     told 2 "$folder/day" --nothing
     told 2 "$folder/show_journal" --nothing
+    told 2 "$folder/restart" --nothing
+    told 2 "$folder/restart" "$folder/killed" one
+    told 2 "$folder/restart" "$folder/none/killed"
     told 2 "$folder/day" --journals
     told 2 "$folder/show_journal" "$folder/none.jnl"
     told 2 no_room "$folder/show_journal" "$folder/morning.jnl"
@@ -239,6 +259,7 @@ words() {
     told 2 no_room "$folder/show_journal" --help
     told 2 no_room "$folder/day"
     told 2 no_room "$folder/dump" "$image"
+    told 2 no_room "$folder/restart" --help
     told 1 no_room "$folder/host"
     keeps_journal
     told 2 "$folder/day" "$folder/none.txt"
@@ -267,6 +288,10 @@ else
 fi
 told 0 "$folder/host" "$image" >"$folder/timeline"
 hold timeline.txt <"$folder/timeline"
+told 0 "$folder/restart" "$folder/restarted" >"$folder/said"
+hold restart.txt <"$folder/said"
+asked >"$folder/dumped"
+hold asked.txt <"$folder/dumped"
 told 0 "$folder/dump" "$image" 2/4/01:30 2/4/05:00 2/3/15:00 17 >"$folder/dumped"
 hold dump.txt <"$folder/dumped"
 told 0 "$folder/dump" --dot "$image" >"$folder/dumped"

@@ -3,6 +3,7 @@
 //   store M R L                            a store of M entries and R records, and its table, formatted anew;
 //                                          every list that is lent from here on has L words
 //   b P, c P, a P                          begin, commit, abort
+//   k P, v                                 ask, recover
 //   r P E, w P E V, i P E K, d P E K       put: read, write, insert, remove
 //   l P K K, t 0 K                         put: locate, tidy
 //   s P, g P                               one step; steps until one is not answered more
@@ -227,6 +228,22 @@ static void play_abort(struct player *p, const struct row *row, const uint32_t *
     say_answer(p, host_abort(&p->h, n[0]));
 }
 
+static void play_ask(struct player *p, const struct row *row, const uint32_t *n, char **words)
+{
+    (void)row;
+    (void)words;
+    say_answer(p, host_ask(&p->h, n[0]));
+}
+
+// Of the sessions that it ends the journal is told nothing, as of an abort.
+static void play_recover(struct player *p, const struct row *row, const uint32_t *n, char **words)
+{
+    (void)row;
+    (void)n;
+    (void)words;
+    say_answer(p, host_recover(&p->h));
+}
+
 static void play_put(struct player *p, const struct row *row, const uint32_t *n, char **words)
 {
     (void)words;
@@ -331,6 +348,8 @@ static const struct row rows[] = {
     {"b", 1, 0, play_begin, 0},
     {"c", 1, 0, play_commit, 0},
     {"a", 1, 0, play_abort, 0},
+    {"k", 1, 0, play_ask, 0},
+    {"v", 0, 0, play_recover, 0},
     {"r", 2, 0, play_put, ENTRY_STORE_READ},
     {"w", 3, 0, play_put, ENTRY_STORE_WRITE},
     {"i", 3, 0, play_put, ENTRY_STORE_INSERT},

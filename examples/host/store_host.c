@@ -1,6 +1,7 @@
 #include "store_host.h"
 
 #include <stdlib.h>
+#include <string.h>
 
 uint32_t records_wanted(uint32_t stretches, uint32_t unfinished, uint32_t empty_groups)
 {
@@ -16,6 +17,7 @@ int host_open(struct store_host *h, uint32_t entries, uint32_t records)
     if (h->words == NULL) {
         return 0;
     }
+    memset(h->notes, 0, sizeof h->notes);
     struct entry_store_answer a =
         entry_store_unpack(entry_store_format(h->words, h->length, h->table, ENTRY_STORE_PARTIES, entries));
     if (a.word != ENTRY_STORE_OK) {
@@ -68,6 +70,16 @@ struct entry_store_answer host_commit(struct store_host *h, uint32_t party)
 struct entry_store_answer host_abort(struct store_host *h, uint32_t party)
 {
     return entry_store_unpack(entry_store_abort(h->words, h->length, h->table, ENTRY_STORE_PARTIES, party));
+}
+
+struct entry_store_answer host_ask(struct store_host *h, uint32_t party)
+{
+    return entry_store_unpack(entry_store_ask(h->words, h->length, h->table, ENTRY_STORE_PARTIES, party));
+}
+
+struct entry_store_answer host_recover(struct store_host *h)
+{
+    return entry_store_unpack(entry_store_recover(h->words, h->length, h->table, ENTRY_STORE_PARTIES));
 }
 
 // ---- several calls in one
@@ -299,6 +311,7 @@ static const char *const parts[] = {
     "every record is reached",
     "the table has " ENTRY_STORE_TEXT(ENTRY_STORE_PARTIES) " records",
     "no two begun sessions share a number in the order of begins",
+    "only a begun session with no request in hand is asked",
 };
 
 const char *part_in_full(uint32_t part)

@@ -16,6 +16,7 @@ struct store_host {
     uint32_t *words;
     size_t length;
     struct entry_store_session table[ENTRY_STORE_PARTIES];
+    uint32_t notes[ENTRY_STORE_PARTIES]; // a word of the host's own for each party, which images keep
 };
 
 struct request {
@@ -44,6 +45,11 @@ struct entry_store_answer host_step(struct store_host *h, uint32_t party, struct
 struct entry_store_answer host_commit(struct store_host *h, uint32_t party);
 struct entry_store_answer host_abort(struct store_host *h, uint32_t party);
 
+// The call ask, after which only commit and abort remain to the session; and recover, after which only asked
+// sessions are begun (docs/HOST.md, "Ask, then commit").
+struct entry_store_answer host_ask(struct store_host *h, uint32_t party);
+struct entry_store_answer host_recover(struct store_host *h);
+
 // Several calls in one: the steps of the request in hand until one is not answered more; a put and these
 // steps; asks of any kinds, whose answers go to answers, which has room for count.
 struct entry_store_answer host_steps(struct store_host *h, uint32_t party, struct pair_list *list);
@@ -52,7 +58,7 @@ struct entry_store_answer host_request(struct store_host *h, uint32_t party, str
 struct entry_store_answer host_batch(struct store_host *h, const struct entry_store_ask *asks, size_t count,
                                      uint64_t *answers, struct pair_list *list);
 
-// Asks for a batch: a call that takes the party alone (begin, commit, abort), and a whole request.
+// Asks for a batch: a call that takes the party alone (begin, commit, abort, ask), and a whole request.
 struct entry_store_ask ask_call(uint32_t kind, uint32_t party);
 struct entry_store_ask ask_request(uint32_t party, struct request r);
 

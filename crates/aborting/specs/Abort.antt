@@ -61,6 +61,7 @@ idled-same x e =
       last = x .last;
       undo = x .undo;
       order = x .order;
+      asked = x .asked;
     }
 
 unbegun-idled : (x : Session) → unbegun (idled x) ≡ unbegun x

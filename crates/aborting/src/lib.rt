@@ -9,7 +9,7 @@ ghost use Rattle.aborting.specs.Words.{handEnded, HandReady, abortWords,
 use sessions::Session;
 
 // The request in hand ends, if there is one.
-fn end_hand(store: &mut [u32], m: usize, x: Session)
+pub fn end_hand(store: &mut [u32], m: usize, x: Session)
     requires { ⌜ HandReady (now store) m x ⌝ }
     ensures { λ _. ⌜ now (store .exit) ≡ handEnded (now (store .entry)) m x ⌝ }
 {

@@ -1,9 +1,9 @@
-// Accepted: what begin, put, commit, abort and format do once nothing refuses them, on the words of a store and on the session table by value.
+// Accepted: what begin, put, commit, abort, ask, recover and format do once nothing refuses them, on the words of a store and on the session table by value.
 //
 // The caller has tested that store and table are sound (not for format) and that no check of the call's list refuses. Each then does its row, and promises
 // what the crate promises says of a call on sound words (Serves): the answer is the machine's, and store and table mean the machine's next state; of
-// format, that it leaves a fresh store (Formats). A step stands in the crate stepping. It rests on refusals for a party's record, on leaving and aborting
-// for the rows, on endings for session records by value and for the fresh store, on seniority for the order of begins.
+// format, that it leaves a fresh store (Formats). A step stands in the crate stepping. It rests on refusals for a party's record, on leaving, aborting and
+// recovering for the rows, on endings for session records by value and for the fresh store, on seniority for the order of begins.
 ghost use mathlib.Core.Path.{_≡_};
 ghost use mathlib.Core.List.{[]};
 ghost use lib.ListN.{length};
@@ -13,7 +13,7 @@ ghost use Rattle.machine.specs.Calls.{format-checks};
 ghost use Rattle.meaning.specs.Reading.{M-of};
 ghost use Rattle.meaning.specs.Sound.{Sound};
 ghost use Rattle.leaving.specs.FreshRow.{fresh-table};
-ghost use Rattle.refusals.specs.Refusing.{first-of, begin-list, put-list, commit-list, abort-list};
+ghost use Rattle.refusals.specs.Refusing.{first-of, begin-list, put-list, commit-list, abort-list, ask-list};
 ghost use Rattle.promises.specs.Relations.{Formats};
 ghost use Rattle.promises.specs.Ways.{Serves};
 use outcomes::Answer;
@@ -92,6 +92,34 @@ pub fn abort(store: &mut [u32], t: [Session; PARTIES], p: u32) -> Served
     let after = refusals::settle(t, p, y);
     Served {
         table: after,
+        answer: Answer::Ok,
+    }
+}
+
+// A session is asked: only commit and abort remain to it.
+pub fn ask(store: &[u32], t: [Session; PARTIES], p: u32) -> Served
+    requires { ⌜ Sound (now store) t × (first-of (ask-list t p) ≡ 0) ⌝ }
+    ensures { λ r. ⌜ Serves (C.ask p) (now (store .entry)) t (said (r .answer)) [] (now (store .entry)) (r .table) ⌝ }
+{
+    let x = refusals::seat(t, p);
+    let y = endings::asked_session(x);
+    let after = refusals::settle(t, p, y); // asked
+    Served {
+        table: after,
+        answer: Answer::Ok,
+    }
+}
+
+// Housekeeping ends, and every begun session that is not asked aborts.
+pub fn recover(store: &mut [u32], t: [Session; PARTIES]) -> Served
+    requires { ⌜ Sound (now store) t ⌝ }
+    ensures { λ r. ⌜ Serves C.recover (now (store .entry)) t (said (r .answer)) [] (now (store .exit)) (r .table) ⌝ }
+{
+    let m = words::entries(store) as usize;
+    let r = words::records(store) as usize;
+    let after = recovering::recover_words(store, m, r, t);
+    Served {
+        table: after, // recovered
         answer: Answer::Ok,
     }
 }

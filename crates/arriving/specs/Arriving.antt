@@ -37,6 +37,7 @@ staged x stage target low high last =
       last = last;
       undo = x .undo;
       order = x .order;
+      asked = x .asked;
     }
 
 -- An insert or remove changes the group.

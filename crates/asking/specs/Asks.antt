@@ -7,7 +7,7 @@ use lib.Dec.{eqb, leb}
 use lib.ListN.{length, getD}
 use borrow.Author.Tests.{ne-eqb, le-leb, lt-leb}
 use Rattle.asking.specs.declared.Asking.{Asking}
-use Rattle.asking.specs.declared.Asking.the-variants.{Begin, Put, Step, Commit, Abort, Run, Request, Other}
+use Rattle.asking.specs.declared.Asking.the-variants.{Begin, Put, Step, Commit, Abort, Run, Request, Ask, Other}
 
 -- Kind, party, code, entry, first, second, and how many steps at most.
 unfoldable pub asking : ℕ → ℕ → ℕ → ℕ → ℕ → ℕ → ℕ → Asking
@@ -18,7 +18,8 @@ asking k p c e f g b =
     (cond (eqb k 4) (Commit p)
     (cond (eqb k 5) (Abort p)
     (cond (eqb k 6) (Run p b)
-    (cond (eqb k 7) (Request p c e f g b) Other))))))
+    (cond (eqb k 7) (Request p c e f g b)
+    (cond (eqb k 8) (Ask p) Other)))))))
 
 -- Ask i stands in the seven words from 7 i on. Where fewer are left it is none.
 unfoldable pub asking-at : List ℕ → ℕ → Asking
@@ -58,13 +59,17 @@ module _ (p c e f g b : ℕ) where
   unfolding asking
   kind-7 k h = ap (λ z. asking z p c e f g b) (sym h)
 
+  pub kind-8 : (k : ℕ) → k ≡ 8 → Ask p ≡ asking k p c e f g b
+  unfolding asking
+  kind-8 k h = ap (λ z. asking z p c e f g b) (sym h)
+
   pub kind-0 : (k : ℕ) → k ≡ 0 → Other ≡ asking k p c e f g b
   unfolding asking
   kind-0 k h = ap (λ z. asking z p c e f g b) (sym h)
 
-  pub kind-other : (k : ℕ) → ¬ (k ≡ 1) → ¬ (k ≡ 2) → ¬ (k ≡ 3) → ¬ (k ≡ 4) → ¬ (k ≡ 5) → ¬ (k ≡ 6) → ¬ (k ≡ 7) → Other ≡ asking k p c e f g b
+  pub kind-other : (k : ℕ) → ¬ (k ≡ 1) → ¬ (k ≡ 2) → ¬ (k ≡ 3) → ¬ (k ≡ 4) → ¬ (k ≡ 5) → ¬ (k ≡ 6) → ¬ (k ≡ 7) → ¬ (k ≡ 8) → Other ≡ asking k p c e f g b
   unfolding asking
-  kind-other k a₁ a₂ a₃ a₄ a₅ a₆ a₇ = rw (ne-eqb k 1 a₁, ne-eqb k 2 a₂, ne-eqb k 3 a₃, ne-eqb k 4 a₄, ne-eqb k 5 a₅, ne-eqb k 6 a₆, ne-eqb k 7 a₇) refl
+  kind-other k a₁ a₂ a₃ a₄ a₅ a₆ a₇ a₈ = rw (ne-eqb k 1 a₁, ne-eqb k 2 a₂, ne-eqb k 3 a₃, ne-eqb k 4 a₄, ne-eqb k 5 a₅, ne-eqb k 6 a₆, ne-eqb k 7 a₇, ne-eqb k 8 a₈) refl
 
 pub at-rest : (w : List ℕ) (i : ℕ) → length w < 7 * i + 7 → Other ≡ asking-at w i
 unfolding asking-at

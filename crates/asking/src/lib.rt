@@ -22,6 +22,8 @@ pub enum Asking {
     Run(u32, u32),
     // A put's numbers, and how many steps at most.
     Request(u32, u32, u32, u32, u32, u32),
+    // The call ask.
+    Ask(u32),
     // No ask.
     Other,
 }
@@ -37,7 +39,8 @@ fn asking_of(kind: u32, p: u32, code: u32, entry: u32, first: u32, second: u32, 
         5 => Asking::Abort(p),
         6 => Asking::Run(p, most),
         7 => Asking::Request(p, code, entry, first, second, most),
-        0 | 8..=4294967295 => Asking::Other,
+        8 => Asking::Ask(p),
+        0 | 9..=4294967295 => Asking::Other,
     }
 }
 

@@ -14,7 +14,7 @@ use Rattle.promises.specs.Relations.{Calls}
 use Rattle.promises.specs.Runs.{Runs, Requests}
 use Rattle.packing.specs.Packed.{PacksMade}
 use Rattle.asking.specs.declared.Asking.{Asking}
-use Rattle.asking.specs.declared.Asking.the-variants.{Begin, Put, Step, Commit, Abort, Run, Request, Other}
+use Rattle.asking.specs.declared.Asking.the-variants.{Begin, Put, Step, Commit, Abort, Run, Request, Ask, Other}
 use Rattle.asking.specs.Asks.{asking-at}
 
 -- ---- one ask
@@ -35,6 +35,7 @@ Asks (Commit p) s t l a n l′ s′ t′ = Once (C.commit p) s t l a n l′ s′
 Asks (Abort p) s t l a n l′ s′ t′ = Once (C.abort p) s t l a n l′ s′ t′
 Asks (Run p b) s t l a n l′ s′ t′ = Runs p b s t l a n l′ s′ t′
 Asks (Request p c e f g b) s t l a n l′ s′ t′ = Requests p c e f g b s t l a n l′ s′ t′
+Asks (Ask p) s t l a n l′ s′ t′ = Once (C.ask p) s t l a n l′ s′ t′
 Asks Other s t l a n l′ s′ t′ = (a ≡ C.refused 101 0) × (n ≡ 0) × (l′ ≡ l) × (s′ ≡ s) × (t′ ≡ t)
 
 -- ---- one after another
@@ -48,6 +49,7 @@ is-step (Commit p) = false
 is-step (Abort p) = false
 is-step (Run p b) = false
 is-step (Request p c e f g b) = false
+is-step (Ask p) = false
 is-step Other = false
 
 abbrev pub goes-on : Asking → C.Answer → Bool
@@ -66,6 +68,7 @@ code-of (Commit p) t = 0
 code-of (Abort p) t = 0
 code-of (Run p b) t = session-at t p .code
 code-of (Request p c e f g b) t = c
+code-of (Ask p) t = 0
 code-of Other t = 0
 
 -- How many words of the list an answer says are written: two a pair of a locate that is done.

@@ -33,6 +33,7 @@ turns (K.Commit p) l a n l′ = call-turn (C.commit p) a ∷ []
 turns (K.Abort p) l a n l′ = call-turn (C.abort p) a ∷ []
 turns (K.Run p b) l a n l′ = steps n p l a l′
 turns (K.Request p c e f g b) l a n l′ = asks n p c e f g l a l′
+turns (K.Ask p) l a n l′ = call-turn (C.ask p) a ∷ []
 turns K.Other l a n l′ = []
 
 -- A request as the host sees it: the put if it was not accepted, else the put and one step with the answer.
@@ -49,6 +50,7 @@ seen (K.Commit p) l a n l′ = call-turn (C.commit p) a ∷ []
 seen (K.Abort p) l a n l′ = call-turn (C.abort p) a ∷ []
 seen (K.Run p b) l a n l′ = step-turn p l a l′ ∷ []
 seen (K.Request p c e f g b) l a n l′ = asked n p c e f g l a l′
+seen (K.Ask p) l a n l′ = call-turn (C.ask p) a ∷ []
 seen K.Other l a n l′ = []
 
 module _ (s : List ℕ) (t : List Session) (l : List ℕ) (a : C.Answer) (n : ℕ) (l′ s′ : List ℕ) (t′ : List Session) where
@@ -60,15 +62,16 @@ module _ (s : List ℕ) (t : List Session) (l : List ℕ) (a : C.Answer) (n : �
   asks-made (K.Abort p) h = next (h .0) stop
   asks-made (K.Run p b) h = h .made
   asks-made (K.Request p c e f g b) h = h .made
+  asks-made (K.Ask p) h = next (h .0) stop
   asks-made K.Other h = subst (λ z. Run calling (lending s t) [] (lending s′ z)) (sym (h .4)) (subst (λ z. Run calling (lending s t) [] (lending z t)) (sym (h .3)) stop)
 
 told-append : (ks ls : List Turn) (t : Told) → told t (ks ++ ls) ≡ told (told t ks) ls
 told-append [] ls t = refl
 told-append (k ∷ ks) ls t = told-append ks ls (tell k t)
 
-line-append : (ks ls : List Turn) (l : List ℕ) → line l (ks ++ ls) ≡ line (line l ks) ls
-line-append [] ls l = refl
-line-append (k ∷ ks) ls l = line-append ks ls (in-line l k)
+line-append : (ks ls : List Turn) (t : Told) (l : List ℕ) → line t l (ks ++ ls) ≡ line (told t ks) (line t l ks) ls
+line-append [] ls t l = refl
+line-append (k ∷ ks) ls t l = line-append ks ls (tell k t) (in-line t l k)
 
 kept-append : (ks ls : List Turn) (h : Told) (d : Diary) → kept h d (ks ++ ls) ≡ kept (told h ks) (kept h d ks) ls
 kept-append [] ls h d = refl
@@ -77,16 +80,17 @@ kept-append (k ∷ ks) ls h d = kept-append ks ls (tell k h) (note k h d)
 -- Lists of turns that tell the same: the same history, the same line of begun sessions, and the same diary.
 pub record Alike (ks js : List Turn) : Type 0 where
   pub tells : (h : Told) → told h ks ≡ told h js
-  pub lines : (l : List ℕ) → line l ks ≡ line l js
+  pub lines : (h : Told) (l : List ℕ) → line h l ks ≡ line h l js
   pub writes : (h : Told) (d : Diary) → kept h d ks ≡ kept h d js
 
 pub alike : (ks : List Turn) → Alike ks ks
-alike ks = record { tells = λ h. refl; lines = λ l. refl; writes = λ h d. refl }
+alike ks = record { tells = λ h. refl; lines = λ h l. refl; writes = λ h d. refl }
 
 pub alike-append : {ks js ks′ js′ : List Turn} → Alike ks js → Alike ks′ js′ → Alike (ks ++ ks′) (js ++ js′)
 alike-append {ks} {js} {ks′} {js′} a b = record {
   tells = λ h. told-append ks ks′ h ∙ b .tells (told h ks) ∙ ap (λ z. told z js′) (a .tells h) ∙ sym (told-append js js′ h);
-  lines = λ l. line-append ks ks′ l ∙ b .lines (line l ks) ∙ ap (λ z. line z js′) (a .lines l) ∙ sym (line-append js js′ l);
+  lines = λ h l. line-append ks ks′ h l ∙ b .lines (told h ks) (line h l ks) ∙ ap (λ z. line z (line h l ks) js′) (a .tells h) ∙ ap (λ z. line (told h js) z js′) (a .lines h l)
+      ∙ sym (line-append js js′ h l);
   writes = λ h d. kept-append ks ks′ h d ∙ b .writes (told h ks) (kept h d ks) ∙ ap (λ z. kept z (kept h d ks) js′) (a .tells h) ∙ ap (λ z. kept (told h js) z js′) (a .writes h d)
       ∙ sym (kept-append js js′ h d);
 }
@@ -113,6 +117,7 @@ module _ (s : List ℕ) (t : List Session) (l : List ℕ) (a : C.Answer) (n : �
   asks-told (K.Abort p) d = alike _
   asks-told (K.Run p b) d = run-told n p b l a l′ (d .within)
   asks-told (K.Request p c e f g b) d = request-told n p c e f g l a l′
+  asks-told (K.Ask p) d = alike _
   asks-told K.Other d = alike _
 
 -- ---- a batch
@@ -143,7 +148,7 @@ module _ {w : List ℕ} where
 
 -- ---- lists of calls with them in it
 
--- One return, as its contract says: the ordinary calls ks that it is, and the turns js that the host sees. The six calls, an ask (a run and a request are asks),
+-- One return, as its contract says: the ordinary calls ks that it is, and the turns js that the host sees. The eight calls, an ask (a run and a request are asks),
 -- a batch that is made, and one that is turned away.
 pub data Serving : Lending → List Turn → List Turn → Lending → Type 0 where
   once : {x y : Lending} {k : Turn} → Returns x k y → Serving x (k ∷ []) (k ∷ []) y

@@ -80,6 +80,7 @@ module _ (s : List ℕ) (t : List Session) (l : List ℕ) (a : C.Answer) (n : �
   asks-sound (K.Step p) h S = h .0 .answers S .0 .sound
   asks-sound (K.Commit p) h S = h .0 .answers S .0 .sound
   asks-sound (K.Abort p) h S = h .0 .answers S .0 .sound
+  asks-sound (K.Ask p) h S = h .0 .answers S .0 .sound
   asks-sound (K.Run p b) h S = run-sound (h .made) S
   asks-sound (K.Request p c e f g b) h S = run-sound (h .made) S
   asks-sound K.Other h S = subst (λ z. Sound s′ z) (sym (h .4)) (subst (λ z. Sound z t) (sym (h .3)) S)
@@ -91,6 +92,7 @@ module _ (s : List ℕ) (t : List Session) (l : List ℕ) (a : C.Answer) (n : �
   asks-few (K.Step p) h = omega (arith, h .1)
   asks-few (K.Commit p) h = omega (arith, h .1)
   asks-few (K.Abort p) h = omega (arith, h .1)
+  asks-few (K.Ask p) h = omega (arith, h .1)
   asks-few (K.Run p b) h = h .within .few
   asks-few (K.Request p c e f g b) h = go (ℕ-discrete n 0)
     where

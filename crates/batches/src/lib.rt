@@ -116,6 +116,10 @@ fn ask(store: &mut [u32], list: &mut [u32], t: [Session; PARTIES], k: Asking) ->
         Asking::Request(p, code, entry, first, second, bound) => {
             return request(store, list, t, p, code, entry, first, second, bound);
         }
+        Asking::Ask(p) => {
+            let served = serving::ask(store, t, p);
+            return counted(served, 0);
+        }
         Asking::Other => {
             return no_ask(t);
         }
@@ -150,6 +154,7 @@ fn code_in(k: Asking, t: [Session; PARTIES]) -> u32
         Asking::Abort(_) => 0,
         Asking::Run(p, _) => party_code(t, p),
         Asking::Request(_, code, _, _, _, _) => code,
+        Asking::Ask(_) => 0,
         Asking::Other => 0,
     }
 }
@@ -208,6 +213,7 @@ fn is_single(k: Asking) -> bool
         Asking::Abort(_) => false,
         Asking::Run(_, _) => false,
         Asking::Request(_, _, _, _, _, _) => false,
+        Asking::Ask(_) => false,
         Asking::Other => false,
     }
 }

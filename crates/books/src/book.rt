@@ -25,7 +25,7 @@ pub const WORDS: usize = 6;
 
 pub const TURNS: usize = 7;
 
-pub const ASKED: usize = 8;
+pub const CHECKS: usize = 8;
 
 // What the sessions are mostly at.
 pub const PHASE: usize = 9;
@@ -42,17 +42,20 @@ pub const RISEN: usize = 126;
 
 pub const IS_STOPPED: usize = 127;
 
-// Counts, in the order of the report: calls made, which are also the lists compared; calls by kind, answers by word, refusals by number from 3 on.
-pub const LINES: usize = 32;
+// Counts, in the order of the report: calls made, which are also the lists compared; calls by kind, answers by word, refusals by number from 3 to 14, and
+// behind these the refusals by 21.
+pub const LINES: usize = 16;
 
-pub const MADE: usize = 33;
+pub const MADE: usize = 17;
 
-pub const ANSWERED: usize = 40;
+pub const ANSWERED: usize = 26;
 
-pub const REFUSED: usize = 42;
+pub const REFUSED: usize = 28;
+
+pub const REFUSED_ASKED: usize = 43;
 
 // Views compared, keys compared, calls that had to change nothing, replays of committed and of other sessions, finished requests, contents compared,
-// aborts of copies, questions to the checker, damaged copies found sound and unsound, the greatest height and number of descriptors.
+// aborts and recovers of copies, questions to the checker, damaged copies found sound and unsound, the greatest height and number of descriptors.
 pub const VIEWS: usize = 94;
 
 pub const KEYS_SEEN: usize = 95;
@@ -69,35 +72,37 @@ pub const CONTENTS: usize = 101;
 
 pub const COPIES_ABORTED: usize = 102;
 
-pub const CHECKED: usize = 103;
+pub const COPIES_RECOVERED: usize = 103;
 
-pub const DAMAGED_SOUND: usize = 104;
+pub const CHECKED: usize = 104;
 
-pub const DAMAGED_UNSOUND: usize = 105;
+pub const DAMAGED_SOUND: usize = 105;
 
-pub const HEIGHT: usize = 106;
+pub const DAMAGED_UNSOUND: usize = 106;
 
-pub const DESCRIPTORS: usize = 107;
+pub const HEIGHT: usize = 107;
+
+pub const DESCRIPTORS: usize = 108;
 
 // Of the day calls that were not refused: those that put a request, those that were a step; the steps that finished a request before the day's last, and
 // the last.
-pub const DAY_PUTS: usize = 108;
+pub const DAY_PUTS: usize = 109;
 
-pub const DAY_STEPS: usize = 109;
+pub const DAY_STEPS: usize = 110;
 
-pub const DAY_REQUESTS: usize = 110;
+pub const DAY_REQUESTS: usize = 111;
 
-pub const DAYS: usize = 111;
+pub const DAYS: usize = 112;
 
 // How often the parties were given other numbers in the order of begins.
-pub const SPREAD: usize = 112;
+pub const SPREAD: usize = 113;
 
 // The first difference: round and call, the number of the store and that of the model; how many differences there are; what differs first.
-pub const FIRST: usize = 113;
+pub const FIRST: usize = 114;
 
-pub const DIFFERENCES: usize = 117;
+pub const DIFFERENCES: usize = 118;
 
-pub const WHAT: usize = 118;
+pub const WHAT: usize = 119;
 
 // What may differ.
 pub const WORD: u32 = 1;
@@ -153,6 +158,10 @@ pub const DAMAGE: u32 = 25;
 pub const PLACE: u32 = 26;
 
 pub const ORDER: u32 = 27;
+
+pub const MARK: u32 = 28;
+
+pub const RECOVER: u32 = 29;
 
 fn tell_first(b: &mut Book, what: u32, left: u32, right: u32) {
     copy(b, ROUND, FIRST, 2);

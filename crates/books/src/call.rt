@@ -20,8 +20,12 @@ pub const ABORT: u32 = 5;
 
 pub const DAY: u32 = 6;
 
-// A call. Of a format, entry is M and first the number of words; of a step, first is the number of words of the list; of a day call, code is the place,
-// first the driver and second the start, and the bytes are those that the party keeps.
+pub const ASK: u32 = 7;
+
+pub const RECOVER: u32 = 8;
+
+// A call. A recover has no party and no numbers. Of a format, entry is M and first the number of words; of a step, first is the number of words of the
+// list; of a day call, code is the place, first the driver and second the start, and the bytes are those that the party keeps.
 pub struct Call {
     pub kind: u32,
     pub party: u32,

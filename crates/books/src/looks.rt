@@ -1,4 +1,4 @@
-// Looks: store and model compared whole: free count, entries, holders and members of keys, the shape of the tree, the order of begins.
+// Looks: store and model compared whole: free count, entries, holders and members of keys, the shape of the tree, the order of begins, who is asked.
 use crate::book::DESCRIPTORS;
 use crate::book::ENTRIES;
 use crate::book::EXCLUSIVE;
@@ -9,6 +9,7 @@ use crate::book::KEYS;
 use crate::book::KEYS_SEEN;
 use crate::book::LEVELS;
 use crate::book::LOCATE;
+use crate::book::MARK;
 use crate::book::Model;
 use crate::book::NODES;
 use crate::book::ORDER;
@@ -20,6 +21,7 @@ use crate::book::VALUE;
 use crate::book::VIEWS;
 use crate::book::raise;
 use crate::book::same;
+use crate::seats::is_asked;
 use crate::seats::order;
 use schedules::book::Book;
 use schedules::book::count;
@@ -160,18 +162,25 @@ fn see_tree(s: &Side, a: &Model, b: &mut Book) {
     raise(b, DESCRIPTORS, length(s, reading::FIRST));
 }
 
-// The numbers of all parties in the order of begins.
-fn see_orders(s: &Side, a: &Model, b: &mut Book) {
+// A party's number in the order of begins, and whether it is asked.
+fn see_seat(s: &Side, a: &Model, b: &mut Book, p: u32) {
+    same(b, ORDER, order(s, p), naive::order(a, p));
+    let left = is_asked(s, p) as u32;
+    let right = naive::asked(a, p) as u32;
+    same(b, MARK, left, right);
+}
+
+fn see_seats(s: &Side, a: &Model, b: &mut Book) {
     let mut p = 0;
     while p < PARTIES {
-        same(b, ORDER, order(s, p), naive::order(a, p));
+        see_seat(s, a, b, p);
         p += 1;
     }
 }
 
 pub fn see(s: &Side, a: &Model, b: &mut Book) {
     count(b, VIEWS);
-    see_orders(s, a, b);
+    see_seats(s, a, b);
     see_tree(s, a, b);
     see_entries(s, a, b);
     see_keys(s, a, b);

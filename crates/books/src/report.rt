@@ -36,9 +36,9 @@ fn tell_line(text: &[u8], n: u32) {
 // The label of line n.
 fn tell_label(n: u32) {
     tell_line(
-        b" calls on both, of these\n   format\n   begin\n   put\n   step\n   commit\n   abort\n   day\n answered ok
- answered more\n answered wait\n answered done\n refused, of these\n   by 3\n   by 4\n   by 5\n   by 6
-   by 7\n   by 8\n   by 9\n   by 10\n   by 11\n   by 12\n   by 13\n   by 14
+        b" calls on both, of these\n   format\n   begin\n   put\n   step\n   commit\n   abort\n   day\n   ask
+   recover\n answered ok\n answered more\n answered wait\n answered done\n refused, of these\n   by 3
+   by 4\n   by 5\n   by 6\n   by 7\n   by 8\n   by 9\n   by 10\n   by 11\n   by 12\n   by 13\n   by 14\n   by 21
  roots split\n nodes below the root split\n joins with the left neighbour\n joins with the right neighbour
  moves from the left neighbour\n moves from the right neighbour\n roots dropped
  roots dropped and split in one step\n descriptors made\n descriptors made in a held gap
@@ -51,11 +51,15 @@ fn tell_label(n: u32) {
  commits with take-back records\n begins that gave a session another number
  inserts and removes at a key that another session changes\n of these, that two others and more change
  inserts and removes taken back under another's newer one\n taken back over another's older one
+ asks accepted\n asks of a session that is asked, refused by 21\n asks with a request in hand, refused by 7
+ puts of a session that is asked, refused by 21\n commits of an asked session\n of these, after a recover
+ aborts of an asked session\n recovers\n sessions aborted by recovers\n of these, with a request at a node
+ asked sessions that a recover left\n recovers that ended a tidy\n of these, at a node
  whole comparisons of entries, tree and free count\n comparisons of a key's holders and members
  comparisons of the lists\n waits and refusals that changed no word
  committed sessions run on the logical model\n aborted sessions run on a copy of it
  finished requests of sessions\n comparisons with the logical content\n aborts on copies for these
- stores sound to the checker\n copies with a word changed sound to both judges
+ recovers on these copies\n stores sound to the checker\n copies with a word changed sound to both judges
  copies with a word changed refused by both, by 2\n levels of nodes at most\n descriptors at most
  requests put by day calls\n steps by day calls\n requests of a day finished before its last
  days finished\n tables lent with other numbers in the same order
@@ -96,17 +100,19 @@ the logical members of a key
 the soundness of a damaged copy
 the place of a day
 the number of a party in the order of begins
+whether a party is asked
+the recover of a copy
 ",
         what,
     );
 }
 
-// The number of line n: from 25 to 61 an event of the model; 64 is how often the lists were compared, which is at each call.
+// The number of line n: from 28 to 77 an event of the model; 80 is how often the lists were compared, which is at each call.
 fn number(a: &Model, b: &Book, n: u32) -> u32 {
-    if 24 < n && n < 62 {
-        return naive::counted(a, n - 25);
+    if 27 < n && n < 78 {
+        return naive::counted(a, n - 28);
     }
-    if n == 64 {
+    if n == 80 {
         return get(b, LINES);
     }
     get(b, LINES + wide(n))
@@ -126,10 +132,10 @@ fn tell_rows(a: &Model, b: &Book, from: u32, end: u32) {
 }
 
 pub fn report(a: &Model, b: &Book) {
-    tell_rows(a, b, 0, 81);
+    tell_rows(a, b, 0, 98);
     if get(b, DIFFERENCES) != 0 {
-        tell_rows(a, b, 81, 85);
+        tell_rows(a, b, 98, 102);
         tell_what(get(b, WHAT));
     }
-    tell_row(a, b, 85);
+    tell_row(a, b, 102);
 }

@@ -1,4 +1,5 @@
 // Seats: the session table of a side.
+use schedules::side::ASKED;
 use schedules::side::ORDER;
 use schedules::side::SESSION_WORDS;
 use schedules::side::Side;
@@ -30,6 +31,7 @@ fn seat(s: &Side, p: usize) -> Session {
         last: seat_word(s, p, 11),
         undo: seat_word(s, p, 12),
         order: seat_word(s, p, ORDER),
+        asked: seat_word(s, p, ASKED),
     }
 }
 
@@ -60,7 +62,8 @@ fn field(x: Session, k: usize) -> u32 {
         10 => x.high,
         11 => x.last,
         12 => x.undo,
-        _ => x.order,
+        ORDER => x.order,
+        _ => x.asked,
     }
 }
 
@@ -84,6 +87,15 @@ pub fn order(s: &Side, p: u32) -> u32 {
 
 pub fn set_order(s: &mut Side, p: u32, x: u32) {
     set_word(s, order_place(p), x);
+}
+
+// Where the mark of party p stands that is not 0 where it is asked.
+pub fn mark_place(p: u32) -> usize {
+    SESSION_WORDS * (wide(p) % PARTIES) + ASKED
+}
+
+pub fn is_asked(s: &Side, p: u32) -> bool {
+    word(s, mark_place(p)) != 0
 }
 
 // Is session p begun?

@@ -1,10 +1,10 @@
-// Calls: the six calls, a run, a request, a batch and a day call, on the words of a store and on the session table by value.
+// Calls: the eight calls, a run, a request, a batch and a day call, on the words of a store and on the session table by value.
 //
-// Each tests store and table first (not format), once, and then serves. The six promise one relation of the crate promises: refused 2 exactly if store or table
+// Each tests store and table first (not format), once, and then serves. The eight promise one relation of the crate promises: refused 2 exactly if store or table
 // is not sound, and then nothing is changed; else the answer is the machine's, and store and table mean the machine's next state (Calls); of format, that an
 // accepted one leaves a fresh store (Formats). A run, a request and a batch promise to be lists of ordinary calls (promises, specs/Runs; batches, specs/Batches),
 // a day call to be one put or step with its answer renamed (day_calls, specs/Calling). Demands 1 to 3 over these promises stand there too. It rests on soundness
-// for the test, on refusals and accepted for format, on serving, running, batches and day_calls for the rest.
+// for the test, on refusals and accepted for format, on accepted for recover, on serving, running, batches and day_calls for the rest.
 ghost use mathlib.Core.List.{[]};
 ghost use Rattle.serial.specs.Calls as C;
 ghost use Rattle.outcomes.specs.Said.{said};
@@ -96,6 +96,36 @@ pub fn abort(store: &mut [u32], t: [Session; PARTIES], p: u32) -> Served
     let good = soundness::is_sound(store, t);
     if good {
         return serving::abort(store, t, p);
+    }
+    Served {
+        table: t,
+        answer: Answer::Refused(2, 0),
+    }
+}
+
+// ---- ask
+
+pub fn ask(store: &[u32], t: [Session; PARTIES], p: u32) -> Served
+    ensures { λ r. ⌜ Calls (C.ask p) (now (store .entry)) t (said (r .answer)) [] (now (store .entry)) (r .table) ⌝ }
+{
+    let good = soundness::is_sound(store, t);
+    if good {
+        return serving::ask(store, t, p);
+    }
+    Served {
+        table: t,
+        answer: Answer::Refused(2, 0),
+    }
+}
+
+// ---- recover
+
+pub fn recover(store: &mut [u32], t: [Session; PARTIES]) -> Served
+    ensures { λ r. ⌜ Calls C.recover (now (store .entry)) t (said (r .answer)) [] (now (store .exit)) (r .table) ⌝ }
+{
+    let good = soundness::is_sound(store, t);
+    if good {
+        return accepted::recover(store, t);
     }
     Served {
         table: t,

@@ -10,7 +10,7 @@ use Rattle.machine.specs.Tree.{Node}
 use Rattle.machine.specs.Holders.{width}
 use Rattle.machine.specs.State.{State, at, top, idle, with-table, set-hand}
 use Rattle.machine.specs.Calls.{format, begin, put, step}
-use Rattle.cases.specs.Rows.{Told, ok, more, wait, done, found, tidied, refused, short, Line, does, goes, _⇒_, puts, b, r, w, i, d, l, t, s, g, c, a, by, low, over, tens, begun-from, planted, well, begun, free, records, entry, group, gone, tree, Start, formats, from, Row, row, result, expected}
+use Rattle.cases.specs.Rows.{Told, ok, more, wait, done, found, tidied, refused, short, Line, does, goes, _⇒_, puts, b, r, w, i, d, l, t, s, g, c, a, k, v, by, low, over, tens, begun-from, planted, well, begun, free, records, entry, group, gone, tree, Start, formats, from, Row, row, result, expected}
 
 -- ---- starting states, all with 3 entries; n records are free
 
@@ -352,6 +352,25 @@ begins =
     ∷ row "any numbers become ranks" (numbered top 0 7) (b 3 ⇒ ok ∷ []) (begun (1 ∷ 3 ∷ 2 ∷ 1 ∷ 3 ∷ 4 ∷ 4 ∷ 2 ∷ []) ∷ [])
     ∷ []
 
+-- ---- ask and recover
+
+abbrev asked : List (Row String)
+asked =
+    row "asked: only commit and abort remain" store (changed ++ k 1 ⇒ ok ∷ k 1 ⇒ refused 21 ∷ r 1 1 ⇒ refused 21 ∷ does (put 1 9 9 0 0) ⇒ refused 21 ∷ s 1 ⇒ refused 7 ∷ b 1 ⇒ refused 5 ∷ [])
+    (entry 1 8 0 1 ∷ group 10 0 1 0 0 (2 ∷ 3 ∷ []) ∷ free 2 ∷ [])
+    ∷ row "asked, then commit" store (changed ++ k 1 ⇒ ok ∷ c 1 ⇒ ok ∷ b 1 ⇒ ok ∷ r 1 1 ⇒ done 8 ∷ []) (entry 1 8 1 0 ∷ group 10 0 0 0 0 (2 ∷ 3 ∷ []) ∷ free 7 ∷ [])
+    ∷ row "asked, then abort" store (changed ++ k 1 ⇒ ok ∷ a 1 ⇒ ok ∷ s 1 ⇒ refused 5 ∷ k 1 ⇒ refused 5 ∷ []) (entry 1 5 0 0 ∷ group 10 0 0 0 0 (3 ∷ []) ∷ free 8 ∷ [])
+    ∷ row "ask has the checks of commit" store (k 0 ⇒ refused 4 ∷ k 17 ⇒ refused 4 ∷ a 2 ⇒ ok ∷ k 2 ⇒ refused 5 ∷ puts (r 1 1) ⇒ ok ∷ k 1 ⇒ refused 7 ∷ g 1 ⇒ done 0 ∷ k 1 ⇒ ok ∷ []) (entry 1 0 1 0 ∷ [])
+    ∷ row "recover aborts who is not asked, and ends a descent" (two 0 (trio 0 4 0 4)) (along 2 1 (l 1 10 10) ++ v ⇒ ok ∷ s 1 ⇒ refused 5 ∷ b 1 ⇒ ok ∷ []) (tree 1 (over 0 (trio 0 4 0 4)) ∷ [])
+    ∷ row "recover undoes, newest first" store (changed ++ v ⇒ ok ∷ s 1 ⇒ refused 5 ∷ []) (entry 1 5 0 0 ∷ group 10 0 0 0 0 (3 ∷ []) ∷ free 8 ∷ [])
+    ∷ row "recover leaves who is asked, with all that he holds" store
+    (changed ++ k 1 ⇒ ok ∷ b 2 ⇒ ok ∷ l 2 20 20 ⇒ done 0 ∷ r 2 1 ⇒ wait 1 ∷ v ⇒ ok ∷ s 2 ⇒ refused 5 ∷ b 2 ⇒ ok ∷ r 2 1 ⇒ wait 1 ∷ v ⇒ ok ∷ k 1 ⇒ refused 21 ∷ [])
+    (entry 1 8 0 1 ∷ group 10 0 1 0 0 (2 ∷ 3 ∷ []) ∷ group 20 0 0 0 0 [] ∷ free 2 ∷ [])
+    ∷ row "recover ends housekeeping: the latch is off, the join stays" (two 0 (trio 0 4 0 3)) (along 2 0 (t 0 49) ++ v ⇒ ok ∷ s 0 ⇒ refused 7 ∷ puts (t 0 0) ⇒ ok ∷ [])
+    (tree 1 (over 0 (duo 0 7)) ∷ free 1 ∷ [])
+    ∷ row "recover with nothing to do" (formats 3 225 ok) (v ⇒ ok ∷ v ⇒ ok ∷ []) (records 10 ∷ free 8 ∷ tree 0 (low 0 (tens 0 1) top) ∷ [])
+    ∷ []
+
 -- ---- refusals by number, with the calls as they come
 
 -- M = 3, R = 10, and session 1 begun; the refused ones leave all as it is.
@@ -392,7 +411,7 @@ formatting =
     ∷ []
 
 abbrev pub directed : List (Row String)
-directed = roots ++ levels ++ mends ++ makes ++ locks ++ changes ++ locates ++ tidies ++ latches ++ ends ++ begins ++ refusing ++ formatting
+directed = roots ++ levels ++ mends ++ makes ++ locks ++ changes ++ locates ++ tidies ++ latches ++ ends ++ begins ++ asked ++ refusing ++ formatting
 
 pub directed-cases : map result directed ≡ map expected directed
 unfolding result

@@ -12,7 +12,7 @@ use Rattle.machine.specs.State.{Desc, Session, State, Answer, top, no-entry, id
 use Rattle.machine.specs.State as State
 use Rattle.machine.specs.Descent.{node, on-last, bound-of, halves, joined, moved-right, moved-left, mended, put-in, taken-out, at-latch, on-latch, unlatched}
 use Rattle.machine.specs.Steps.{pinned, unpin, unlatch, ended, goes-on, finished, guarded, entry-blockers, group-blockers, read-step, written, write-step, entry-step, insert-step, remove-step, change-step, pairs-of, memberships, last-take, take-desc, take-step, arrived, enter-step, stepped, taking-part, descended, level-step, pin-step, make-step, removable, tidy-step, lowest-step, stand-step, at-step, first-step, next-step, oldest, settled}
-use Rattle.machine.specs.Calls.{Call, format, begin, put, step, commit, abort, refusing, first-stage, accepted, leave, undo, undo-all, end-hand, earlier, begun-many, renumbered, begins, commits, aborts, steps, call}
+use Rattle.machine.specs.Calls.{Call, format, begin, put, step, commit, abort, ask, recover, refusing, first-stage, accepted, leave, undo, undo-all, end-hand, earlier, begun-many, renumbered, begins, commits, aborts, asks, lapse, recovers, steps, call}
 
 -- ---- what a line answers: the answer, and the pairs that it writes in the list
 
@@ -100,6 +100,13 @@ c p = does (commit p)
 abbrev pub a : ℕ → Line
 a p = does (abort p)
 
+-- M-105: k ask, v recover.
+abbrev pub k : ℕ → Line
+k p = does (ask p)
+
+abbrev pub v : Line
+v = does recover
+
 -- ---- trees of keys, to write a tree down
 
 -- A lowest node with these keys, up to u; a node over others. Each is given its latch word: 0, or that of a party.
@@ -132,7 +139,7 @@ size (suc h) x = suc (sumE (size h) (x .sons))
 -- k begun sessions that hold nothing, with numbers from n on in the order of begins.
 abbrev pub begun-from : ℕ → ℕ → List Session
 begun-from n zero = []
-begun-from n (suc k) = record { begun = true; order = n; hand = none; undos = [] } ∷ begun-from (suc n) k
+begun-from n (suc k) = record { begun = true; order = n; hand = none; undos = []; asked = false } ∷ begun-from (suc n) k
 
 -- M entries without value, n free records, a tree of empty groups, all sessions begun in turn and holding nothing.
 abbrev pub planted : ℕ → ℕ → (h : ℕ) → (T ℕ ℕ (suc h) × ℕ) → State
@@ -275,7 +282,7 @@ told-at (from x) = []
 
 -- To unfold it is to unfold the whole machine.
 unfoldable pub result : {N : Type 0} → Row N → N × List Told × List Seen
-unfolding until perform perform-all started leaves leafAt bitOf including without blockers latch-blockers entryOf sessionOf stored lowest-from gap-below descOf on-entry on-session on-tree on-leaf on-leaves with-member without-member set-hand add-undo fresh halves joined moved-right moved-left mended put-in taken-out at-latch on-latch unlatched pinned unpin unlatch ended goes-on finished guarded entry-blockers group-blockers read-step written write-step entry-step insert-step remove-step change-step pairs-of memberships last-take take-desc take-step arrived enter-step stepped taking-part descended level-step pin-step make-step removable tidy-step lowest-step stand-step at-step first-step next-step oldest settled refusing first-stage accepted leave undo undo-all end-hand earlier begun-many renumbered begins commits aborts steps call
+unfolding until perform perform-all started leaves leafAt bitOf including without blockers latch-blockers entryOf sessionOf stored lowest-from gap-below descOf on-entry on-session on-tree on-leaf on-leaves with-member without-member set-hand add-undo fresh halves joined moved-right moved-left mended put-in taken-out at-latch on-latch unlatched pinned unpin unlatch ended goes-on finished guarded entry-blockers group-blockers read-step written write-step entry-step insert-step remove-step change-step pairs-of memberships last-take take-desc take-step arrived enter-step stepped taking-part descended level-step pin-step make-step removable tidy-step lowest-step stand-step at-step first-step next-step oldest settled refusing first-stage accepted leave undo undo-all end-hand earlier begun-many renumbered begins commits aborts asks lapse recovers steps call
 result y =
     let o = started (y .start) in
     let q = perform-all (y .lines) (o .1) in

@@ -76,7 +76,7 @@ module _ (u : ℕ → List Undone) (us : List Undone) where
   undos-other : (p j : ℕ) (x : Session) → ¬ (j ≡ p) → session-in (put-at p us u) j x ≡ session-in u j x
   undos-other p zero x n = refl
   undos-other p (suc j) x n =
-      ap (λ v. record { begun = not (eqb (x .begun) 0); order = x .order; hand = hand-of x; undos = map (λ y. y .undo) v }) (put-there p us u (suc j) n)
+      ap (λ v. record { begun = not (eqb (x .begun) 0); order = x .order; hand = hand-of x; undos = map (λ y. y .undo) v; asked = not (eqb (x .asked) 0) }) (put-there p us u (suc j) n)
 
   sessions-beyond : (p q : ℕ) (t : List Session) → p < q → sessions-in (put-at p us u) q t ≡ sessions-in u q t
   sessions-beyond p q [] l = refl
@@ -107,22 +107,22 @@ logged-state L t T d ms p new f E y l b h =
     let U = put-at P us (L .undos) in
     let table = sessions-in (L .undos) 0 t in
     let old = getD table P idle in
-    let one : M.Session = record { begun = old .begun; order = old .order; hand = old .hand; undos = new .undo ∷ old .undos } in
+    let one : M.Session = record { begun = old .begun; order = old .order; hand = old .hand; undos = new .undo ∷ old .undos; asked = old .asked } in
     let was : old ≡ session-in (L .undos) P (session-at t P) = session-means L t P l in
     let z : 0 + P ≡ P = omega arith in
     let a : sessions-in U 0 (set t P y) ≡ set table P (session-in U P y) =
     subst (λ n. sessions-in (put-at n us (L .undos)) 0 (set t P y) ≡ set table P (session-in (put-at n us (L .undos)) n y)) z (sessions-log (L .undos) us 0 P t y) in
-    let c : session-in U P y ≡ record { begun = not (eqb (session-at t P .begun) 0); order = session-at t P .order; hand = none; undos = new .undo ∷ map (λ q. q .undo) (L .undos P) } =
-    ap (λ v. record { begun = not (eqb (y .begun) 0); order = y .order; hand = hand-of y; undos = map (λ q. q .undo) v }) (put-here P us (L .undos))
-    ∙ ap₂ (λ (v : ℕ × ℕ) w. record { begun = not (eqb (v .0) 0); order = v .1; hand = w; undos = new .undo ∷ map (λ q. q .undo) (L .undos P) }) b h in
-    let e : session-in U P y ≡ record { begun = old .begun; order = old .order; hand = none; undos = new .undo ∷ old .undos } =
-    c ∙ ap (λ (v : M.Session). record { begun = v .begun; order = v .order; hand = none; undos = new .undo ∷ v .undos }) (sym was) in
+    let c : session-in U P y ≡ record { begun = not (eqb (session-at t P .begun) 0); order = session-at t P .order; hand = none; undos = new .undo ∷ map (λ q. q .undo) (L .undos P); asked = not (eqb (session-at t P .asked) 0) } =
+    ap (λ v. record { begun = not (eqb (y .begun) 0); order = y .order; hand = hand-of y; undos = map (λ q. q .undo) v; asked = not (eqb (y .asked) 0) }) (put-here P us (L .undos))
+    ∙ ap₂ (λ (v : ℕ × ℕ × ℕ) w. record { begun = not (eqb (v .0) 0); order = v .1; hand = w; undos = new .undo ∷ map (λ q. q .undo) (L .undos P); asked = not (eqb (v .2) 0) }) b h in
+    let e : session-in U P y ≡ record { begun = old .begun; order = old .order; hand = none; undos = new .undo ∷ old .undos; asked = old .asked } =
+    c ∙ ap (λ (v : M.Session). record { begun = v .begun; order = v .order; hand = none; undos = new .undo ∷ v .undos; asked = v .asked }) (sym was) in
     let many : P < length table = tabled L t p l in
     let g : getD (set table P one) P idle ≡ one = getD-set-same table P one idle many in
     ap (λ v. record { entries = E; root = record { height = L .height; node = erase (suc (L .height)) T }; free = length f; table = v; records = L .records })
     (a ∙ ap (set table P) e
-    ∙ sym (set-set table P one (record { begun = old .begun; order = old .order; hand = none; undos = new .undo ∷ old .undos }))
-    ∙ ap (λ (v : M.Session). set (set table P one) P (record { begun = v .begun; order = v .order; hand = none; undos = v .undos })) (sym g))
+    ∙ sym (set-set table P one (record { begun = old .begun; order = old .order; hand = none; undos = new .undo ∷ old .undos; asked = old .asked }))
+    ∙ ap (λ (v : M.Session). set (set table P one) P (record { begun = v .begun; order = v .order; hand = none; undos = v .undos; asked = v .asked })) (sym g))
   where
     many-in : (u : ℕ → List Undone) (q : ℕ) (t : List Session) → length (sessions-in u q t) ≡ length t
     many-in u q [] = refl

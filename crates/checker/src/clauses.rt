@@ -1,4 +1,6 @@
-// Clauses: the paragraph's clauses by number, in its order, and what each asks of records, parties and entries; last the clause that M-101 adds.
+// Clauses: the paragraph's clauses by number, in its order, and what each asks of records, parties and entries; last the clauses that M-101 and
+// M-105 add.
+use super::asks::are_asked_idle;
 use super::holders::agree_on_entry;
 use super::holders::are_begun;
 use super::orders::are_apart;
@@ -95,7 +97,9 @@ pub const UNDONE: u32 = 29;
 
 pub const ORDERS: u32 = 30;
 
-pub const CLAUSES: u32 = 31;
+pub const ASKED: u32 = 31;
+
+pub const CLAUSES: u32 = 32;
 
 // Does the membership in record i, at place j, keep clause c?
 fn member_keeps(s: &[u32], list: &List, n: u32, c: u32, j: u32, i: u32) -> bool {
@@ -185,6 +189,7 @@ pub fn keeps(s: &[u32], t: &Table, list: &List, n: u32, c: u32) -> bool {
         // "key 0 is stored"
         ZERO_STORED => found(s, list, n, DESCRIPTOR, 0, 0) != 0,
         ORDERS => are_apart(t),
+        ASKED => are_asked_idle(t),
         _ => {
             all_items_keep(s, t, list, n, c)
                 && all_parties_keep(s, t, list, n, c)

@@ -1,9 +1,10 @@
-// Checker: a second judge of soundness, written from document 01's paragraph "Sound means", document 02's M-101 and M-104 and readings 15, 16 and 28 of
-// docs/DECISIONS.md, a function for each clause in its order.
+// Checker: a second judge of soundness, written from document 01's paragraph "Sound means", document 02's M-101, M-104 and M-105 and readings 15, 16, 28
+// and 46 of docs/DECISIONS.md, a function for each clause in its order.
 //
 // It is slow on purpose: it lists every record as it is reached and then looks through that list again and again. It has no definition and
 // shares no code with the store's own test, so that the two can be held against each other. It takes any words and any session records, and
 // its contracts say only that it is safe and ends. It rests on sessions for the session record.
+mod asks;
 pub mod clauses;
 mod holders;
 mod orders;

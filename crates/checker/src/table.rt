@@ -7,7 +7,7 @@ pub const PARTIES: u32 = 17;
 
 pub const ROWS: usize = PARTIES as usize;
 
-const ROW_WORDS: usize = 14;
+const ROW_WORDS: usize = 15;
 
 pub type Table = [[u32; ROW_WORDS]; ROWS];
 
@@ -40,6 +40,8 @@ pub const UNDO: usize = 12;
 
 pub const ORDER: usize = 13;
 
+pub const ASKED: usize = 14;
+
 // The stages of a request in hand.
 pub const NONE: u32 = 0;
 
@@ -69,6 +71,7 @@ fn row(x: Session) -> [u32; ROW_WORDS] {
         x.last,
         x.undo,
         x.order,
+        x.asked,
     ]
 }
 

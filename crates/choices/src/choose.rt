@@ -7,9 +7,11 @@ use crate::keys::some_descriptor;
 use crate::keys::some_entry;
 use crate::keys::some_key;
 use crate::kinds::ALL;
+use crate::kinds::KINDS;
 use crate::kinds::set_phase;
 use crate::shares::COMMITS;
 use crate::shares::HOUSEKEEPER;
+use crate::shares::RECOVERS;
 use crate::shares::RISE;
 use crate::shares::code;
 use crate::shares::share;
@@ -17,6 +19,7 @@ use books::book::CHANGED;
 use books::book::KEYS;
 use books::book::Model;
 use books::book::PHASE;
+use books::book::ROUND;
 use books::book::SESSIONS;
 use books::call;
 use books::call::Call;
@@ -124,8 +127,9 @@ fn any_call(b: &mut Book, kind: u32) -> Call {
     }
 }
 
+// A call of any kind but recover, with any words.
 fn raw(b: &mut Book) -> Call {
-    let kind = below(b, 7);
+    let kind = below(b, 8);
     if kind == call::FORMAT {
         bad_format(b)
     } else {
@@ -236,6 +240,15 @@ fn commits(b: &mut Book, n: u32) -> bool {
     0 < n && chance(b, k, 32)
 }
 
+// A session that is ready commits, or is asked first.
+fn ready(b: &mut Book, p: u32) -> Call {
+    if chance(b, 1, 2) {
+        plain(call::ASK, p)
+    } else {
+        plain(call::COMMIT, p)
+    }
+}
+
 // One of so many new requests of sessions is the first of a day.
 const DAYS: u32 = 8;
 
@@ -243,7 +256,9 @@ const DAYS: u32 = 8;
 fn idle(s: &Side, b: &mut Book, p: u32) -> Call {
     let n = get(b, hand(p) + FINISHED);
     if commits(b, n) {
-        plain(call::COMMIT, p)
+        ready(b, p)
+    } else if chance(b, 1, 80) {
+        plain(call::ASK, p)
     } else if chance(b, 1, 30) {
         plain(call::ABORT, p)
     } else if chance(b, 1, DAYS) {
@@ -260,8 +275,24 @@ fn busy(b: &mut Book, p: u32) -> Call {
         plain(call::ABORT, p)
     } else if chance(b, 1, 200) {
         plain(call::ABORT, p)
+    } else if chance(b, 1, 200) {
+        plain(call::ASK, p)
     } else {
         step(b, p)
+    }
+}
+
+// An asked session: it is committed or aborted, or makes a call that is refused.
+fn asked(s: &Side, b: &mut Book, p: u32) -> Call {
+    match below(b, 32) {
+        0 | 1 => plain(call::ABORT, p),
+        2 | 3 => plain(call::ASK, p),
+        4 => plain(call::BEGIN, p),
+        5 | 6 => step(b, p),
+        7 | 8 => begin_day(s, b, p),
+        9 => request(p, any_word(b), any_word(b), any_word(b), any_word(b)),
+        10 | 11 | 12 | 13 => some_request(s, b, p),
+        _ => plain(call::COMMIT, p),
     }
 }
 
@@ -285,11 +316,21 @@ fn any_session(b: &mut Book) -> u32 {
     wrapping_add_u32(below(b, n), 1)
 }
 
-// A session, less often one whose last step waited.
-fn some_session(b: &mut Book) -> u32 {
+// A session, less often one that is asked, so that it stays so for a while.
+fn mostly_open(a: &Model, b: &mut Book) -> u32 {
     let p = any_session(b);
-    if get(b, hand(p) + WAITED) != 0 {
+    if naive::asked(a, p) && chance(b, 7, 8) {
         any_session(b)
+    } else {
+        p
+    }
+}
+
+// A session, less often one whose last step waited.
+fn some_session(a: &Model, b: &mut Book) -> u32 {
+    let p = mostly_open(a, b);
+    if get(b, hand(p) + WAITED) != 0 {
+        mostly_open(a, b)
     } else {
         p
     }
@@ -297,8 +338,10 @@ fn some_session(b: &mut Book) -> u32 {
 
 // A call of a session, as it stands.
 fn of_session(s: &Side, a: &Model, b: &mut Book) -> Call {
-    let p = some_session(b);
-    if goes_on(a, b, p) {
+    let p = some_session(a, b);
+    if naive::asked(a, p) {
+        asked(s, b, p)
+    } else if goes_on(a, b, p) {
         go_on(b, p)
     } else if naive::in_hand(a, p) {
         busy(b, p)
@@ -317,9 +360,23 @@ fn housekeeper(s: &Side, a: &Model, b: &mut Book) -> Call {
     }
 }
 
+// Of how many calls one is a recover: in every second round of a kind far fewer, so that sessions and waits last longer.
+fn recover_every(b: &Book) -> u32 {
+    let n = share(b, RECOVERS);
+    if get(b, ROUND) / KINDS % 2 == 0 {
+        n
+    } else {
+        8 * (n % 1024)
+    }
+}
+
 fn choose(s: &Side, a: &Model, b: &mut Book) -> Call {
     if chance(b, 1, 24) {
         return raw(b);
+    }
+    let every = recover_every(b);
+    if chance(b, 1, every) {
+        return plain(call::RECOVER, 0);
     }
     let n = share(b, HOUSEKEEPER);
     if chance(b, n, 32) {

@@ -3,8 +3,8 @@ use crate::shares::GROW;
 use crate::shares::MIX;
 use crate::shares::RISE;
 use crate::shares::SHRINK;
-use books::book::ASKED;
 use books::book::CALL;
+use books::book::CHECKS;
 use books::book::ENTRIES;
 use books::book::PHASE;
 use books::book::RECORDS;
@@ -27,7 +27,7 @@ use schedules::side::RECORD_WORDS;
 use std::num::wrapping_add_u32;
 
 // How many kinds of rounds there are.
-const KINDS: u32 = 10;
+pub const KINDS: u32 = 10;
 
 // All sessions.
 pub const ALL: u32 = side::SESSIONS;
@@ -62,7 +62,7 @@ fn turns(records: u32) -> u32 {
     if records < 100 { 6000 } else { 10000 }
 }
 
-fn asked(records: u32) -> u32 {
+fn checks(records: u32) -> u32 {
     if records < 100 { 2 } else { 1 + records / 8 }
 }
 
@@ -76,7 +76,7 @@ const RECORD: u32 = RECORD_WORDS as u32;
 fn set_size(b: &mut Book, records: u32) {
     put(b, RECORDS, records);
     put(b, TURNS, turns(records));
-    put(b, ASKED, asked(records));
+    put(b, CHECKS, checks(records));
     let m = get(b, ENTRIES);
     let fit = HEADER + ENTRY * (m % 64) + RECORD * (records % 1024);
     let words = wrapping_add_u32(fit, below(b, 20));

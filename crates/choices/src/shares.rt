@@ -11,12 +11,15 @@ pub const SHRINK: u32 = 2;
 
 pub const RISE: u32 = 3;
 
-// Of 32 sessions that have finished something, how many commit; of 32 calls, how many are the housekeeper's; of 8 keys, how many are stored ones.
+// Of 32 sessions that have finished something, how many commit; of 32 calls, how many are the housekeeper's; of 8 keys, how many are stored ones; of how
+// many calls one is a recover.
 pub const COMMITS: u32 = 0;
 
 pub const HOUSEKEEPER: u32 = 4;
 
 pub const STORED: u32 = 8;
+
+pub const RECOVERS: u32 = 12;
 
 pub fn share(b: &Book, which: u32) -> u32 {
     match which ^ get(b, PHASE) {
@@ -31,7 +34,11 @@ pub fn share(b: &Book, which: u32) -> u32 {
         8 => 1,
         9 => 4,
         10 => 7,
-        _ => 0,
+        11 => 0,
+        12 => 250,
+        13 => 180,
+        14 => 200,
+        _ => 600,
     }
 }
 

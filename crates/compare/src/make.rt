@@ -3,14 +3,16 @@ use crate::content::see_copy;
 use crate::days::day_on_store;
 use crate::judge::judge;
 use crate::serve::on_store;
-use books::book::ASKED;
 use books::book::CALL;
+use books::book::CHECKS;
 use books::book::Model;
 use books::call::COMMIT;
 use books::call::Call;
 use books::call::DAY;
 use books::call::OK;
+use books::call::RECOVER;
 use books::call::store_words;
+use books::checks::ask_checker;
 use books::looks::see;
 use schedules::book::Book;
 use schedules::book::get;
@@ -19,13 +21,14 @@ use schedules::side::Side;
 use schedules::side::copy;
 use turns::answers::is_still;
 use turns::answers::see_call;
+use turns::answers::see_rest;
 use turns::days::see_day;
 use turns::hands::after;
 use turns::model::on_model;
 
 // Is the checker to be asked at this call?
 fn is_due(b: &Book) -> bool {
-    let every = get(b, ASKED);
+    let every = get(b, CHECKS);
     if every == 0 {
         return false;
     }
@@ -59,7 +62,11 @@ fn make_other(s: &mut Side, a: &mut Model, b: &mut Book, c: Call) {
     let x = on_store(s, b, store_words(b, c), c);
     let y = on_model(a, b, c);
     see_call(s, b, c.kind, x, y);
+    see_rest(s, b, c, x.word);
     after(b, c, x.word, x.first);
+    if c.kind == RECOVER {
+        ask_checker(s, b);
+    }
     let is_commit = c.kind == COMMIT && x.word == OK;
     look(s, a, b, is_commit, !is_still(x.word, x.first));
 }

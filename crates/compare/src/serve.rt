@@ -1,5 +1,6 @@
-// Serve: a call made on the store; every second one as a batch of one ask, a step as a run of one, with the answer read off its number.
+// Serve: a call made on the store; every second one that a batch can have as a batch of one, a step as a run of one, with the answer read off its number.
 use books::book::CALL;
+use books::call::ASK;
 use books::call::BEGIN;
 use books::call::COMMIT;
 use books::call::Call;
@@ -8,6 +9,7 @@ use books::call::FORMAT;
 use books::call::MORE;
 use books::call::OK;
 use books::call::PUT;
+use books::call::RECOVER;
 use books::call::REFUSED;
 use books::call::STEP;
 use books::call::WAIT;
@@ -37,6 +39,8 @@ fn served(store: &mut [u32], list: &mut [u32], t: [Session; PARTIES], c: Call) -
         PUT => calls::put(store, t, p, c.code, c.entry, c.first, c.second),
         STEP => calls::step(store, list, t, p),
         COMMIT => calls::commit(store, t, p),
+        ASK => calls::ask(store, t, p),
+        RECOVER => calls::recover(store, t),
         _ => calls::abort(store, t, p),
     }
 }
@@ -57,13 +61,19 @@ fn alone(store: &mut [u32], list: &mut [u32], t: [Session; PARTIES], c: Call) ->
     }
 }
 
-// The kind of the ask that a call is.
+// Can a batch have a call of this kind?
+fn is_batched(kind: u32) -> bool {
+    kind != FORMAT && kind != RECOVER
+}
+
+// The kind that the call has in a batch.
 fn ask_kind(kind: u32) -> u32 {
     match kind {
         BEGIN => 1,
         PUT => 2,
         STEP => 6,
         COMMIT => 4,
+        ASK => 8,
         _ => 5,
     }
 }
@@ -125,7 +135,7 @@ fn make(
     is_batch: bool,
 ) -> Reply {
     if is_batch {
-        if c.kind != FORMAT {
+        if is_batched(c.kind) {
             return in_batch(store, list, t, c);
         }
     }

@@ -42,6 +42,7 @@ fn session(w: &Words, p: u32) -> Session {
         last: field(w, p, 11),
         undo: field(w, p, 12),
         order: field(w, p, 13),
+        asked: field(w, p, 14),
     }
 }
 

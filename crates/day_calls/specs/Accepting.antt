@@ -19,7 +19,7 @@ use Rattle.serial.specs.Serial.{true≢false}
 use Rattle.machine.specs.Calls.{no-party}
 use Rattle.meaning.specs.Reading.{M-of}
 use Rattle.meaning.specs.Sound.{Sound}
-use Rattle.refusals.specs.Refusing.{first-of, begun-in, hand-in, step-list, put-list, request-list}
+use Rattle.refusals.specs.Refusing.{first-of, begun-in, asked-in, hand-in, step-list, put-list, request-list}
 use Rattle.refusals.specs.Coded.{value-list, change-list, value-first, change-first}
 use Rattle.promises.specs.Ways.{none-true}
 use Rattle.day_calls.specs.Calling.{Handed, handed, day-count, named, other-in-hand, bad-day, day-list}
@@ -52,6 +52,7 @@ pub record CanPut (s : List ℕ) (t : List Session) (p n : ℕ) (r : DayRequest)
 pub record Passed (m : ℕ) (t : List Session) (p : ℕ) (h : Handed) : Type 0 where
   pub party : no-party p ≡ false
   pub begun : not (begun-in t p) ≡ false
+  pub unasked : asked-in t p ≡ false
   pub session : ¬ (p ≡ 0)
   pub whole : ¬ (length (h .bytes) % 2 ≡ 1)
   pub is-proper : proper (words (h .bytes)) ≡ true
@@ -76,7 +77,8 @@ unfolding bad-day
 passed m t p h z =
     let a = none-true 4 (no-party p) _ (λ q. omega (arith, q)) z in
     let b = none-true 5 (not (begun-in t p)) _ (λ q. omega (arith, q)) (a .1) in
-    let c = none-true 6 (eqb p 0) _ (λ q. omega (arith, q)) (b .1) in
+    let k = none-true 21 (asked-in t p) _ (λ q. omega (arith, q)) (b .1) in
+    let c = none-true 6 (eqb p 0) _ (λ q. omega (arith, q)) (k .1) in
     let d = none-true 13 (eqb (length (h .bytes) % 2) 1) _ (λ q. omega (arith, q)) (c .1) in
     let e = none-true 14 (bad-day (session-at t p) h) _ (λ q. omega (arith, q)) (d .1) in
     let f = none-true 8 (eqb (h .entry) 0 || ltb (m + 1) (h .entry + day-count h)) _ (λ q. omega (arith, q)) (e .1) in
@@ -89,6 +91,7 @@ passed m t p h z =
     record {
       party = a .0;
       begun = b .0;
+      unasked = k .0;
       session = eqb-false p 0 (c .0);
       whole = eqb-false (length (h .bytes) % 2) 1 (d .0);
       is-proper = not-no (proper (words (h .bytes))) (e₁ .0);
@@ -151,7 +154,7 @@ change-passes m p e f n l h i j = rw (ne-eqb p 0 n, ne-eqb e 0 (λ q. omega (ari
 pub put-passes : (m : ℕ) (t : List Session) (p : ℕ) (h : Handed) → Passed m t p h → hand-in t p ≡ false → (g : ℕ)
     → first-of (put-list m t p (named h .code) (named h .entry) (named h .first) g) ≡ 0
 unfolding first-of
-put-passes m t p h P e g = rw (P .party, P .begun, e) (go (named h) (named-fits m t p h P))
+put-passes m t p h P e g = rw (P .party, P .begun, P .unasked, e) (go (named h) (named-fits m t p h P))
   where
     go : (r : DayRequest) → Fitting m r → first-of (request-list m p (r .code) (r .entry) (r .first) g) ≡ 0
     go r F = by (F .kind)

@@ -13,7 +13,7 @@ use Rattle.serial.specs.Calls as C
 use Rattle.machine.specs.Calls.{no-party}
 use Rattle.meaning.specs.Reading.{M-of}
 use Rattle.meaning.specs.Sound.{Sound}
-use Rattle.refusals.specs.Refusing.{first-of, begun-in, hand-in}
+use Rattle.refusals.specs.Refusing.{first-of, begun-in, asked-in, hand-in}
 use Rattle.promises.specs.Ways.{Serves}
 use Rattle.outcomes.specs.declared.DayAnswer.{DayAnswer}
 use Rattle.outcomes.specs.declared.DayAnswer.the-variants.{Ok, More, Wait, Done, Refused}
@@ -52,7 +52,7 @@ number-list m n driver start entry = (8, eqb entry 0 || ltb (m + 1) (entry + n))
 -- After 1 and 2, in order.
 abbrev pub day-list : ℕ → List Session → ℕ → Handed → List (ℕ × Bool)
 day-list m t p h =
-    (4, no-party p) ∷ (5, not (begun-in t p)) ∷ (6, eqb p 0) ∷ (13, eqb (length (h .bytes) % 2) 1) ∷ (14, bad-day (session-at t p) h)
+    (4, no-party p) ∷ (5, not (begun-in t p)) ∷ (21, asked-in t p) ∷ (6, eqb p 0) ∷ (13, eqb (length (h .bytes) % 2) 1) ∷ (14, bad-day (session-at t p) h)
     ∷ number-list m (day-count h) (h .driver) (h .start) (h .entry)
 
 -- The number of the first that holds, 0 for none.

@@ -53,7 +53,7 @@ next-place j (Wait q i) = i
 next-place j (Done n i) = i
 next-place j (Refused n k) = j
 
--- A call of another party than p that is no format.
+-- A call of another party than p that is no format and no recover, which may end p's session.
 abbrev pub Off : ℕ → C.Call → Type 0
 Off p (C.format m) = ⊥
 Off p (C.begin q) = ¬ (q ≡ p)
@@ -61,6 +61,8 @@ Off p (C.put q c e f g) = ¬ (q ≡ p)
 Off p (C.step q l) = ¬ (q ≡ p)
 Off p (C.commit q) = ¬ (q ≡ p)
 Off p (C.abort q) = ¬ (q ≡ p)
+Off p (C.ask q) = ¬ (q ≡ p)
+Off p C.recover = ⊥
 
 abbrev pub Other : ℕ → Mixed → Type 0
 Other p (plain k) = Off p (k .call)
@@ -130,6 +132,12 @@ off-tells p (C.abort q) C.more l t n = refl
 off-tells p (C.abort q) (C.wait w) l t n = refl
 off-tells p (C.abort q) (C.done ns) l t n = refl
 off-tells p (C.abort q) (C.refused i k) l t n = refl
+off-tells p (C.ask q) C.ok l t n = refl
+off-tells p (C.ask q) C.more l t n = refl
+off-tells p (C.ask q) (C.wait w) l t n = refl
+off-tells p (C.ask q) (C.done ns) l t n = refl
+off-tells p (C.ask q) (C.refused i k) l t n = refl
+off-tells p C.recover a l t n = absurd n
 
 ordinary-off : (p q : ℕ) (h : Handed) (t : List Session) → ¬ (q ≡ p) → Off p (ordinary t q h)
 ordinary-off p q h t n = go (hand-in t q)

@@ -5,7 +5,7 @@ use mathlib.Core.List.{List, [], _∷_}
 use mathlib.Core.Logic.{_⊎_, inl, inr, _↔_}
 use Prim.Native.Nat.{ℕ, _+_, _*_, _/_, _%_, _≤_, _<_}
 use native.Mathlib.Omega.{arith}
-use lib.Dec.{leb}
+use lib.Dec.{eqb, leb}
 use lib.ListN.{length}
 use borrow.Author.Tests.{eq-eqb, ne-eqb, le-leb, lt-leb, le-ltb, lt-ltb, not-true, not-false}
 use Rattle.card_days.specs.declared.DayRequest.{DayRequest}
@@ -19,7 +19,7 @@ use Rattle.machine.specs.Holders.{width}
 use Rattle.meaning.specs.Reading.{M-of}
 use Rattle.meaning.specs.Sound.{Sound}
 use Rattle.meaning.specs.Parts.{entries-are, entries-many}
-use Rattle.refusals.specs.Refusing.{first-of, begun-in, hand-in, put-list, step-list}
+use Rattle.refusals.specs.Refusing.{first-of, hand-in, put-list, step-list, party-list, party-refused, party-passed, check-holds, check-passed}
 use Rattle.promises.specs.Ways.{Serves}
 use Rattle.outcomes.specs.declared.DayAnswer.{DayAnswer}
 use Rattle.outcomes.specs.declared.DayAnswer.the-variants.{Refused}
@@ -102,36 +102,47 @@ module _ (m n driver start entry : ℕ) where
 -- ---- the list
 
 module _ (m : ℕ) (t : List Session) (p : ℕ) (h : Handed) where
-  pub list-4 : width < p → 4 ≡ first-of (day-list m t p h)
-  unfolding first-of
-  list-4 l = rw (lt-ltb width p l) refl
+  abbrev from-14 : List (ℕ × Bool)
+  from-14 = (14, bad-day (session-at t p) h) ∷ number-list m (day-count h) (h .driver) (h .start) (h .entry)
 
-  pub list-5 : (b : Bool) → b ≡ begun-in t p → p ≤ width → not b ≡ true → 5 ≡ first-of (day-list m t p h)
-  unfolding first-of
-  list-5 b e l n = rw (le-ltb width p l, sym e ∙ not-true b n) refl
+  abbrev from-13 : List (ℕ × Bool)
+  from-13 = (13, eqb (length (h .bytes) % 2) 1) ∷ from-14
 
-  pub list-6 : (b : Bool) → b ≡ begun-in t p → p ≤ width → not b ≡ false → p ≡ 0 → 6 ≡ first-of (day-list m t p h)
-  unfolding first-of
-  list-6 b e l n z = rw (le-ltb width p l, sym e ∙ not-false b n, eq-eqb p 0 z) refl
+  abbrev from-6 : List (ℕ × Bool)
+  from-6 = (6, eqb p 0) ∷ from-13
 
-  pub list-13 : (b : Bool) → b ≡ begun-in t p → p ≤ width → not b ≡ false → ¬ (p ≡ 0) → length (h .bytes) % 2 ≡ 1 → 13 ≡ first-of (day-list m t p h)
-  unfolding first-of
-  list-13 b e l n z o = rw (le-ltb width p l, sym e ∙ not-false b n, ne-eqb p 0 z, eq-eqb (length (h .bytes) % 2) 1 o) refl
+  -- What refuses any request,
+  pub list-party : {i : ℕ} → i ≡ first-of (party-list t p) → ¬ (i ≡ 0) → i ≡ first-of (day-list m t p h)
+  list-party e z = party-refused t p from-6 e z
 
-  module _ (b : Bool) (x : Session) (g : Bool) (n : ℕ) (r : DayRequest) (z : Bool) (e : b ≡ begun-in t p) (u : x ≡ session-at t p) (R : Reads h g n r) (q : z ≡ bad x g n r (h .place)) where
-    seat-bad : z ≡ bad-day (session-at t p) h
-    seat-bad = q ∙ bad-is h x g n r R ∙ ap (λ v. bad-day v h) u
+  -- and the rest where nothing of that does.
+  module _ {i : ℕ} (e : i ≡ first-of (party-list t p)) (z : i ≡ 0) where
+    late : first-of from-6 ≡ first-of (day-list m t p h)
+    late = party-passed t p from-6 e z
 
-    pub list-14 : p ≤ width → not b ≡ false → ¬ (p ≡ 0) → ¬ (length (h .bytes) % 2 ≡ 1) → z ≡ true → 14 ≡ first-of (day-list m t p h)
-    unfolding first-of
-    list-14 l k i o y = rw (le-ltb width p l, sym e ∙ not-false b k, ne-eqb p 0 i, ne-eqb (length (h .bytes) % 2) 1 o, sym seat-bad ∙ y) refl
+    pub list-6 : p ≡ 0 → 6 ≡ first-of (day-list m t p h)
+    list-6 n = check-holds 6 (eqb p 0) from-13 (eq-eqb p 0 n) ∙ late
 
-    pub list-rest : p ≤ width → not b ≡ false → ¬ (p ≡ 0) → ¬ (length (h .bytes) % 2 ≡ 1) → z ≡ false → (v : ℕ) → v ≡ first-of (number-list m n (h .driver) (h .start) (h .entry))
-        → v ≡ first-of (day-list m t p h)
-    unfolding first-of
-    list-rest l k i o y v w =
-        rw (le-ltb width p l, sym e ∙ not-false b k, ne-eqb p 0 i, ne-eqb (length (h .bytes) % 2) 1 o, sym seat-bad ∙ y)
-        (w ∙ ap (λ a. first-of (number-list m a (h .driver) (h .start) (h .entry))) (R .count-is))
+    later : {k : ℕ} → ¬ (p ≡ 0) → k ≡ first-of from-13 → k ≡ first-of (day-list m t p h)
+    later n q = check-passed 6 (eqb p 0) from-13 (ne-eqb p 0 n) q ∙ late
+
+    pub list-13 : ¬ (p ≡ 0) → length (h .bytes) % 2 ≡ 1 → 13 ≡ first-of (day-list m t p h)
+    list-13 n o = later n (check-holds 13 (eqb (length (h .bytes) % 2) 1) from-14 (eq-eqb (length (h .bytes) % 2) 1 o))
+
+    last : {k : ℕ} → ¬ (p ≡ 0) → ¬ (length (h .bytes) % 2 ≡ 1) → k ≡ first-of from-14 → k ≡ first-of (day-list m t p h)
+    last n o q = later n (check-passed 13 (eqb (length (h .bytes) % 2) 1) from-14 (ne-eqb (length (h .bytes) % 2) 1 o) q)
+
+    module _ (x : Session) (g : Bool) (n : ℕ) (r : DayRequest) (y : Bool) (u : x ≡ session-at t p) (R : Reads h g n r) (q : y ≡ bad x g n r (h .place)) where
+      seat-bad : y ≡ bad-day (session-at t p) h
+      seat-bad = q ∙ bad-is h x g n r R ∙ ap (λ v. bad-day v h) u
+
+      pub list-14 : ¬ (p ≡ 0) → ¬ (length (h .bytes) % 2 ≡ 1) → y ≡ true → 14 ≡ first-of (day-list m t p h)
+      list-14 k o f = last k o (check-holds 14 (bad-day (session-at t p) h) (number-list m (day-count h) (h .driver) (h .start) (h .entry)) (sym seat-bad ∙ f))
+
+      pub list-rest : ¬ (p ≡ 0) → ¬ (length (h .bytes) % 2 ≡ 1) → y ≡ false → (v : ℕ) → v ≡ first-of (number-list m n (h .driver) (h .start) (h .entry))
+          → v ≡ first-of (day-list m t p h)
+      list-rest k o f v w = last k o (check-passed 14 (bad-day (session-at t p) h) (number-list m (day-count h) (h .driver) (h .start) (h .entry)) (sym seat-bad ∙ f)
+          (w ∙ ap (λ a. first-of (number-list m a (h .driver) (h .start) (h .entry))) (R .count-is)))
 
   -- Where 14 does not hold the stretches are few.
   pub few-there : (x : Session) (g : Bool) (n : ℕ) (r : DayRequest) (z : Bool) → Reads h g n r → z ≡ bad x g n r (h .place) → z ≡ false → n ≤ 1440

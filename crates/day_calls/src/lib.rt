@@ -153,13 +153,10 @@ fn day_refusal(
     requires { ⌜ Reads (handed (now bytes) driver start entry place) (d .good) (d .count) (d .request) ⌝ }
     ensures { λ r. ⌜ r ≡ first-of (day-list m t p (handed (now (bytes .entry)) driver start entry place)) ⌝ }
 {
-    let begun = refusals::is_begun(t, p);
+    let i = refusals::party_refusal(t, p);
     let x = refusals::seat(t, p);
-    if PARTIES <= p as usize {
-        return 4;
-    }
-    if !begun {
-        return 5;
+    if i != 0 {
+        return i;
     }
     if p == 0 {
         return 6;

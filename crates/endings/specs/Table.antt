@@ -20,6 +20,7 @@ idled x =
       last = x .last;
       undo = x .undo;
       order = x .order;
+      asked = x .asked;
     }
 
 -- no request in hand, and record i the newest undo record
@@ -40,9 +41,10 @@ loggedBy x i =
       last = x .last;
       undo = i;
       order = x .order;
+      asked = x .asked;
     }
 
--- as begun and order say, with no request in hand and no undo record
+-- as begun and order say, with no request in hand, no undo record, and not asked
 abbrev pub marked : ℕ → ℕ → Session → Session
 marked begun order x =
     record {
@@ -60,6 +62,28 @@ marked begun order x =
       last = x .last;
       undo = 0;
       order = order;
+      asked = 0;
+    }
+
+-- asked
+unfoldable pub askedNow : Session → Session
+askedNow x =
+    record {
+      begun = x .begun;
+      code = x .code;
+      entry = x .entry;
+      first = x .first;
+      second = x .second;
+      stage = x .stage;
+      target = x .target;
+      at = x .at;
+      level = x .level;
+      low = x .low;
+      high = x .high;
+      last = x .last;
+      undo = x .undo;
+      order = x .order;
+      asked = 1;
     }
 
 unfoldable pub unbegun : Session → Session
@@ -87,4 +111,5 @@ requested x code entry first second stage target =
       last = 0;
       undo = x .undo;
       order = x .order;
+      asked = x .asked;
     }

@@ -13,7 +13,7 @@ ghost use Rattle.sessions.specs.Sessions.{idle-session};
 ghost use Rattle.chain.specs.Walk.{Walk};
 ghost use Rattle.endings.specs.Leave.{IsSession, HasEntries, leaveEntry, leaveEntries, leftDescriptor, leaveGroup, leaveGroups};
 ghost use Rattle.endings.specs.Fresh.{Roomy, freshHeader, freshEntry, freshEntries, zeroDescriptor, freshFree, freshStore};
-ghost use Rattle.endings.specs.Table.{loggedBy, idled, unbegun, newlyBegun, requested};
+ghost use Rattle.endings.specs.Table.{loggedBy, idled, unbegun, newlyBegun, askedNow, requested};
 use groups::Descriptor;
 use sessions::Session;
 
@@ -173,6 +173,7 @@ pub fn fresh_session() -> Session
         last: 0,
         undo: 0,
         order: 0,
+        asked: 0,
     }
 }
 
@@ -201,6 +202,7 @@ pub fn ended_session(mut x: Session) -> Session
     x.stage = 0;
     x.undo = 0;
     x.order = 0;
+    x.asked = 0;
     x
 }
 
@@ -212,6 +214,15 @@ pub fn begun_session(mut x: Session, number: u32) -> Session
     x.stage = 0;
     x.undo = 0;
     x.order = number;
+    x.asked = 0;
+    x
+}
+
+// The session is asked.
+pub fn asked_session(mut x: Session) -> Session
+    ensures { λ r. ⌜ r ≡ askedNow x ⌝ }
+{
+    x.asked = 1;
     x
 }
 
@@ -242,5 +253,6 @@ pub fn put_session(
         last: 0,
         undo: x.undo,
         order: x.order,
+        asked: x.asked,
     }
 }

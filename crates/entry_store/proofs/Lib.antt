@@ -1,4 +1,5 @@
 pub mod Batching
 pub mod Callees
 pub mod Look
+pub mod Sweep
 pub mod Wrap

@@ -15,7 +15,7 @@ use Rattle.machine.specs.Tree.{pick}
 use Rattle.machine.specs.Descent.{Sons}
 use Rattle.machine.specs.State.{Answer, ok, more, wait, done, refused, Outcome, Request, Stage, start, enter, at, change, take, State, Desc, Tree, entryOf, descOf, stored, lowest-from, gap-below, or-none, no-desc, same, sessionOf, fresh}
 use Rattle.machine.specs.Steps.{answer, ended, goes-on, finished, guarded, entry-blockers, group-blockers, shared-state, read-step, written, write-step, excluded-state, entry-step, updating-state, inserted-state, removed-state, insert-step, remove-step, change-step, memberships, passed-state, located-state, last-take, take-desc, take-step, arrived, root-blockers, root-need, root-splits, halved-root, whole-root, enter-step, son-at, level-blockers, level-need, level-state, level-step, pin-step, made-state, make-step, removable, tidied-state, tidy-step, lowest-step, stand-step, at-step, first-step, next-step}
-use Rattle.machine.specs.Calls.{Call, format, begin, put, step, commit, abort, call, steps, records-for, format-checks, begin-checks, put-checks, step-checks, commit-checks, abort-checks, accepted, begins, commits, aborts}
+use Rattle.machine.specs.Calls.{Call, format, begin, put, step, commit, abort, ask, recover, call, steps, records-for, format-checks, begin-checks, put-checks, step-checks, commit-checks, abort-checks, ask-checks, accepted, begins, commits, aborts, asks, recovers}
 use Rattle.machine.specs.Checks.{refusing-numbers}
 use Rattle.machine.specs.Descents.{guard-cases, latch-cases}
 use Rattle.machine.specs.Waits.{settled-step}
@@ -129,10 +129,12 @@ call-brief : (c : Call) (s : State) → Brief (call c s)
 unfolding call
 call-brief (format m w) s = refusing-numbers Brief (format-checks m w) s (answer ok (fresh m (records-for m w))) (refl, tt) (λ h. refl)
 call-brief (begin p) s = refusing-numbers Brief (begin-checks p s) s (answer ok (begins p s)) (refl, (refl, tt)) (λ h. refl)
-call-brief (put p c e f g) s = refusing-numbers Brief (put-checks p c e f g s) s (answer ok (accepted p c e f g s)) (refl, (refl, (refl, (refl, (refl, (refl, (refl, tt))))))) (λ h. refl)
+call-brief (put p c e f g) s = refusing-numbers Brief (put-checks p c e f g s) s (answer ok (accepted p c e f g s)) (refl, (refl, (refl, (refl, (refl, (refl, (refl, (refl, tt)))))))) (λ h. refl)
 call-brief (step p n) s = refusing-numbers Brief (step-checks p s) s (steps p n (sessionOf p s .hand) s) (refl, (refl, (refl, tt))) (λ h. steps-brief p n (sessionOf p s .hand) s)
 call-brief (commit p) s = refusing-numbers Brief (commit-checks p s) s (answer ok (commits p s)) (refl, (refl, (refl, tt))) (λ h. refl)
 call-brief (abort p) s = refusing-numbers Brief (abort-checks p s) s (answer ok (aborts p s)) (refl, (refl, tt)) (λ h. refl)
+call-brief (ask p) s = refusing-numbers Brief (ask-checks p s) s (answer ok (asks p s)) (refl, (refl, (refl, (refl, tt)))) (λ h. refl)
+call-brief recover s = refl
 
 tells-brief : (a : Answer) (b : C.Answer) → Tells a b → brief b ≡ brief-machine a
 tells-brief ok b e = ap brief e

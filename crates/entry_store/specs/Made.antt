@@ -21,7 +21,7 @@ use Rattle.promises.specs.Demands.{Lending, Returns}
 use Rattle.promises.specs.Runs.{lending}
 use Rattle.promises.specs.Words.{formatted-new}
 use Rattle.store.specs.Lent.{Formatted}
-use Rattle.store.specs.Turns.{turn, Lends, formats, begins, puts, steps, commits, aborts, Sound-lent, sound-long, lends-return, lends-sound, functions, Loan, elsewhere, whole, slice, TurnedAway, Looks, unsound-lends, misfit-lends, accepted-format}
+use Rattle.store.specs.Turns.{turn, Lends, formats, begins, puts, steps, commits, aborts, asks, recovers, Sound-lent, sound-long, lends-return, lends-sound, functions, Loan, elsewhere, whole, slice, TurnedAway, Looks, unsound-lends, misfit-lends, accepted-format}
 use Rattle.store.specs.Turns as L
 use Rattle.store.specs.Demand3.{functions-return, functions-laws, start-known}
 use Rattle.packing.specs.Packed.{packed, unpacked-packed, Worded}
@@ -59,6 +59,8 @@ exports-long (puts {a = a} h) n w = record { answer = a; packs = record { is = r
 exports-long (steps {a = a} h) n w = record { answer = a; packs = record { is = refl; words = w }; table-long = n; does = h }
 exports-long (commits {a = a} h) n w = record { answer = a; packs = record { is = refl; words = w }; table-long = n; does = h }
 exports-long (aborts {a = a} h) n w = record { answer = a; packs = record { is = refl; words = w }; table-long = n; does = h }
+exports-long (asks {a = a} h) n w = record { answer = a; packs = record { is = refl; words = w }; table-long = n; does = h }
+exports-long (recovers {a = a} h) n w = record { answer = a; packs = record { is = refl; words = w }; table-long = n; does = h }
 
 exports : {x y : Lending} {k : Turn} → Sound-lent x → Lends x k y → Worded (k .answer) → Exported x (k .call) (packed (k .answer)) (k .list) y
 exports {x} {y} A d = exports-long d (sound-long y (lends-sound A d) ∙ sym (sound-long x A))

@@ -14,6 +14,7 @@ use Rattle.serial.specs.Calls.{Turn, nothing, told, Run, stop, next, Demand-3}
 use Rattle.serial.specs.Calls as C
 use Rattle.serial.specs.Locks.{Kind, Mode}
 use Rattle.serial.specs.Line.{line}
+use Rattle.serial.specs.Recovery.{AskedSince}
 use Rattle.machine.specs.State.{fresh}
 use Rattle.machine.specs.Calls.{records-for}
 use Rattle.machine.specs.Ledger.{no-locks, ledger-after}
@@ -46,7 +47,7 @@ use Rattle.store.specs.Listed.{Listed, RanBy, AskedBy}
 use Rattle.store.specs.Batched as SB
 use Rattle.store.specs.Days.{handed-by, DayBy, served-calls}
 use Rattle.store.specs.Turns.{Sound-lent, sound-long, Loan, TurnedAway}
-use Rattle.store.specs.Servings.{SeenOf, Returned, LoanRefused, Away, Returneds, returneds-demand-3, returneds-holders, returneds-line}
+use Rattle.store.specs.Servings.{SeenOf, Returned, LoanRefused, Away, Returneds, returneds-demand-3, returneds-holders, returneds-line, returneds-ask}
 use Rattle.store.specs.Servings as L
 use Rattle.packing.specs.Packed.{unpacked, unpacked-day, PacksMade, made-steps, made-answer, day-unpacked, day-place-read}
 use Rattle.entry_store.specs.Brief.{brief, calls-brief}
@@ -83,6 +84,7 @@ asks-brief (K.Put p c e f g) s t l a n l′ s′ t′ h = calls-brief (C.put p c
 asks-brief (K.Step p) s t l a n l′ s′ t′ h = calls-brief (C.step p l) s t a l′ s′ t′ (h .0)
 asks-brief (K.Commit p) s t l a n l′ s′ t′ h = calls-brief (C.commit p) s t a [] s′ t′ (h .0)
 asks-brief (K.Abort p) s t l a n l′ s′ t′ h = calls-brief (C.abort p) s t a [] s′ t′ (h .0)
+asks-brief (K.Ask p) s t l a n l′ s′ t′ h = calls-brief (C.ask p) s t a [] s′ t′ (h .0)
 asks-brief (K.Run p b) s t l a n l′ s′ t′ h = steps-brief n p l l′ a (λ z. omega (arith, z, h .within .some)) (h .made)
 asks-brief (K.Request p c e f g b) s t l a n l′ s′ t′ h = asked-brief n p c e f g l l′ a (h .made)
 asks-brief K.Other s t l a n l′ s′ t′ h = ap brief (h .0)
@@ -123,16 +125,17 @@ brief-renamed n j (C.done ns) e = go (ltb (j + 1) (2 * n))
 brief-renamed n j (C.refused m k) e = e
 
 -- Its own refusals have small numbers,
-small-first : (a b c d e f g : Bool) → ltb (first-of ((4, a) ∷ (5, b) ∷ (6, c) ∷ (13, d) ∷ (14, e) ∷ (8, f) ∷ (9, g) ∷ [])) 256 ≡ true
+small-first : (a b k c d e f g : Bool) → ltb (first-of ((4, a) ∷ (5, b) ∷ (21, k) ∷ (6, c) ∷ (13, d) ∷ (14, e) ∷ (8, f) ∷ (9, g) ∷ [])) 256 ≡ true
 unfolding first-of
-small-first true b c d e f g = refl
-small-first false true c d e f g = refl
-small-first false false true d e f g = refl
-small-first false false false true e f g = refl
-small-first false false false false true f g = refl
-small-first false false false false false true g = refl
-small-first false false false false false false true = refl
-small-first false false false false false false false = refl
+small-first true b k c d e f g = refl
+small-first false true k c d e f g = refl
+small-first false false true c d e f g = refl
+small-first false false false true d e f g = refl
+small-first false false false false true e f g = refl
+small-first false false false false false true f g = refl
+small-first false false false false false false true g = refl
+small-first false false false false false false false true = refl
+small-first false false false false false false false false = refl
 
 -- and the call that it is has a brief answer.
 serves-brief : (p : ℕ) (h : Handed) (s : List ℕ) (t : List Session) (a : DayAnswer) (s′ : List ℕ) (t′ : List Session) → Sound s t → DayServes p h s t a s′ t′ → brief (day-said a) ≡ true
@@ -143,7 +146,7 @@ serves-brief p h s t a s′ t′ S d = go (ℕ-discrete (day-refusal s t p h) 0)
         let R = d .accepts z in
         let c = calls-brief (ordinary t p h) s t (R .inner) [] s′ t′ (served-calls (ordinary t p h) s t (R .inner) [] s′ t′ S (R .serves)) in
         ap (λ (b : DayAnswer). brief (day-said b)) (R .answer) ∙ brief-renamed (day-count h) (h .place) (R .inner) c
-    go (no n) = ap (λ (b : DayAnswer). brief (day-said b)) (d .refuses n .answer) ∙ small-first _ _ _ _ _ _ _
+    go (no n) = ap (λ (b : DayAnswer). brief (day-said b)) (d .refuses n .answer) ∙ small-first _ _ _ _ _ _ _ _
 
 days-brief : (p : ℕ) (h : Handed) (s : List ℕ) (t : List Session) (a : DayAnswer) (s′ : List ℕ) (t′ : List Session) → Days p h s t a s′ t′ → brief (day-said a) ≡ true
 days-brief p h s t a s′ t′ d = go (brief (day-said a)) refl
@@ -256,7 +259,7 @@ givings over = L.over
 givings (then d r) = L.then (returned d) (givings r)
 givings (wrong d a b r) = L.wrong (returned-away d) a b (givings r)
 
--- After a format that returned 0 any list of the ten keeps demand 3.
+-- After a format that returned 0 any list of the twelve keeps demand 3.
 pub givings-demand-3 : (m : ℕ) (x x′ : Lending) (h : Told Formatted (x .store) (x .table) m 0 (x′ .store) (x′ .table)) → (js : List Turn) (y : Lending) → Givings x′ js y
     → Demand-3 words (told nothing js) y
 givings-demand-3 m x x′ h js y r = returneds-demand-3 m (h .answer) x x′ (h .does) (format-ok m x x′ h) js y (givings r)
@@ -269,5 +272,11 @@ givings-holders m x x′ h js y r = returneds-holders m (h .answer) x x′ (h .d
 
 -- And by calls and numbers alone the begun sessions stand in their line.
 pub givings-line : (m : ℕ) (x x′ : Lending) (h : Told Formatted (x .store) (x .table) m 0 (x′ .store) (x′ .table)) → (js : List Turn) (y : Lending) → Givings x′ js y
-    → InLine (line [] js) (y .table)
+    → InLine (line nothing [] js) (y .table)
 givings-line m x x′ h js y r = returneds-line m (h .answer) x x′ (h .does) (format-ok m x x′ h) js y (givings r)
+
+-- And from an accepted ask of session p on, until an accepted commit or abort of p or a format, a commit of p is accepted.
+pub givings-ask : (m : ℕ) (x x′ : Lending) (h : Told Formatted (x .store) (x .table) m 0 (x′ .store) (x′ .table)) → (js : List Turn) (y z : Lending) (p r : ℕ) (l : List ℕ) → Givings x′ js y
+    → AskedSince p js → Exported y (C.commit p) r l z → unpacked r ≡ C.ok
+givings-ask m x x′ h js y z p r l g A d =
+    returneds-ask m (h .answer) x x′ (h .does) (format-ok m x x′ h) js y z p (record { call = C.commit p; answer = unpacked r; list = [] }) (givings g) A refl (lends y z r (C.commit p) l d)

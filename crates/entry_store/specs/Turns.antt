@@ -9,12 +9,13 @@ use lib.Dec.{T, ltb, ltb→lt}
 use lib.ListN.{length}
 use Rattle.sessions.specs.declared.Session.{Session}
 use Rattle.sessions.specs.Sessions.{parties}
-use Rattle.serial.specs.Calls.{Turn, nothing, told, Demand-3}
+use Rattle.serial.specs.Calls.{Turn, nothing, tell, told, Demand-3}
 use Rattle.serial.specs.Calls as C
 use Rattle.serial.specs.Serial.{true≢false}
 use Rattle.serial.specs.Locks.{Kind, Mode, weak}
 use Rattle.serial.specs.Locks as Locks
 use Rattle.serial.specs.Line.{line}
+use Rattle.serial.specs.Recovery.{AskedSince}
 use Rattle.machine.specs.State.{fresh}
 use Rattle.machine.specs.Calls.{records-for}
 use Rattle.machine.specs.Ledger.{no-locks, ledger-after}
@@ -26,10 +27,11 @@ use Rattle.promises.specs.Relations.{Calls}
 use Rattle.promises.specs.Demands.{Lending, words}
 use Rattle.promises.specs.Holding.{holders-in}
 use Rattle.promises.specs.Line.{InLine}
-use Rattle.store.specs.declared.Ask.{Ask}
-use Rattle.store.specs.Lent.{Formatted, Begun, Put, Committed, Aborted}
-use Rattle.store.specs.Turns.{turn, Lends, formats, begins, puts, steps, commits, aborts, Loan, TurnedAway, Lendings, lent-demand-3}
+use Rattle.store.specs.declared.PutArgs.{PutArgs}
+use Rattle.store.specs.Lent.{Formatted, Begun, Put, Committed, Aborted, Asked, Recovered}
+use Rattle.store.specs.Turns.{turn, Lends, formats, begins, puts, steps, commits, aborts, asks, recovers, Loan, TurnedAway, Lendings, lent-demand-3}
 use Rattle.store.specs.Turns as L
+use Rattle.store.specs.Demand3.{functions-ask}
 use Rattle.store.specs.Holding.{lent-holders-run, lent-located-run, lent-line}
 use Rattle.packing.specs.Packed.{unpacked, unpacked-packed, Small, Worded, Packs}
 use Rattle.entry_store.specs.Brief.{brief, calls-brief, formats-brief}
@@ -70,6 +72,8 @@ list-told (C.put p c e f g) l = []
 list-told (C.step p w) l = l
 list-told (C.commit p) l = []
 list-told (C.abort p) l = []
+list-told (C.ask p) l = []
+list-told C.recover l = []
 
 abbrev pub turn-of : Exchange → Turn
 turn-of k = record { call = k .call; answer = unpacked (k .number); list = list-told (k .call) (k .list) }
@@ -82,6 +86,8 @@ Exported x (C.put p c e f g) r l y = Told Put (x .store) (x .table) (record { pa
 Exported x (C.step p w) r l y = Stepped (x .store) (x .table) w p r (y .store) (y .table) l
 Exported x (C.commit p) r l y = Told Committed (x .store) (x .table) p r (y .store) (y .table)
 Exported x (C.abort p) r l y = Told Aborted (x .store) (x .table) p r (y .store) (y .table)
+Exported x (C.ask p) r l y = Told Asked (x .store) (x .table) p r (y .store) (y .table)
+Exported x C.recover r l y = Told Recovered (x .store) (x .table) tt r (y .store) (y .table)
 
 -- A list of calls: the host lends its store and its table as the call before left them; or something else for one of them or for both, parts of its own among
 -- them, is turned away, and goes on with what the call left it (store, specs/Turns).
@@ -132,11 +138,13 @@ module _ (x y : Lending) (r : ℕ) where
   lends (C.begin p) l h = let a = h .answer in read-off (C.begin p) a [] (h .packs) (fits-call (C.begin p) a [] (h .does .0) (λ z. h .does .1 z .0)) (begins {a = a} (h .does))
   lends (C.put p c e f g) l h =
       let a = h .answer in
-      let k : Ask = record { party = p; code = c; entry = e; first = f; second = g } in
+      let k : PutArgs = record { party = p; code = c; entry = e; first = f; second = g } in
       read-off (C.put p c e f g) a [] (h .packs) (fits-call (C.put p c e f g) a [] (h .does .0) (λ z. h .does .1 z .0)) (puts {k = k} {a = a} (h .does))
   lends (C.step p w) l h = let a = h .answer in read-off (C.step p w) a l (h .packs) (fits-call (C.step p w) a l (h .does .0) (λ z. h .does .1 z .0)) (steps {a = a} (h .does))
   lends (C.commit p) l h = let a = h .answer in read-off (C.commit p) a [] (h .packs) (fits-call (C.commit p) a [] (h .does .0) (λ z. h .does .1 z .0)) (commits {a = a} (h .does))
   lends (C.abort p) l h = let a = h .answer in read-off (C.abort p) a [] (h .packs) (fits-call (C.abort p) a [] (h .does .0) (λ z. h .does .1 z .0)) (aborts {a = a} (h .does))
+  lends (C.ask p) l h = let a = h .answer in read-off (C.ask p) a [] (h .packs) (fits-call (C.ask p) a [] (h .does .0) (λ z. h .does .1 z .0)) (asks {a = a} (h .does))
+  lends C.recover l h = let a = h .answer in read-off C.recover a [] (h .packs) (fits-call C.recover a [] (h .does .0) (λ z. h .does .1 z .0)) (recovers {a = a} (h .does))
 
 pub lendings : {x y : Lending} {ks : List Exchange} → Exchanges x ks y → Lendings x (map turn-of ks) y
 lendings over = L.over
@@ -175,12 +183,18 @@ module _ (m : ℕ) (x x′ : Lending) (h : Told Formatted (x .store) (x .table) 
 
   -- By all calls and numbers alone: once a locate of session p is done, it holds every key of its range, stored or not, until its end.
   pub exported-located-run : (before : List Exchange) (k : Exchange) (after : List Exchange) (y : Lending) → Exchanges x′ (before ++ k ∷ after) y
-      → (p lo hi : ℕ) → LocateDone (map turn-of before) (turn-of k) p lo hi → Lasts p (map turn-of after) → (z : ℕ) → lo ≤ z → z ≤ hi → holders-in y Locks.group weak p z ≡ true
+      → (p lo hi : ℕ) → LocateDone (map turn-of before) (turn-of k) p lo hi → Lasts p (tell (turn-of k) (told nothing (map turn-of before))) (map turn-of after) → (z : ℕ) → lo ≤ z → z ≤ hi → holders-in y Locks.group weak p z ≡ true
   exported-located-run before k after y r =
       lent-located-run m (h .answer) x x′ (h .does) format-ok (map turn-of before) (turn-of k) (map turn-of after) y
       (subst (λ l. Lendings x′ l y) (told-append before (k ∷ after)) (lendings r))
 
   -- By all calls and numbers alone the begun sessions stand in their line: a record is begun exactly if its session stands in it, and of two begun sessions the
   -- one with the lower number stands earlier.
-  pub exported-line : (ks : List Exchange) (y : Lending) → Exchanges x′ ks y → InLine (line [] (map turn-of ks)) (y .table)
+  pub exported-line : (ks : List Exchange) (y : Lending) → Exchanges x′ ks y → InLine (line nothing [] (map turn-of ks)) (y .table)
   exported-line ks y r = lent-line m (h .answer) x x′ (h .does) format-ok (map turn-of ks) y (lendings r)
+
+  -- By all calls and numbers alone: from an accepted ask of session p on, until an accepted commit or abort of p or a format, a commit of p is accepted, whatever
+  -- the others called, and across recovers.
+  pub exported-ask : (ks : List Exchange) (y z : Lending) (p r : ℕ) (l : List ℕ) → Exchanges x′ ks y → AskedSince p (map turn-of ks) → Exported y (C.commit p) r l z → unpacked r ≡ C.ok
+  exported-ask ks y z p r l e A d =
+      functions-ask m (h .answer) x x′ (h .does) format-ok (map turn-of ks) y z p (record { call = C.commit p; answer = unpacked r; list = [] }) (lendings e) A refl (lends y z r (C.commit p) l d)

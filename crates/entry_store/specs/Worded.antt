@@ -17,7 +17,7 @@ use Rattle.machine.specs.Tree.{pick, sumE, sumE-append}
 use Rattle.machine.specs.Descent.{Sons}
 use Rattle.machine.specs.State.{Answer, ok, more, wait, done, refused, Outcome, Request, Stage, start, enter, at, change, take, State, Desc, Tree, entryOf, descOf, stored, lowest-from, gap-below, or-none, no-desc, same, sessionOf, fresh}
 use Rattle.machine.specs.Steps.{answer, ended, goes-on, finished, guarded, entry-blockers, group-blockers, shared-state, read-step, written, write-step, excluded-state, entry-step, updating-state, inserted-state, removed-state, insert-step, remove-step, change-step, pairs-of, memberships, passed-state, located-state, last-take, take-desc, take-step, arrived, root-blockers, root-need, root-splits, halved-root, whole-root, enter-step, son-at, level-blockers, level-need, level-state, level-step, pin-step, made-state, make-step, removable, tidied-state, tidy-step, lowest-step, stand-step, at-step, first-step, next-step}
-use Rattle.machine.specs.Calls.{Call, format, begin, put, step, commit, abort, call, steps, records-for, format-checks, begin-checks, put-checks, step-checks, commit-checks, abort-checks, accepted, begins, commits, aborts}
+use Rattle.machine.specs.Calls.{Call, format, begin, put, step, commit, abort, ask, recover, call, steps, records-for, format-checks, begin-checks, put-checks, step-checks, commit-checks, abort-checks, ask-checks, accepted, begins, commits, aborts, asks, recovers}
 use Rattle.machine.specs.Sound.{Sound, Stands, Descends, to-change, to-first, to-second, to-choice, members-many, latch-count, of-hand, stands}
 use Rattle.machine.specs.Checks.{refusing-cases, keeper-code}
 use Rattle.machine.specs.Table.{hand-seat}
@@ -271,3 +271,5 @@ module _ (s : State) (S : Sound s) (values : (e : ℕ) → Word (entryOf e s .va
   call-worded (step p n) = refusing-cases Tellable (step-checks p s) s (steps p n (sessionOf p s .hand) s) refusal-word (λ h. steps-word p n (sessionOf p s .hand) refl)
   call-worded (commit p) = refusing-cases Tellable (commit-checks p s) s (answer ok (commits p s)) refusal-word (λ h. ok-word (commits p s))
   call-worded (abort p) = refusing-cases Tellable (abort-checks p s) s (answer ok (aborts p s)) refusal-word (λ h. ok-word (aborts p s))
+  call-worded (ask p) = refusing-cases Tellable (ask-checks p s) s (answer ok (asks p s)) refusal-word (λ h. ok-word (asks p s))
+  call-worded recover = ok-word (recovers s)

@@ -1,16 +1,16 @@
-// Entry store: the six calls, a run, a request and a batch, a call of a card's day and the day written out again; and what is read without one, the lock
+// Entry store: the eight calls, a run, a request and a batch, a call of a card's day and the day written out again; and what is read without one, the lock
 // count, the test of soundness, free records and holders; exported for C. include/entry_store.h declares and describes them.
 //
-// A store and a list cross as a pointer and how many words, a session table as a pointer and how many records, each of 14 words in the order of the
+// A store and a list cross as a pointer and how many words, a session table as a pointer and how many records, each of 15 words in the order of the
 // fields, a day as a pointer and how many bytes. An answer crosses in one number, which loses nothing (crate packing). Each call promises what the store's
 // call of its name promises, of the answer whose packing it returns (specs/Exported); so any list of calls from C, with the answers read off the numbers,
-// keeps demand 3 and the order of begins (specs/Turns, specs/Servings), its journal is accepted (specs/Journal), and every list of the six has such numbers
+// keeps demand 3 and the order of begins (specs/Turns, specs/Servings), its journal is accepted (specs/Journal), and every list of the eight has such numbers
 // (specs/Made). Nothing is asked of the caller but what C's types leave to it. It rests on store for the calls, on packing for the answers, on card_days for
 // the day written out, on locks for the count, on tables and sound for the test, on looking for free records and holders.
 ghost use mathlib.Core.Path.{_≡_};
 ghost use lib.ListN.{length};
 ghost use Rattle.locks.specs.Holders.{holders, word-bits};
-ghost use Rattle.store.specs.Lent.{Formatted, Begun, Put, Committed, Aborted};
+ghost use Rattle.store.specs.Lent.{Formatted, Begun, Put, Committed, Aborted, Asked, Recovered};
 ghost use Rattle.store.specs.Listed.{RanBy, AskedBy};
 ghost use Rattle.store.specs.Batched.{Batched};
 ghost use Rattle.store.specs.Days.{DayBy};
@@ -19,12 +19,12 @@ ghost use Rattle.looking.specs.Told.{FreeTold, HoldersTold};
 use outcomes::Answer;
 use sessions::PARTIES;
 use sessions::Session;
-use store::Ask;
 use store::DayAsk;
 use store::Go;
+use store::PutArgs;
 use store::Wish;
 
-// ---- the six calls
+// ---- the eight calls
 
 // An empty store of so many entries, and a table with no session begun.
 #[no_mangle]
@@ -57,7 +57,7 @@ pub extern "C" fn entry_store_put(
 ) -> u64
     ensures { λ r. ⌜ Told Put (now (store .entry)) (now (table .entry)) (record { party = party; code = code; entry = entry; first = first; second = second }) r (now (store .exit)) (now (table .exit)) ⌝ }
 {
-    let k = Ask {
+    let k = PutArgs {
         party: party,
         code: code,
         entry: entry,
@@ -97,6 +97,24 @@ pub extern "C" fn entry_store_abort(store: &mut [u32], table: &mut [Session], pa
     ensures { λ r. ⌜ Told Aborted (now (store .entry)) (now (table .entry)) party r (now (store .exit)) (now (table .exit)) ⌝ }
 {
     let a = store::abort(store, table, party);
+    packing::pack(a)
+}
+
+// A session is asked: only commit and abort remain to it.
+#[no_mangle]
+pub extern "C" fn entry_store_ask(store: &mut [u32], table: &mut [Session], party: u32) -> u64
+    ensures { λ r. ⌜ Told Asked (now (store .entry)) (now (table .entry)) party r (now (store .exit)) (now (table .exit)) ⌝ }
+{
+    let a = store::ask(store, table, party);
+    packing::pack(a)
+}
+
+// Housekeeping ends, and every begun session that is not asked aborts.
+#[no_mangle]
+pub extern "C" fn entry_store_recover(store: &mut [u32], table: &mut [Session]) -> u64
+    ensures { λ r. ⌜ Told Recovered (now (store .entry)) (now (table .entry)) tt r (now (store .exit)) (now (table .exit)) ⌝ }
+{
+    let a = store::recover(store, table);
     packing::pack(a)
 }
 

@@ -105,7 +105,7 @@ module _ (s : List ℕ) (m r : ℕ) (u : ℕ → List Undone) where
   session-read : (p : ℕ) (x : Session) → ((k : ℕ) → p ≡ suc k → map (undo-at s m) (chain s m r (x .undo)) ≡ map (λ y. y .undo) (u (suc k)))
       → session-of s m r p x ≡ session-in u p x
   session-read zero x f = refl
-  session-read (suc p) x f = ap (λ l. record { begun = session-of s m r (suc p) x .begun; order = session-of s m r (suc p) x .order; hand = hand-of x; undos = l }) (f p refl)
+  session-read (suc p) x f = ap (λ l. record { begun = session-of s m r (suc p) x .begun; order = session-of s m r (suc p) x .order; hand = hand-of x; undos = l; asked = session-of s m r (suc p) x .asked }) (f p refl)
 
 -- ---- the meaning
 

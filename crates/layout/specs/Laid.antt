@@ -88,7 +88,7 @@ module _ (s : List ℕ) (m : ℕ) where
 session-same : (s : List ℕ) (m r : ℕ) (u : ℕ → List Undone) (p : ℕ) (x : Session) → u p ≡ map (undone-at s m) (chain s m r (x .undo)) → session-of s m r p x ≡ session-in u p x
 session-same s m r u zero x e = refl
 session-same s m r u (suc p) x e =
-    ap (λ l. record { begun = not (eqb (x .begun) 0); order = x .order; hand = hand-of x; undos = l })
+    ap (λ l. record { begun = not (eqb (x .begun) 0); order = x .order; hand = hand-of x; undos = l; asked = not (eqb (x .asked) 0) })
     (sym (undos-are s m (chain s m r (x .undo))) ∙ sym (ap (λ l. map (λ (y : Undone). y .undo) l) e))
 
 sessions-same : (s : List ℕ) (m r : ℕ) (t : List Session) (q : ℕ) (v : List Session) → ((j : ℕ) → session-at t (q + j) ≡ session-at v j)

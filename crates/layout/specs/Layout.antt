@@ -58,8 +58,8 @@ undo-numbers us = map (λ u. u .num) us
 -- ---- what a layout means, with a session table
 
 abbrev pub session-in : (ℕ → List Undone) → ℕ → Session → M.Session
-session-in u zero x = record { begun = false; order = 0; hand = hand-of x; undos = [] }
-session-in u (suc p) x = record { begun = not (eqb (x .begun) 0); order = x .order; hand = hand-of x; undos = map (λ y. y .undo) (u (suc p)) }
+session-in u zero x = record { begun = false; order = 0; hand = hand-of x; undos = []; asked = not (eqb (x .asked) 0) }
+session-in u (suc p) x = record { begun = not (eqb (x .begun) 0); order = x .order; hand = hand-of x; undos = map (λ y. y .undo) (u (suc p)); asked = not (eqb (x .asked) 0) }
 
 abbrev pub sessions-in : (ℕ → List Undone) → ℕ → List Session → List M.Session
 sessions-in u p [] = []

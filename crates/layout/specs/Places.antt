@@ -50,11 +50,11 @@ module _ (u : ℕ → List Undone) where
   hand-is zero x = refl
   hand-is (suc p) x = refl
 
-  -- A session record with the same mark and number differs in its request alone.
+  -- A session record with the same marks and number differs in its request alone.
   hand-put : (p : ℕ) (x x′ : Session) → tenure x′ ≡ tenure x
-      → session-in u p x′ ≡ record { begun = session-in u p x .begun; order = session-in u p x .order; hand = hand-of x′; undos = session-in u p x .undos }
-  hand-put zero x x′ e = refl
-  hand-put (suc p) x x′ e = ap (λ (b : ℕ × ℕ). record { begun = not (eqb (b .0) 0); order = b .1; hand = hand-of x′; undos = session-in u (suc p) x .undos }) e
+      → session-in u p x′ ≡ record { begun = session-in u p x .begun; order = session-in u p x .order; hand = hand-of x′; undos = session-in u p x .undos; asked = session-in u p x .asked }
+  hand-put zero x x′ e = ap (λ (b : ℕ × ℕ × ℕ). record { begun = false; order = 0; hand = hand-of x′; undos = []; asked = not (eqb (b .2) 0) }) e
+  hand-put (suc p) x x′ e = ap (λ (b : ℕ × ℕ × ℕ). record { begun = not (eqb (b .0) 0); order = b .1; hand = hand-of x′; undos = session-in u (suc p) x .undos; asked = not (eqb (b .2) 0) }) e
 
 pub session-means : (L : Lay) (t : List Session) (p : ℕ) → p < length t → sessionOf p (means L t) ≡ session-in (L .undos) p (session-at t p)
 unfolding sessionOf means
@@ -74,7 +74,7 @@ unfolding set-hand on-session
 means-hand L t p x′ l e =
     means-session L t p x′
     ∙ ap (λ z. with-table (set (means L t .table) p z) (means L t))
-    (hand-put (L .undos) p (session-at t p) x′ e ∙ ap (λ y. record { begun = y .begun; order = y .order; hand = hand-of x′; undos = y .undos }) (sym (session-means L t p l)))
+    (hand-put (L .undos) p (session-at t p) x′ e ∙ ap (λ y. record { begun = y .begun; order = y .order; hand = hand-of x′; undos = y .undos; asked = y .asked }) (sym (session-means L t p l)))
 
 -- ---- the node where a party stands
 

@@ -1,5 +1,5 @@
 -- Begin on words: the party's session record is another, and the numbers of the begun sessions are.
-use mathlib.Core.Path.{_≡_, refl, sym, ap, subst, _∙_}
+use mathlib.Core.Path.{_≡_, refl, sym, ap, ap₂, subst, _∙_}
 use mathlib.Core.Bool.{true, false, not}
 use mathlib.Core.List.{List, [], _∷_, map}
 use mathlib.Core.Option.{none}
@@ -9,6 +9,7 @@ use lib.ListN.{set}
 use borrow.Author.Tests.{eq-eqb}
 use Rattle.sessions.specs.declared.Session.{Session}
 use Rattle.sessions.specs.Sessions.{session-at}
+use Rattle.serial.specs.Serial.{true≢false, not-true}
 use Rattle.machine.specs.Holders.{width}
 use Rattle.machine.specs.State.{State, sessionOf, on-session, with-table}
 use Rattle.machine.specs.State as M
@@ -44,15 +45,16 @@ no-chain s m i us e f = subst (λ z. Chained s m i (undo-numbers z)) e (f .chain
 -- ---- begin
 
 begins-put : (σ : State) (p : ℕ) (y : M.Session)
-    → y ≡ record { begun = true; order = suc (begun-many (σ .table)); hand = sessionOf p (renumbered σ) .hand; undos = sessionOf p (renumbered σ) .undos } → on-session p (λ _. y) (renumbered σ) ≡ begins p σ
+    → y ≡ record { begun = true; order = suc (begun-many (σ .table)); hand = sessionOf p (renumbered σ) .hand; undos = sessionOf p (renumbered σ) .undos; asked = sessionOf p (renumbered σ) .asked } → on-session p (λ _. y) (renumbered σ) ≡ begins p σ
 unfolding on-session begins
 begins-put σ p y e = ap (λ z. with-table (set (renumbered σ .table) p z) (renumbered σ)) e
 
-begun-record : (u : ℕ → List Undone) (q n : ℕ) (x : Session) (y : M.Session) → y ≡ session-in u (suc q) x → y .hand ≡ none
-    → session-in u (suc q) (newlyBegun x n) ≡ record { begun = true; order = n; hand = y .hand; undos = y .undos }
+begun-record : (u : ℕ → List Undone) (q n : ℕ) (x : Session) (y : M.Session) → y ≡ session-in u (suc q) x → y .hand ≡ none → y .asked ≡ false
+    → session-in u (suc q) (newlyBegun x n) ≡ record { begun = true; order = n; hand = y .hand; undos = y .undos; asked = y .asked }
 unfolding newlyBegun
-begun-record u q n x y e h =
-    ap (λ z. record { begun = true; order = n; hand = z; undos = map (λ w. w .undo) (u (suc q)) }) (sym h) ∙ ap (λ v. record { begun = true; order = n; hand = y .hand; undos = v }) (sym (ap (λ z. z .undos) e))
+begun-record u q n x y e h a =
+    ap₂ (λ z b. record { begun = true; order = n; hand = z; undos = map (λ w. w .undo) (u (suc q)); asked = b }) (sym h) (sym a)
+    ∙ ap (λ v. record { begun = true; order = n; hand = y .hand; undos = v; asked = y .asked }) (sym (ap (λ z. z .undos) e))
 
 begun-undo : (x : Session) (n : ℕ) → newlyBegun x n .undo ≡ 0
 unfolding newlyBegun
@@ -84,6 +86,8 @@ begin-becomes s t A (suc q) low high e =
     let there : sessionOf p (renumbered σ) ≡ session-in (L .undos) p x =
     ap (sessionOf p) (sym ranks) ∙ session-means L v p (omega (arith, high, H .seats)) ∙ ap (session-in (L .undos) p) was in
     let idle-hand : sessionOf p (renumbered σ) .hand ≡ none = ap (λ z. z .hand) (there ∙ sym at) ∙ A .sound .unbegun-hand q off in
+    let unasked : sessionOf p (renumbered σ) .asked ≡ false =
+    ap (λ z. z .asked) (there ∙ sym at) ∙ not-true (sessionOf p σ .asked) (λ a. true≢false (A .sound .only-asked p a .0) off) in
     record {
       lay = L;
       holds = table-row s v L H p y high (begun-undo x (suc (begunIn t)) ∙ sym (ap (λ z. z .undo) was ∙ nothing)) (idle-fits L p y (begun-stage x (suc (begunIn t))));
@@ -91,8 +95,8 @@ begin-becomes s t A (suc q) low high e =
           means-session L v p y
           ∙ ap (on-session p (λ _. session-in (L .undos) p y)) ranks
           ∙ begins-put σ p (session-in (L .undos) p y)
-          (begun-record (L .undos) q (suc (begunIn t)) x (sessionOf p (renumbered σ)) there idle-hand
-          ∙ ap (λ n. record { begun = true; order = suc n; hand = sessionOf p (renumbered σ) .hand; undos = sessionOf p (renumbered σ) .undos }) (sym (begun-means L t (A .holds .seats))));
+          (begun-record (L .undos) q (suc (begunIn t)) x (sessionOf p (renumbered σ)) there idle-hand unasked
+          ∙ ap (λ n. record { begun = true; order = suc n; hand = sessionOf p (renumbered σ) .hand; undos = sessionOf p (renumbered σ) .undos; asked = sessionOf p (renumbered σ) .asked }) (sym (begun-means L t (A .holds .seats))));
       long = refl;
       entries = refl;
       records = refl;

@@ -205,7 +205,7 @@ module _ (s : List ℕ) (t : List Session) (L : Lay) (H : Holds s t L) (few : M-
 
 session-else : (u : ℕ → List Undone) (p n : ℕ) (x : Session) → ¬ (n ≡ p) → session-in (without-undos u p) n x ≡ session-in u n x
 session-else u p zero x ne = refl
-session-else u p (suc n) x ne = ap (λ us. record { begun = session-in u (suc n) x .begun; order = session-in u (suc n) x .order; hand = session-in u (suc n) x .hand; undos = map (λ y. y .undo) us }) (undos-there u p (suc n) ne)
+session-else u p (suc n) x ne = ap (λ us. record { begun = session-in u (suc n) x .begun; order = session-in u (suc n) x .order; hand = session-in u (suc n) x .hand; undos = map (λ y. y .undo) us; asked = session-in u (suc n) x .asked }) (undos-there u p (suc n) ne)
 
 sessions-past : (u : ℕ → List Undone) (p n : ℕ) (t : List Session) → p < n → sessions-in (without-undos u p) n t ≡ sessions-in u n t
 sessions-past u p n [] l = refl

@@ -177,7 +177,7 @@ table-means L t p x = ap (λ σ. σ .table) (means-session L t p x)
 
 idle-record : (u : ℕ → List Undone) (q : ℕ) (x : Session) → u (suc q) ≡ [] → session-in u (suc q) (unbegun x) ≡ idle
 unfolding unbegun
-idle-record u q x e = ap (λ us. record { begun = false; order = 0; hand = none; undos = map (λ y. y .undo) us }) e
+idle-record u q x e = ap (λ us. record { begun = false; order = 0; hand = none; undos = map (λ y. y .undo) us; asked = false }) e
 
 pub leave-means : (L : Lay) (t : List Session) (q : ℕ) → L .undos (suc q) ≡ []
     → means (left-lay L (suc q)) (set t (suc q) (unbegun (session-at t (suc q)))) ≡ leave (suc q) (means L t)

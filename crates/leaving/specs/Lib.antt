@@ -2,6 +2,7 @@
 pub mod Words
 pub mod Renumbered
 pub mod Begun
+pub mod AskRow
 pub mod Asking
 pub mod Left
 pub mod LeafRows

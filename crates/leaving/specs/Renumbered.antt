@@ -54,10 +54,10 @@ module _ (L : Lay) (x : Session) (v : List Session) (seats : length v ≡ width)
     where
       go : (b : Bool) → session-in (L .undos) (suc p) (cond (not b) (numbered (suc (earlierIn t (y .order))) y) y)
           ≡ cond (not b)
-          (record { begun = not (eqb (y .begun) 0); order = suc (earlier (y .order) table); hand = hand-of y; undos = map (λ z. z .undo) (L .undos (suc p)) })
+          (record { begun = not (eqb (y .begun) 0); order = suc (earlier (y .order) table); hand = hand-of y; undos = map (λ z. z .undo) (L .undos (suc p)); asked = not (eqb (y .asked) 0) })
           (session-in (L .undos) (suc p) y)
       go true = refl
-      go false = ap (λ n. record { begun = not (eqb (y .begun) 0); order = suc n; hand = hand-of y; undos = map (λ z. z .undo) (L .undos (suc p)) }) (sym (earlier-is (y .order)))
+      go false = ap (λ n. record { begun = not (eqb (y .begun) 0); order = suc n; hand = hand-of y; undos = map (λ z. z .undo) (L .undos (suc p)); asked = not (eqb (y .asked) 0) }) (sym (earlier-is (y .order)))
 
   whole-is : means L (renumberedIn t) ≡ renumbered (means L t)
   unfolding renumberedIn butFirst renumbered means

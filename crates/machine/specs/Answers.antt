@@ -1,5 +1,5 @@
 -- Demand 2, answers: a step that is done answers, writes and changes as the logical model does with this request. No other call changes a value or
--- a membership but abort, which undoes, and format, which starts anew; nothing but a locate that is done writes the lent list.
+-- a membership but abort and recover, which undo, and format, which starts anew; nothing but a locate that is done writes the lent list.
 use mathlib.Core.Path.{_≡_, refl, sym, _∙_, subst, ap}
 use mathlib.Core.Bool.{Bool, true, false, cond, not, _&&_}
 use mathlib.Core.List.{List, [], _∷_, map}
@@ -19,7 +19,7 @@ use Rattle.machine.specs.Holders.{latch-word, elem}
 use Rattle.machine.specs.Tree.{pick}
 use Rattle.machine.specs.State.{Desc, Tree, Stage, start, enter, take, State, Answer, more, wait, done, refused, Outcome, no-desc, same, or-none, sessionOf, stored, lowest-from, gap-below, descOf, set-hand, in-stage, fresh, Request, ok, at, change}
 use Rattle.machine.specs.Steps.{ended, goes-on, finished, guarded, read-step, write-step, entry-step, insert-step, remove-step, change-step, memberships, last-take, take-desc, take-step, enter-step, level-step, pin-step, make-step, removable, tidied-state, updating-state, inserted-state, removed-state, located-state, tidy-step, lowest-step, stand-step, at-step, first-step, next-step, answer}
-use Rattle.machine.specs.Calls.{Call, format, begin, put, step, commit, abort, call, put-checks, step-checks, begin-checks, commit-checks, abort-checks, format-checks, accepted, begins, commits, aborts, steps, records-for}
+use Rattle.machine.specs.Calls.{Call, format, begin, put, step, commit, abort, ask, recover, call, put-checks, step-checks, begin-checks, commit-checks, abort-checks, ask-checks, format-checks, accepted, begins, commits, aborts, asks, steps, records-for}
 use Rattle.machine.specs.View.{log-entry, items}
 use Rattle.machine.specs.Model.{model-is, memberships-are, model, model-good}
 use Rattle.machine.specs.Sound.{Sound, Stands, of-hand}
@@ -30,7 +30,7 @@ use Rattle.machine.specs.Looks.{fit-of}
 use Rattle.machine.specs.Keeping.{keeps}
 use Rattle.machine.specs.Events.{Does, unseen, locks, finishes, unfinished}
 use Rattle.machine.specs.Session.{req-of}
-use Rattle.machine.specs.Moves.{Moves, quiet, tidied, began, committed, aborted, stepped, formatted, halted, moves}
+use Rattle.machine.specs.Moves.{Moves, quiet, tidied, began, committed, aborted, recovered, stepped, formatted, halted, moves}
 use Rattle.machine.specs.Safety.{safe-of}
 use Rattle.machine.specs.Ledger.{is-ok}
 use Rattle.machine.specs.Demand.{fresh-formatted}
@@ -173,6 +173,8 @@ may-write (put p c e f g) s a = false
 may-write (step p n) s a = of-hand false (λ r. eqb (r .code) 5) (sessionOf p s .hand) && not (unfinished a)
 may-write (commit p) s a = false
 may-write (abort p) s a = false
+may-write (ask p) s a = false
+may-write recover s a = false
 
 abbrev Blank : Outcome → Type 0
 Blank o = o .written ≡ []
@@ -184,6 +186,8 @@ written-only (begin p) s S e = refusing-cases Blank (begin-checks p s) s (answer
 written-only (put p c f g h) s S e = refusing-cases Blank (put-checks p c f g h s) s (answer ok (accepted p c f g h s)) (λ n. refl) (λ k. refl)
 written-only (commit p) s S e = refusing-cases Blank (commit-checks p s) s (answer ok (commits p s)) (λ n. refl) (λ k. refl)
 written-only (abort p) s S e = refusing-cases Blank (abort-checks p s) s (answer ok (aborts p s)) (λ n. refl) (λ k. refl)
+written-only (ask p) s S e = refusing-cases Blank (ask-checks p s) s (answer ok (asks p s)) (λ n. refl) (λ k. refl)
+written-only recover s S e = refl
 written-only (step p n) s S e = call-cases (λ o. may-write (step p n) s (o .answer) ≡ false → Blank o) p n s S (λ a t h e. refl) (λ r h c t w e. absurd (locates r h c e)) (λ r h c t w e. refl) e
   where
     locates : (r : Request) → sessionOf p s .hand ≡ some r → r .code ≡ 5 → may-write (step p n) s (done []) ≡ false → ⊥
@@ -219,7 +223,7 @@ not-done q s o (wait ps) e u = u
 not-done q s o (done ns) e u = absurd (true≢false e refl)
 not-done q s o (refused n k) e u = u
 
--- A call may change the logical part: a session's step that is done, an accepted abort, an accepted format.
+-- A call may change the logical part: a session's step that is done, an accepted abort, a recover, an accepted format.
 abbrev pub may-change : Call → Answer → Bool
 may-change (format m words) a = is-ok a
 may-change (begin p) a = false
@@ -228,6 +232,8 @@ may-change (step zero n) a = false
 may-change (step (suc m) n) a = not (unfinished a)
 may-change (commit p) a = false
 may-change (abort p) a = is-ok a
+may-change (ask p) a = false
+may-change recover a = is-ok a
 
 kept-items : (c : Call) (s : State) (o : Outcome) → may-change c (o .answer) ≡ false → Moves s o c → (i : Item) → items (o .next) i ≡ items s i
 kept-items c s o e (quiet d u x) = x .db-kept
@@ -235,6 +241,7 @@ kept-items c s o e (tidied n x) = x .db-kept
 kept-items c s o e (began p u x) = x .db-kept
 kept-items c s o e (committed p u x) = x .db-kept
 kept-items c s o e (aborted p u x) = absurd (true≢false (ap is-ok u) e)
+kept-items c s o e (recovered u R) = absurd (true≢false (ap is-ok u) e)
 kept-items c s o e (stepped m n r h (unseen u x)) = x .db-kept
 kept-items c s o e (stepped m n r h (locks u x)) = x .db-kept
 kept-items c s o e (stepped m n r h (finishes t a u w l f)) = absurd (true≢false (ap (λ z. not (unfinished z)) u) e)

@@ -1,4 +1,4 @@
--- The six calls: the refusals of each in order, and what an accepted call does (document 01, "Refusals", "Steps").
+-- The eight calls: the refusals of each in order, and what an accepted call does (document 01, "Refusals", "Steps").
 -- Refusals 1 and 2 are of the words of store and table: a state is sound and has all its sessions.
 use mathlib.Core.Bool.{Bool, true, false, cond, not, _&&_, _||_}
 use mathlib.Core.List.{List, [], _∷_, map}
@@ -8,6 +8,7 @@ use lib.Dec.{leb, ltb, eqb}
 use lib.ListN.{length}
 -- R by the length of the store: the crate words'.
 pub use Rattle.words.specs.Sizes.{records-for}
+use Rattle.serial.specs.Recovery.{each}
 use Rattle.machine.specs.Holders.{width, left-by}
 use Rattle.machine.specs.State.{Entry, Desc, Stage, start, enter, Request, Undo, added, taken, Session, State, more, refused, Outcome, top, idle, sessionOf, stored, lowest-from, with-entries, with-free, with-table, on-entry, on-session, on-tree, on-leaves, on-desc, hold-desc, group-desc, with-member, without-member, set-hand, fresh, value, ok}
 use Rattle.machine.specs.Steps.{ended, next-step, answer, settled}
@@ -20,7 +21,8 @@ pub data Call : Type 0 where
   put : ℕ → ℕ → ℕ → ℕ → ℕ → Call
   -- The party, and how many words of list are lent.
   step : ℕ → ℕ → Call
-  commit abort : ℕ → Call
+  commit abort ask : ℕ → Call
+  recover : Call
 
 -- ---- refusals
 
@@ -62,8 +64,11 @@ bad-key c f g = (leb 3 c && leb c 5 && infinite f) || (eqb c 5 && infinite g)
 abbrev pub request-checks : ℕ → ℕ → ℕ → ℕ → ℕ → State → List (ℕ × Bool)
 request-checks p c e f g s = (6, bad-code p c) ∷ (8, bad-entry c e s) ∷ (9, bad-key c f g) ∷ (10, eqb c 5 && ltb g f) ∷ []
 
+abbrev pub is-asked : ℕ → State → Bool
+is-asked p s = sessionOf p s .asked
+
 abbrev pub put-checks : ℕ → ℕ → ℕ → ℕ → ℕ → State → List (ℕ × Bool)
-put-checks p c e f g s = (4, no-party p) ∷ (5, not (has-begun p s)) ∷ (7, in-hand p s) ∷ request-checks p c e f g s
+put-checks p c e f g s = (4, no-party p) ∷ (5, not (has-begun p s)) ∷ (21, is-asked p s) ∷ (7, in-hand p s) ∷ request-checks p c e f g s
 
 abbrev pub step-checks : ℕ → State → List (ℕ × Bool)
 step-checks p s = (4, no-party p) ∷ (5, not (has-begun p s)) ∷ (7, not (in-hand p s)) ∷ []
@@ -76,6 +81,9 @@ commit-checks p s = (4, no-session p) ∷ (5, not (has-begun p s)) ∷ (7, in-ha
 
 abbrev pub abort-checks : ℕ → State → List (ℕ × Bool)
 abort-checks p s = (4, no-session p) ∷ (5, not (has-begun p s)) ∷ []
+
+abbrev pub ask-checks : ℕ → State → List (ℕ × Bool)
+ask-checks p s = (4, no-session p) ∷ (5, not (has-begun p s)) ∷ (21, is-asked p s) ∷ (7, in-hand p s) ∷ []
 
 abbrev pub format-checks : ℕ → ℕ → List (ℕ × Bool)
 format-checks m words = (3, eqb m 0 || ltb 1024 m || ltb (records-for m words) 8) ∷ []
@@ -135,20 +143,31 @@ last-rank ts = suc (begun-many ts)
 
 -- A begun session's number becomes its rank.
 abbrev pub ranked : List Session → Session → Session
-ranked ts t = cond (t .begun) (record { begun = t .begun; order = rank ts t; hand = t .hand; undos = t .undos }) t
+ranked ts t = cond (t .begun) (record { begun = t .begun; order = rank ts t; hand = t .hand; undos = t .undos; asked = t .asked }) t
 
 unfoldable pub renumbered : State → State
 renumbered s = with-table (map (ranked (s .table)) (s .table)) s
 
 -- The begun sessions are numbered anew, and the one that begins is the last of them.
 unfoldable pub begins : ℕ → State → State
-begins p s = on-session p (λ t. record { begun = true; order = last-rank (s .table); hand = t .hand; undos = t .undos }) (renumbered s)
+begins p s = on-session p (λ t. record { begun = true; order = last-rank (s .table); hand = t .hand; undos = t .undos; asked = t .asked }) (renumbered s)
 
 unfoldable pub commits : ℕ → State → State
 commits p s = leave p (with-free (s .free + length (sessionOf p s .undos)) s)
 
 unfoldable pub aborts : ℕ → State → State
 aborts p s = leave p (undo-all (sessionOf p s .undos) (end-hand p (sessionOf p s .hand) s))
+
+unfoldable pub asks : ℕ → State → State
+asks p s = on-session p (λ t. record { begun = t .begun; order = t .order; hand = t .hand; undos = t .undos; asked = true }) s
+
+-- A begun session that is not asked is aborted, any other is left.
+unfoldable pub lapse : ℕ → State → State
+lapse p s = cond (sessionOf p s .begun && not (is-asked p s)) (aborts p s) s
+
+-- Housekeeping ends, and then every session that is not asked.
+unfoldable pub recovers : State → State
+recovers s = each lapse width 1 (end-hand 0 (sessionOf 0 s .hand) s)
 
 unfoldable pub steps : ℕ → ℕ → Option Request → State → Outcome
 steps p n none s = answer more s
@@ -163,3 +182,5 @@ call (put p c e f g) s = refusing (put-checks p c e f g s) s (answer ok (accepte
 call (step p n) s = refusing (step-checks p s) s (steps p n (sessionOf p s .hand) s)
 call (commit p) s = refusing (commit-checks p s) s (answer ok (commits p s))
 call (abort p) s = refusing (abort-checks p s) s (answer ok (aborts p s))
+call (ask p) s = refusing (ask-checks p s) s (answer ok (asks p s))
+call recover s = answer ok (recovers s)

@@ -168,6 +168,7 @@ module _ (p : ℕ) (s v : State) (r : Request) (h : Option Request) (K : Keyed s
     undos-begun = λ b. t-like .undos-same p ∙ K .unbegun-undos p (sym (t-like .begun-same p) ∙ b);
     zero-unmarked = λ z. t-like .begun-same p ∙ subst (λ q. sessionOf q s .begun ≡ false) (sym z) (K .zero-unmarked);
     apart = apart-kept p s t (K .orders) (effect .others) (ap tenure t-session);
+    asked-idle = λ q. absurd (Option·none-ne-some r (sym (K .only-asked p (sym (ap (λ x. x .asked) t-session) ∙ q) .1) ∙ e));
     checked = λ o q. checks-kept p (o .code) (o .entry) (o .first) (o .second) s t (ap length (t-like .entries-same)) (fine o (sym t-hand ∙ q) .0);
     standing = λ o q. fine o (sym t-hand ∙ q) .1;
     undoable = own-undos;

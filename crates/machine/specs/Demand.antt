@@ -1,6 +1,6 @@
 -- The machine as the serial-run theorem asks for it: calls and answers in raw numbers, and every call as the events that its answer tells.
 use mathlib.Core.Path.{_≡_, refl, sym, _∙_, subst, ap}
-use mathlib.Core.Bool.{Bool, true, false, cond}
+use mathlib.Core.Bool.{Bool, true, false, cond, _&&_}
 use mathlib.Core.List.{List, [], _∷_, _++_, map}
 use mathlib.Core.Logic.{_⊎_, inl, inr}
 use mathlib.Core.Option.{Option, none, some}
@@ -16,19 +16,22 @@ use Rattle.serial.specs.LockMachine.{Acts, Formatted}
 use Rattle.serial.specs.LockMachine as M
 use Rattle.serial.specs.Calls.{Turn, Asked, Told, nothing, tell-ok, tell-done, tell-refused, tell-answer, Machine, take-in-hand, finished, fed, answer-of, ends-request}
 use Rattle.serial.specs.Calls as C
+use Rattle.serial.specs.Recovery.{lapsed-past}
 use Rattle.serial.specs.Codes.{by-code-upto-5, tells-answer}
-use Rattle.machine.specs.Holders.{elem}
+use Rattle.machine.specs.Holders.{width, elem}
 use Rattle.machine.specs.State.{Request, Stage, State, Outcome, sessionOf, fresh, Answer, wait, done, refused, ok, more}
 use Rattle.machine.specs.Steps.{rule}
-use Rattle.machine.specs.Calls.{records-for, call, Call, format, step, begin, put, commit, abort}
+use Rattle.machine.specs.Calls.{records-for, call, Call, format, step, begin, put, commit, abort, ask, recover, lapse}
 use Rattle.machine.specs.View.{view, seen-under, group-in, log-entry, items}
 use Rattle.machine.specs.Sound.{Sound}
 use Rattle.machine.specs.Keeps.{under}
 use Rattle.machine.specs.Checks.{session-code}
+use Rattle.machine.specs.Looks.{begun-party}
 use Rattle.machine.specs.Fresh.{fresh-session, fresh-entry, fresh-held}
 use Rattle.machine.specs.Events.{unseen, locks, finishes, Does}
 use Rattle.machine.specs.Session.{req-of}
-use Rattle.machine.specs.Moves.{Moves, tidied, began, committed, aborted, stepped, formatted, silent, quiet}
+use Rattle.machine.specs.Moves.{Moves, tidied, began, committed, aborted, recovered, stepped, formatted, silent, quiet}
+use Rattle.machine.specs.Recover.{Recovered, marks, recovered-begun}
 
 -- ---- the machine as a store of the serial-run theorem
 
@@ -53,6 +56,8 @@ call-of (C.put p c e f g) w = put p c e f g
 call-of (C.step p l) w = step p (length l)
 call-of (C.commit p) w = commit p
 call-of (C.abort p) w = abort p
+call-of (C.ask p) w = ask p
+call-of C.recover w = recover
 
 -- An answer tells the machine's: wait names one of its list, of which a step as it is settled has one.
 abbrev pub Tells : Answer → C.Answer → Type 0
@@ -84,6 +89,8 @@ list-after (C.put p c e f g) w = []
 list-after (C.step p l) w = two-words w ++ drop (length (two-words w)) l
 list-after (C.commit p) w = []
 list-after (C.abort p) w = []
+list-after (C.ask p) w = []
+list-after C.recover w = []
 
 pub record Performs (x : Lent) (k : Turn) (y : Lent) : Type 0 where
   pub tells : Tells (call (call-of (k .call) (x .words)) (x .state) .answer) (k .answer)
@@ -97,6 +104,7 @@ machine = record {
   Sound = λ x. Sound (x .state);
   meaning = λ x. view (x .state);
   hand = λ x p. hand-put (sessionOf p (x .state) .hand);
+  marked = λ x p. sessionOf p (x .state) .asked;
   Does = Performs;
 }
 
@@ -124,6 +132,8 @@ as-told (put p c e f g) = C.put p c e f g
 as-told (step p n) = C.step p []
 as-told (commit p) = C.commit p
 as-told (abort p) = C.abort p
+as-told (ask p) = C.ask p
+as-told recover = C.recover
 
 pub told-alike : (k : C.Call) (w : ℕ) (a : Answer) (l : List ℕ) (t : Told) → tell-of k a l t ≡ tell-of (as-told (call-of k w)) a l t
 told-alike (C.format m) w a l t = refl
@@ -136,6 +146,8 @@ told-alike (C.step p l₀) w (done ns) l t = refl
 told-alike (C.step p l₀) w (refused n k) l t = refl
 told-alike (C.commit p) w a l t = refl
 told-alike (C.abort p) w a l t = refl
+told-alike (C.ask p) w a l t = refl
+told-alike C.recover w a l t = refl
 
 -- A silent call tells neither a finished request nor a session's begin or end.
 pub record Alike (t u : Told) : Type 0 where
@@ -154,12 +166,16 @@ silent-told (put p c f g h) ok l t e = record { past-same = refl; unfinished-sam
 silent-told (step p n) ok l t e = alike t
 silent-told (commit p) ok l t e = absurd (true≢false e refl)
 silent-told (abort p) ok l t e = absurd (true≢false e refl)
+silent-told (ask p) ok l t e = record { past-same = refl; unfinished-same = λ q. refl }
+silent-told recover ok l t e = absurd (true≢false e refl)
 silent-told (format m w) (done ns) l t e = alike t
 silent-told (begin p) (done ns) l t e = alike t
 silent-told (put p c f g h) (done ns) l t e = alike t
 silent-told (step p n) (done ns) l t e = absurd (true≢false e refl)
 silent-told (commit p) (done ns) l t e = alike t
 silent-told (abort p) (done ns) l t e = alike t
+silent-told (ask p) (done ns) l t e = alike t
+silent-told recover (done ns) l t e = alike t
 silent-told (format m w) (refused n k) l t e = alike t
 silent-told (begin p) (refused n k) l t e = alike t
 silent-told (put p c f g h) (refused n k) l t e = alike t
@@ -170,6 +186,8 @@ silent-told (step p m) (refused n k) l t e = go (ends-request n)
     go false = alike t
 silent-told (commit p) (refused n k) l t e = alike t
 silent-told (abort p) (refused n k) l t e = alike t
+silent-told (ask p) (refused n k) l t e = alike t
+silent-told recover (refused n k) l t e = alike t
 
 -- ---- a finished request
 
@@ -213,6 +231,8 @@ ListOf (put p c e f g) l o = Unit {0}
 ListOf (step p n) l o = (rest : List ℕ) × (l ≡ two-words (o .written) ++ rest)
 ListOf (commit p) l o = Unit {0}
 ListOf (abort p) l o = Unit {0}
+ListOf (ask p) l o = Unit {0}
+ListOf recover l o = Unit {0}
 
 one-act : (e : S.Event store) (s t : State) → M.Act rule e (view s) (view t) → Acts rule (view s) (e ∷ []) (view t)
 one-act e s t a = M.more a M.still
@@ -254,10 +274,21 @@ step-told m n r s o l t c h w (finishes i a u v x y) = subst (λ b. Told-so s (o
         ∙ tells-answer (r .code) (r .entry) (r .first) (r .second) (req-of r) (y .model) (w .0)
         (asked-is (r .code) (r .entry) (r .first) (r .second) (r .stage) (c .0) (c .1)) ∙ sym (y .answer)
 
-pub call-told : (c : Call) (s : State) (o : Outcome) (l : List ℕ) (t : Told) → Sound s → ((p : ℕ) → hand-put (sessionOf p s .hand) ≡ t .hands p) → ListOf c l o → Moves s o c
+-- A recover: the housekeeper's end is not seen, and each abort is one event.
+recover-so : (s o : State) (t : Told) → ((p : ℕ) → sessionOf p s .begun ≡ t .unfinished p) → ((p : ℕ) → sessionOf p s .asked ≡ t .asked p) → Recovered s o
+    → Told-so s o t (tell-ok C.recover t)
+recover-so s o t b m R = record {
+  events = S.quiet ∷ map S.abort (R .gone .who);
+  moved = M.more {y = view (R .kept)} {e = S.quiet} (R .unseen) (R .gone .moved);
+  past-is = lapsed-past rule Sound view marks lapse width (R .kept) o (begun-party (R .sound)) (R .gone) t (λ p. R .unseen .begun-same p ∙ b p) (λ p. R .marks-same p ∙ m p);
+  begun-told = λ h p. recovered-begun s o R p ∙ ap (λ x. x && sessionOf p s .asked) (h p) ∙ ap (λ x. t .unfinished p && x) (m p);
+}
+
+pub call-told : (c : Call) (s : State) (o : Outcome) (l : List ℕ) (t : Told) → Sound s → ((p : ℕ) → hand-put (sessionOf p s .hand) ≡ t .hands p)
+    → ((p : ℕ) → sessionOf p s .begun ≡ t .unfinished p) → ((p : ℕ) → sessionOf p s .asked ≡ t .asked p) → ListOf c l o → Moves s o c
     → Told-so s (o .next) t (tell-of (as-told c) (o .answer) l t) ⊎ Told-new (o .next) (tell-of (as-told c) (o .answer) l t)
-call-told c s o l t σ h w (quiet d u x) = inl (quiet-so s (o .next) t (tell-of (as-told c) (o .answer) l t) x (silent-told c (o .answer) l t u))
-call-told c s o l t σ h w (tidied n x) = inl (quiet-so s (o .next) t (tell-of (C.step 0 []) (o .answer) l t) x (go (o .answer)))
+call-told c s o l t σ h b m w (quiet d u x) = inl (quiet-so s (o .next) t (tell-of (as-told c) (o .answer) l t) x (silent-told c (o .answer) l t u))
+call-told c s o l t σ h b m w (tidied n x) = inl (quiet-so s (o .next) t (tell-of (C.step 0 []) (o .answer) l t) x (go (o .answer)))
   where
     go : (a : Answer) → Alike t (tell-of (C.step 0 []) a l t)
     go ok = alike t
@@ -265,27 +296,28 @@ call-told c s o l t σ h w (tidied n x) = inl (quiet-so s (o .next) t (tell-of (
     go (wait ps) = alike t
     go (done ns) = record { past-same = refl; unfinished-same = λ q. refl }
     go (refused i k) = silent-told (step 0 n) (refused i k) l t refl
-call-told c s o l t σ h w (began p u x) = inl (subst (λ a. Told-so s (o .next) t (tell-of (C.begin p) a l t)) (sym u) (record {
+call-told c s o l t σ h b m w (began p u x) = inl (subst (λ a. Told-so s (o .next) t (tell-of (C.begin p) a l t)) (sym u) (record {
   events = S.begin p ∷ [];
   moved = one-act (S.begin p) s (o .next) x;
   past-is = refl;
   begun-told = turned-told s (o .next) t p true (x .now) (x .begun-others);
 }))
-call-told c s o l t σ h w (committed p u x) = inl (subst (λ a. Told-so s (o .next) t (tell-of (C.commit p) a l t)) (sym u) (record {
+call-told c s o l t σ h b m w (committed p u x) = inl (subst (λ a. Told-so s (o .next) t (tell-of (C.commit p) a l t)) (sym u) (record {
   events = S.commit p ∷ [];
   moved = one-act (S.commit p) s (o .next) x;
   past-is = refl;
   begun-told = turned-told s (o .next) t p false (x .ended .now) (x .ended .begun-others);
 }))
-call-told c s o l t σ h w (aborted p u x) = inl (subst (λ a. Told-so s (o .next) t (tell-of (C.abort p) a l t)) (sym u) (record {
+call-told c s o l t σ h b m w (aborted p u x) = inl (subst (λ a. Told-so s (o .next) t (tell-of (C.abort p) a l t)) (sym u) (record {
   events = S.abort p ∷ [];
   moved = one-act (S.abort p) s (o .next) x;
   past-is = refl;
   begun-told = turned-told s (o .next) t p false (x .ended .now) (x .ended .begun-others);
 }))
-call-told c s o l t σ h w (stepped m n r q d) =
+call-told c s o l t σ h b m w (recovered u R) = inl (subst (λ a. Told-so s (o .next) t (tell-of C.recover a l t)) (sym u) (recover-so s (o .next) t b m R))
+call-told c s o l t σ h b a w (stepped m n r q d) =
     inl (step-told m n r s o l t (session-code m (r .code) (σ .checked (suc m) r q .0)) (sym (h (suc m)) ∙ ap hand-put q) w d)
-call-told c s o l t σ h w (formatted m words u e) = inr (subst (λ a. Told-new (o .next) (tell-of (C.format m) a l t)) (sym u) (subst (λ z. Told-new z nothing) (sym e) (record {
+call-told c s o l t σ h b a w (formatted m words u e) = inr (subst (λ a. Told-new (o .next) (tell-of (C.format m) a l t)) (sym u) (subst (λ z. Told-new z nothing) (sym e) (record {
   nothing-told = refl;
   as-new = fresh-formatted m (records-for m words);
   none-begun = λ p. ap (λ x. x .begun) (fresh-session m (records-for m words) p);

@@ -17,7 +17,7 @@ use Rattle.machine.specs.Logic.{eqb-yes}
 use Rattle.machine.specs.Holders.{width}
 use Rattle.machine.specs.State.{Request, State, Outcome, sessionOf, fresh, Answer, wait, done, refused, ok, more}
 use Rattle.machine.specs.Steps.{next-step, answer}
-use Rattle.machine.specs.Calls.{put-checks, step-checks, begin-checks, commit-checks, abort-checks, format-checks, accepted, begins, commits, aborts, steps, records-for, call, Call, format, abort, begin, put, step, commit}
+use Rattle.machine.specs.Calls.{put-checks, step-checks, begin-checks, commit-checks, abort-checks, ask-checks, format-checks, accepted, begins, commits, aborts, asks, steps, records-for, call, Call, format, abort, ask, recover, begin, put, step, commit}
 use Rattle.machine.specs.View.{view}
 use Rattle.machine.specs.Sound.{Sound}
 use Rattle.machine.specs.Checks.{refusing-cases}
@@ -25,11 +25,11 @@ use Rattle.machine.specs.Looks.{begun-party}
 use Rattle.machine.specs.Fresh.{fresh-session}
 use Rattle.machine.specs.Ending.{fresh-sound}
 use Rattle.machine.specs.Keeping.{keeps}
-use Rattle.machine.specs.Moves.{abort-accepted, moves}
+use Rattle.machine.specs.Moves.{abort-accepted, commit-accepted, moves}
 use Rattle.machine.specs.Safety.{safe-of}
 use Rattle.machine.specs.Waits.{waiting, WaitsFor, step-blockers, step-waits, settled-step}
 use Rattle.machine.specs.Demand.{Lent, call-of, Tells, list-after, Performs, machine, tell-of, tells-told, told-alike, ListOf, Told-so, Told-new, call-told, fresh-formatted, hand-put, as-told}
-use Rattle.machine.specs.Told.{call-hands}
+use Rattle.machine.specs.Told.{call-hands, call-marks}
 
 -- ---- a wait names somebody
 
@@ -65,6 +65,8 @@ call-named (put p c e f g) s = refusing-cases (λ o. Somebody (o .answer)) (put-
 call-named (step p n) s = refusing-cases (λ o. Somebody (o .answer)) (step-checks p s) s (steps p n (sessionOf p s .hand) s) (λ i. tt) (λ k. steps-named p n s (sessionOf p s .hand))
 call-named (commit p) s = refusing-cases (λ o. Somebody (o .answer)) (commit-checks p s) s (answer ok (commits p s)) (λ n. tt) (λ k. tt)
 call-named (abort p) s = refusing-cases (λ o. Somebody (o .answer)) (abort-checks p s) s (answer ok (aborts p s)) (λ n. tt) (λ k. tt)
+call-named (ask p) s = refusing-cases (λ o. Somebody (o .answer)) (ask-checks p s) s (answer ok (asks p s)) (λ n. tt) (λ k. tt)
+call-named recover s = tt
 
 told-of : (a : Answer) → Somebody a → (b : C.Answer) × Tells a b
 told-of ok n = (C.ok, refl)
@@ -89,6 +91,8 @@ list-of (C.put p c f g h) w l o e = tt
 list-of (C.step p l₀) w l o e = (drop (length (two-words (o .written))) l₀, e)
 list-of (C.commit p) w l o e = tt
 list-of (C.abort p) w l o e = tt
+list-of (C.ask p) w l o e = tt
+list-of C.recover w l o e = tt
 
 module _ (k : Turn) (x y : Lent) (t : Told) (d : Performs x k y) (w : Knows machine t x) where
   abbrev c : Call
@@ -104,7 +108,7 @@ module _ (k : Turn) (x y : Lent) (t : Told) (d : Performs x k y) (w : Knows mach
   telling = tells-told (k .call) (o .answer) (k .answer) (k .list) t (d .tells) ∙ told-alike (k .call) (x .words) (o .answer) (k .list) t
 
   events-told : Told-so (x .state) (o .next) t u ⊎ Told-new (o .next) u
-  events-told = call-told c (x .state) o (k .list) t (w .sound) (w .hand-told) (list-of (k .call) (x .words) (k .list) o (d .list-is)) (moves c (x .state) (safe-of (x .state) (w .sound)))
+  events-told = call-told c (x .state) o (k .list) t (w .sound) (w .hand-told) (w .begun-told) (w .asked-told) (list-of (k .call) (x .words) (k .list) o (d .list-is)) (moves c (x .state) (safe-of (x .state) (w .sound)))
 
   begun-after : Told-so (x .state) (o .next) t u ⊎ Told-new (o .next) u → (p : ℕ) → sessionOf p (o .next) .begun ≡ u .unfinished p
   begun-after (inl m) p = m .begun-told (w .begun-told) p
@@ -115,6 +119,7 @@ module _ (k : Turn) (x y : Lent) (t : Told) (d : Performs x k y) (w : Knows mach
     sound = subst Sound (sym (d .state-is)) (keeps c (x .state) (w .sound));
     hand-told = λ p. ap (λ z. hand-put (sessionOf p z .hand)) (d .state-is) ∙ call-hands (x .state) (w .sound) t (k .list) (w .hand-told) c p;
     begun-told = λ p. ap (λ z. sessionOf p z .begun) (d .state-is) ∙ begun-after events-told p;
+    asked-told = λ p. ap (λ z. sessionOf p z .asked) (d .state-is) ∙ call-marks (x .state) (w .sound) t (k .list) (w .asked-told) c p;
   })
 
   moves-next : C.Moves machine lock-rule t (tell k t) x y ⊎ Anew machine (tell k t) y
@@ -138,23 +143,34 @@ abort-ok s k x y e d S b = go s (begun-party S s b) b (subst (λ z. Tells (call 
     go zero h b z = absurd (omega (arith, h))
     go (suc m) h b z = subst (λ a. Tells a (k .answer)) (abort-accepted m (x .state) (h .1) b) z
 
+commit-ok : (s : ℕ) (k : Turn) (x y : Lent) → k .call ≡ C.commit s → Performs x k y → Sound (x .state) → sessionOf s (x .state) .asked ≡ true → k .answer ≡ C.ok
+commit-ok s k x y e d S m =
+    let q = S .only-asked s m in
+    go s (begun-party S s (q .0)) (q .0) (q .1) (subst (λ z. Tells (call (call-of z (x .words)) (x .state) .answer) (k .answer)) e (d .tells))
+  where
+    go : (s : ℕ) → (1 ≤ s) × (s ≤ width) → sessionOf s (x .state) .begun ≡ true → sessionOf s (x .state) .hand ≡ none → Tells (call (commit s) (x .state) .answer) (k .answer) → k .answer ≡ C.ok
+    go zero h b o z = absurd (omega (arith, h))
+    go (suc m) h b o z = subst (λ a. Tells a (k .answer)) (commit-accepted m (x .state) (h .1) b o) z
+
 pub machine-laws : Laws machine lock-rule
 machine-laws = record {
   returns = λ c x S. call-returns c x;
   knows = λ k x y t d w. knows-next k x y t d w;
   moves = λ k x y t d w. moves-next k x y t d w;
   abort-ok = abort-ok;
+  commit-ok = commit-ok;
 }
 
 -- A fresh store of m entries and r records, of so many words.
 abbrev pub fresh-lent : ℕ → ℕ → ℕ → Lent
 fresh-lent m r words = record { state = fresh m r; words = words }
 
-fresh-known : (m r words : ℕ) → 1 ≤ m → m ≤ 1024 → 8 ≤ r → r ≤ 4096 → Knows machine nothing (fresh-lent m r words)
+pub fresh-known : (m r words : ℕ) → 1 ≤ m → m ≤ 1024 → 8 ≤ r → r ≤ 4096 → Knows machine nothing (fresh-lent m r words)
 fresh-known m r words a b c d = record {
   sound = fresh-sound m r a b c d;
   hand-told = λ p. ap (λ z. hand-put (z .hand)) (fresh-session m r p);
   begun-told = λ p. ap (λ z. z .begun) (fresh-session m r p);
+  asked-told = λ p. ap (λ z. z .asked) (fresh-session m r p);
 }
 
 -- Any list of calls, whoever's turn each is, from a fresh store.

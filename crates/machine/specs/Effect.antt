@@ -44,6 +44,7 @@ pub record Own (p : ℕ) (t : State) : Type 0 where
   pub zero-unmarked : p ≡ 0 → sessionOf p t .begun ≡ false
   -- No other begun session has its number in the order of begins.
   pub apart : (q : ℕ) → ¬ (p ≡ q) → sessionOf p t .begun ≡ true → sessionOf q t .begun ≡ true → ¬ (sessionOf p t .order ≡ sessionOf q t .order)
+  pub asked-idle : sessionOf p t .asked ≡ true → (sessionOf p t .begun ≡ true) × (sessionOf p t .hand ≡ none)
   pub checked : (r : Request) → sessionOf p t .hand ≡ some r → Passes (request-checks p (r .code) (r .entry) (r .first) (r .second) t)
   pub standing : (r : Request) → sessionOf p t .hand ≡ some r → Stands p t r (r .stage)
   pub undoable : Undoable p t (sessionOf p t .undos) (cells t)

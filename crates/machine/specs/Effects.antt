@@ -160,6 +160,8 @@ keyed-after p s t K E O = record {
   zero-unmarked = each p (λ x. x ≡ 0 → sessionOf x t .begun ≡ false) (O .zero-unmarked)
       (λ x n z. ap (λ y. y .begun) (E .others x n) ∙ subst (λ y. sessionOf y s .begun ≡ false) (sym z) (K .zero-unmarked)) 0 refl;
   orders = orders-after p s t K E O;
+  only-asked = each p (λ x. sessionOf x t .asked ≡ true → (sessionOf x t .begun ≡ true) × (sessionOf x t .hand ≡ none)) (O .asked-idle)
+      (λ x n h. subst (λ y. (y .begun ≡ true) × (y .hand ≡ none)) (sym (E .others x n)) (K .only-asked x (sym (ap (λ y. y .asked) (E .others x n)) ∙ h)));
   pins-match = O .pins-match;
   checked = each p (λ x. (r : Request) → sessionOf x t .hand ≡ some r → Passes (request-checks x (r .code) (r .entry) (r .first) (r .second) t)) (O .checked)
       (λ x n r h. checks-kept x (r .code) (r .entry) (r .first) (r .second) s t (E .many) (K .checked x r (sym (ap (λ y. y .hand) (E .others x n)) ∙ h)));

@@ -16,11 +16,11 @@ use Rattle.machine.specs.Logic.{eqb-yes, eqb-no, neither, not-false, eqb
 use Rattle.machine.specs.Tree.{leaves}
 use Rattle.machine.specs.State.{Desc, Stage, start, enter, Request, Session, State, top, no-entry, idle, sessionOf, fresh, lowest-from, with-table, on-session, on-desc, pin-desc, set-hand, in-stage, at, stored, ok}
 use Rattle.machine.specs.Steps.{answer, pinned, unpin, unlatch, ended}
-use Rattle.machine.specs.Calls.{call, format, begin, put, begin-checks, put-checks, format-checks, records-for, request-checks, has-begun, in-hand, no-party, no-session, first-stage, tidy-from, accepted, last-rank, renumbered, begins}
+use Rattle.machine.specs.Calls.{call, format, begin, put, ask, ask-checks, asks, begin-checks, put-checks, format-checks, records-for, request-checks, has-begun, is-asked, in-hand, no-party, no-session, first-stage, tidy-from, accepted, last-rank, renumbered, begins}
 use Rattle.machine.specs.View.{holders, group-in, released-same, frame-holders}
 use Rattle.machine.specs.Sound.{stored-in, pins-in, total, nodes, Shaped, of-hand, times, pins-by, latch-count, stands, Passes, to-first, to-choice, Stands, cells, Undoable, Sound, Formed, Latches, Keyed, formed-of, latches-of, keyed-of, sound-from}
 use Rattle.machine.specs.Effect.{Effect, Own}
-use Rattle.machine.specs.Table.{with-hand, as-begun, hand-seat, session-put, session-other, released, released-root, released-table, ended-own, renumbered-kept, renumbered-many}
+use Rattle.machine.specs.Table.{with-hand, as-begun, as-asked, hand-seat, session-put, session-other, released, released-root, released-table, ended-own, renumbered-kept, renumbered-many}
 use Rattle.machine.specs.Housekeeping.{Ordered, lvs, unlatch-leaves}
 use Rattle.machine.specs.Keys.{Kept}
 use Rattle.machine.specs.Totals.{total-set, total-least, total-none}
@@ -43,6 +43,7 @@ pub record Sits (p : ℕ) (x : Session) (s : State) : Type 0 where
   pub zero-unmarked : p ≡ 0 → x .begun ≡ false
   pub apart : (q : ℕ) → ¬ (p ≡ q) → x .begun ≡ true → sessionOf q s .begun ≡ true → ¬ (x .order ≡ sessionOf q s .order)
   pub hand-begun : ¬ (p ≡ 0) → x .begun ≡ false → x .hand ≡ none
+  pub asked-idle : x .asked ≡ true → (x .begun ≡ true) × (x .hand ≡ none)
   pub pins-same : (k : ℕ) → pins-by k (sessionOf p s) ≡ pins-by k x
   pub checked : (r : Request) → x .hand ≡ some r → Passes (request-checks p (r .code) (r .entry) (r .first) (r .second) s)
   pub standing : (r : Request) → x .hand ≡ some r → Stands p s r (r .stage)
@@ -102,6 +103,7 @@ module _ (p : ℕ) (x : Session) (s : State) (S : Sound s) (h : p < length (s .t
       undos-begun = λ e. ap (λ y. y .undos) mine ∙ I .undos-same ∙ S .unbegun-undos p (was-unbegun e);
       zero-unmarked = λ e. ap (λ y. y .begun) mine ∙ I .zero-unmarked e;
       apart = λ q n u v e. I .apart q n (sym (ap (λ y. y .begun) mine) ∙ u) (sym (ap (λ y. y .begun) (theirs q n)) ∙ v) (sym (ap (λ y. y .order) mine) ∙ e ∙ ap (λ y. y .order) (theirs q n));
+      asked-idle = λ e. subst (λ y. (y .begun ≡ true) × (y .hand ≡ none)) (sym mine) (I .asked-idle (sym (ap (λ y. y .asked) mine) ∙ e));
       checked = λ r e. I .checked r (sym (ap (λ y. y .hand) mine) ∙ e);
       standing = λ r e. let o = sym (ap (λ y. y .hand) mine) ∙ e in stands-kept p s seated seat-remains r (r .stage) (I .checked r o .0) (I .standing r o);
       undoable = subst (λ us. Undoable p seated us (cells s)) (sym (ap (λ y. y .undos) mine ∙ I .undos-same))
@@ -139,6 +141,7 @@ module _ (p : ℕ) (x : Session) (s : State) (S : Sound s) (h : p < length (s .t
 -- A request that party p may have in hand: it is begun, or the housekeeper.
 pub record Fits (p : ℕ) (r : Request) (s : State) : Type 0 where
   pub begun : ¬ (p ≡ 0) → sessionOf p s .begun ≡ true
+  pub unasked : sessionOf p s .asked ≡ false
   pub unlatched : stands (r .stage) ≡ 0
   pub pins-same : (k : ℕ) → pins-by k (sessionOf p s) ≡ times k (pinned r (r .stage))
   pub checked : Passes (request-checks p (r .code) (r .entry) (r .first) (r .second) s)
@@ -151,6 +154,7 @@ fits-sits p r s S F = record {
   zero-unmarked = λ e. subst (λ q. sessionOf q s .begun ≡ false) (sym e) (S .zero-unmarked);
   apart = λ q n u v e. n (S .orders p q u v e);
   hand-begun = λ n e. absurd (true≢false (F .begun n) e);
+  asked-idle = λ e. absurd (true≢false e (F .unasked));
   pins-same = F .pins-same;
   checked = λ y e. subst (λ y. Passes (request-checks p (y .code) (y .entry) (y .first) (y .second) s)) (Option·some-injective r y e) (F .checked);
   standing = λ y e. subst (λ y. Stands p s y (y .stage)) (Option·some-injective r y e) (F .standing);
@@ -165,6 +169,7 @@ pub restage-sound : (p : ℕ) (r : Request) (g : Stage) (s : State) → Sound s 
 restage-sound p r g s S e was is pins st =
     hand-sound p (in-stage g r) s S (hand-seat p r s e) (ap hand-stands e ∙ was) (record {
       begun = begun-of s (S .unbegun-hand) p r e;
+      unasked = not-true (sessionOf p s .asked) (λ a. Option·none-ne-some r (sym (S .only-asked p a .1) ∙ e));
       unlatched = is;
       pins-same = λ k. ap (of-hand 0 (λ r. times k (pinned r (r .stage)))) e ∙ sym (pins k);
       checked = S .checked p r e;
@@ -182,6 +187,7 @@ begin-sound p s S a b = seat-sound p x t (renumbered-sound s S) (party-seat p t 
   apart = λ q n u v e. let i = number-most q s (sym (renumbered-kept (λ y. y .begun) (λ n y. refl) q s) ∙ v) in
       let o : last-rank (s .table) ≡ sessionOf q (renumbered s) .order = e in omega (arith, o, i);
   hand-begun = λ n e. idle-hand;
+  asked-idle = λ e. (refl, idle-hand);
   pins-same = λ k. refl;
   checked = λ r e. absurd (nothing r e);
   standing = λ r e. absurd (nothing r e);
@@ -201,6 +207,26 @@ begin-sound p s S a b = seat-sound p x t (renumbered-sound s S) (party-seat p t 
 
     nothing : (r : Request) → sessionOf p t .hand ≡ some r → ⊥
     nothing r e = Option·none-ne-some r (sym idle-hand ∙ e)
+
+-- ---- ask
+
+pub ask-sound : (p : ℕ) (s : State) → Sound s → no-session p ≡ false → has-begun p s ≡ true → in-hand p s ≡ false → Sound (asks p s)
+unfolding asks on-session
+ask-sound p s S a b free =
+    let begun = session-begun p s (session-number p a .0) b in
+    let o = empty-hand p s free in
+    seat-sound p (as-asked (sessionOf p s)) s S
+    (party-seat p s (S .seats) (session-number p a .1)) (record {
+      undos-same = refl;
+      begun-more = λ e. e;
+      zero-unmarked = λ e. absurd (session-number p a .0 e);
+      apart = λ q n u v e. n (S .orders p q u v e);
+      hand-begun = λ n e. o;
+      asked-idle = λ e. (begun, o);
+      pins-same = λ k. refl;
+      checked = λ r e. absurd (Option·none-ne-some r (sym o ∙ e));
+      standing = λ r e. absurd (Option·none-ne-some r (sym o ∙ e));
+    }) (ap hand-stands o) (ap hand-stands o)
 
 -- ---- put
 
@@ -229,14 +255,15 @@ module _ (p c e f g : ℕ) (s : State) where
       go false q true w = chosen q (eqb-is c 6 w) (lowest-from (suc f) (lvs s)) refl
       go false q false w = record { unlatched = refl; unpinned = λ k. refl; standing = eqb-not c 5 q }
 
-pub put-sound : (p c e f g : ℕ) (s : State) → Sound s → no-party p ≡ false → has-begun p s ≡ true → in-hand p s ≡ false → Passes (request-checks p c e f g s)
+pub put-sound : (p c e f g : ℕ) (s : State) → Sound s → no-party p ≡ false → has-begun p s ≡ true → is-asked p s ≡ false → in-hand p s ≡ false → Passes (request-checks p c e f g s)
     → Sound (accepted p c e f g s)
 unfolding accepted
-put-sound p c e f g s S party b free checks =
+put-sound p c e f g s S party b unasked free checks =
     let F = first-fits p c e f g s in
     let o = empty-hand p s free in
     hand-sound p (first-request p c e f g s (first-stage c f s)) s S (party-seat p s (S .seats) (party-number p party)) (ap hand-stands o) (record {
       begun = λ n. session-begun p s n b;
+      unasked = unasked;
       unlatched = F .unlatched;
       pins-same = λ k. ap (of-hand 0 (λ r. times k (pinned r (r .stage)))) o ∙ sym (F .unpinned k);
       checked = checks;
@@ -328,6 +355,7 @@ module _ (m r : ℕ) where
     unbegun-undos = λ p e. ap (λ y. y .undos) (fresh-session m r p);
     zero-unmarked = ap (λ y. y .begun) (fresh-session m r 0);
     orders = λ p q e. absurd (true≢false e (ap (λ y. y .begun) (fresh-session m r p)));
+    only-asked = λ p e. absurd (true≢false e (ap (λ y. y .asked) (fresh-session m r p)));
     pins-match = λ k. no-pins (eqb 0 k) ∙ sym (total-none (pins-by k) idle refl (suc width));
     latches-match = λ p. ap (λ b. cond {A = ℕ} b 1 0 + 0) (eqb·zero-suc p) ∙ sym (ap (λ y. hand-stands (y .hand)) (fresh-session m r p));
     placed = λ p q x e f. no-hand p q e;
@@ -346,10 +374,14 @@ pub begin-keeps : (p : ℕ) (s : State) → Sound s → Sound (call (begin p) s 
 unfolding call
 begin-keeps p s S = refusing-cases (λ o. Sound (o .next)) (begin-checks p s) s (answer ok (begins p s)) (λ n. S) (λ k. begin-sound p s S (k .0) (k .1 .0))
 
+pub ask-keeps : (p : ℕ) (s : State) → Sound s → Sound (call (ask p) s .next)
+unfolding call
+ask-keeps p s S = refusing-cases (λ o. Sound (o .next)) (ask-checks p s) s (answer ok (asks p s)) (λ n. S) (λ k. ask-sound p s S (k .0) (not-false (has-begun p s) (k .1 .0)) (k .1 .1 .1 .0))
+
 pub put-keeps : (p c e f g : ℕ) (s : State) → Sound s → Sound (call (put p c e f g) s .next)
 unfolding call
 put-keeps p c e f g s S = refusing-cases (λ o. Sound (o .next)) (put-checks p c e f g s) s (answer ok (accepted p c e f g s)) (λ n. S)
-    (λ k. put-sound p c e f g s S (k .0) (not-false (has-begun p s) (k .1 .0)) (k .1 .1 .0) (k .1 .1 .1))
+    (λ k. put-sound p c e f g s S (k .0) (not-false (has-begun p s) (k .1 .0)) (k .1 .1 .0) (k .1 .1 .1 .0) (k .1 .1 .1 .1))
 
 -- Format starts anew, whatever the store was; refused it leaves it.
 pub format-keeps : (m words : ℕ) (s : State) → Sound s → Sound (call (format m words) s .next)

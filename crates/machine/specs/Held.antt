@@ -9,7 +9,7 @@ use native.Mathlib.Decide.{ℕ-discrete}
 use native.Mathlib.Omega.{arith}
 use lib.Dec.{eqb}
 use lib.ListN.{length}
-use Rattle.serial.specs.Serial.{true≢false}
+use Rattle.serial.specs.Serial.{true≢false, not-true}
 use Rattle.serial.specs.Model.{Item}
 use Rattle.serial.specs.Model as R
 use Rattle.serial.specs.Locks.{Kind, Mode, weak}
@@ -17,11 +17,12 @@ use Rattle.serial.specs.Locks as L
 use Rattle.serial.specs.LockMachine.{Unseen, Ended}
 use Rattle.serial.specs.Calls.{Turn, Told, nothing, tell, told, Run, Knows}
 use Rattle.serial.specs.Calls as C
+use Rattle.serial.specs.Recovery.{told-ok}
 use Rattle.machine.specs.Logic.{eqb-yes, eqb-no, not-false}
 use Rattle.machine.specs.Holders.{width}
 use Rattle.machine.specs.State.{Stage, start, enter, change, take, Request, State, Outcome, sessionOf, fresh, Answer, at, wait, ok, done, refused, more}
 use Rattle.machine.specs.Steps.{next-step}
-use Rattle.machine.specs.Calls.{steps, bad-code, is-some, step-checks, has-begun, records-for, Call, call, begin, put, commit, abort, format, step}
+use Rattle.machine.specs.Calls.{steps, bad-code, is-some, step-checks, has-begun, records-for, Call, call, begin, put, commit, abort, ask, recover, format, step}
 use Rattle.machine.specs.View.{items, holders, view, same-refl, same-unseen}
 use Rattle.machine.specs.Sound.{of-hand, Sound}
 use Rattle.machine.specs.Housekeeping.{like-unseen, at-step-like, enter-step-like}
@@ -31,8 +32,9 @@ use Rattle.machine.specs.Fresh.{fresh-session}
 use Rattle.machine.specs.Keeping.{keeps}
 use Rattle.machine.specs.Events.{Does, unseen, locks, finishes, unfinished, asked}
 use Rattle.machine.specs.Session.{Ready, reads, writes, to-insert, to-remove, enters, descends, inserts, removes, takes, req-of}
-use Rattle.machine.specs.Moves.{Moves, quiet, tidied, stepped, began, committed, aborted, formatted, halted, moves}
+use Rattle.machine.specs.Moves.{Moves, quiet, tidied, stepped, began, committed, aborted, recovered, formatted, halted, moves}
 use Rattle.machine.specs.Safety.{safe-of}
+use Rattle.machine.specs.Recover.{recovered-begun, recovered-stays}
 use Rattle.machine.specs.Ledger.{Ledger, no-locks, keys, step-grants, granted, is-ok, ends-at, ended-by, next-ledger, ledger-after}
 use Rattle.machine.specs.Grows.{GrowsBy, StepGrows, alike-grows, ready-grows, wait-grows, tidy-grows, refused-grants}
 use Rattle.machine.specs.Answers.{req-locate}
@@ -83,6 +85,24 @@ abort-ledger : (p : ℕ) (s : State) (o : Outcome) → Moves s o (abort p) → A
 abort-ledger p s o (quiet c u x) = unseen-ledger s o (λ b q. b && eqb p q) (λ q. refl) (halted-not-ok (o .answer) u) x
 abort-ledger p s o (aborted r u x) = end-ledger p s o u (x .ended)
 
+ask-ledger : (p : ℕ) (s : State) (o : Outcome) → Moves s o (ask p) → AsLedger s o (ask p)
+ask-ledger p s o (quiet d u x) k m q z = x .stays q .holds-kept k m z ∙ sym (or-false (holders s k m q z))
+
+-- Who is asked holds what he held, and nobody else anything.
+recover-ledger : (s : State) (o : Outcome) → Sound s → Moves s o recover → AsLedger s o recover
+recover-ledger s o S (quiet c u x) k m q z = x .stays q .holds-kept k m z ∙ sym (or-false (holders s k m q z))
+    ∙ sym (ap (λ b. not (b && not (sessionOf q s .asked)) && (holders s k m q z || false)) (halted-not-ok (o .answer) u))
+recover-ledger s o S (recovered u R) k m q z = go (sessionOf q s .asked) refl ∙ sym (ap (λ a. not (is-ok a && not (sessionOf q s .asked)) && (holders s k m q z || false)) u)
+  where
+    gone : Bool → Type 0
+    gone b = holders (o .next) k m q z ≡ (not (not b) && (holders s k m q z || false))
+
+    go : (b : Bool) → sessionOf q s .asked ≡ b → holders (o .next) k m q z ≡ (not (not (sessionOf q s .asked)) && (holders s k m q z || false))
+    go true e = recovered-stays s (o .next) R q e .holds-kept k m z ∙ sym (or-false (holders s k m q z)) ∙ sym (ap (λ b. not (not b) && (holders s k m q z || false)) e)
+    go false e = not-true (holders (o .next) k m q z)
+        (λ h. true≢false (R .gone .sound .only-begun k m q z h) (recovered-begun s (o .next) R q ∙ ap (λ b. sessionOf q s .begun && b) e ∙ and-false (sessionOf q s .begun)))
+        ∙ sym (ap (λ b. not (not b) && (holders s k m q z || false)) e)
+
 format-ledger : (n words : ℕ) (s : State) (o : Outcome) → Moves s o (format n words) → AsLedger s o (format n words)
 format-ledger n words s o (quiet c u x) = unseen-ledger s o (λ b q. b) (λ q. refl) (halted-not-ok (o .answer) u) x
 format-ledger n words s o (formatted r w u x) = λ k m q z.
@@ -102,21 +122,14 @@ unseen-step (suc m) s = of-hand false (λ r. on-descent (r .stage)) (sessionOf (
 
 -- ---- turns
 
-abbrev pub told-ok : C.Answer → Bool
-told-ok C.ok = true
-told-ok C.more = false
-told-ok (C.wait p) = false
-told-ok (C.done ns) = false
-told-ok (C.refused n b) = false
-
--- By call and answer alone: an accepted commit or abort of session p, or an accepted format.
-abbrev pub turn-ends : ℕ → Turn → Bool
-turn-ends p k = told-ok (k .answer) && ends-at (call-of (k .call) 0) ok p
+-- By what was told, call and answer alone: an accepted commit or abort of session p, a recover where p was not asked, or an accepted format.
+abbrev pub turn-ends : ℕ → Told → Turn → Bool
+turn-ends p t k = told-ok (k .answer) && ends-at (call-of (k .call) 0) ok (t .asked p) p
 
 -- Session p does not end in these turns.
-abbrev pub Lasts : ℕ → List Turn → Type 0
-Lasts p [] = Unit {0}
-Lasts p (k ∷ ks) = (turn-ends p k ≡ false) × Lasts p ks
+abbrev pub Lasts : ℕ → Told → List Turn → Type 0
+Lasts p t [] = Unit {0}
+Lasts p t (k ∷ ks) = (turn-ends p t k ≡ false) × Lasts p (tell k t) ks
 
 -- By calls and answers alone: after the turns before, the turn k finishes a locate of first to second by session p.
 pub record LocateDone (before : List Turn) (k : Turn) (p first second : ℕ) : Type 0 where
@@ -134,27 +147,32 @@ told-is (wait ps) b e = ap told-ok (e .2)
 told-is (done ns) b e = ap told-ok e
 told-is (refused n i) b e = ap told-ok e
 
-ends-ok : (c : Call) (a : Answer) (p : ℕ) → ends-at c a p ≡ (is-ok a && ends-at c ok p)
-ends-ok (format m words) a p = sym (and-true (is-ok a))
-ends-ok (begin q) a p = sym (and-false (is-ok a))
-ends-ok (put q c e f g) a p = sym (and-false (is-ok a))
-ends-ok (step q n) a p = sym (and-false (is-ok a))
-ends-ok (commit q) a p = refl
-ends-ok (abort q) a p = refl
+ends-ok : (c : Call) (a : Answer) (b : Bool) (p : ℕ) → ends-at c a b p ≡ (is-ok a && ends-at c ok b p)
+ends-ok (format m words) a b p = sym (and-true (is-ok a))
+ends-ok (begin q) a b p = sym (and-false (is-ok a))
+ends-ok (put q c e f g) a b p = sym (and-false (is-ok a))
+ends-ok (step q n) a b p = sym (and-false (is-ok a))
+ends-ok (commit q) a b p = refl
+ends-ok (abort q) a b p = refl
+ends-ok (ask q) a b p = sym (and-false (is-ok a))
+ends-ok recover a b p = refl
 
-ends-any : (c : C.Call) (w p : ℕ) → ends-at (call-of c w) ok p ≡ ends-at (call-of c 0) ok p
-ends-any (C.format m) w p = refl
-ends-any (C.begin q) w p = refl
-ends-any (C.put q c e f g) w p = refl
-ends-any (C.step q l) w p = refl
-ends-any (C.commit q) w p = refl
-ends-any (C.abort q) w p = refl
+ends-any : (c : C.Call) (w p : ℕ) (b : Bool) → ends-at (call-of c w) ok b p ≡ ends-at (call-of c 0) ok b p
+ends-any (C.format m) w p b = refl
+ends-any (C.begin q) w p b = refl
+ends-any (C.put q c e f g) w p b = refl
+ends-any (C.step q l) w p b = refl
+ends-any (C.commit q) w p b = refl
+ends-any (C.abort q) w p b = refl
+ends-any (C.ask q) w p b = refl
+ends-any C.recover w p b = refl
 
 -- The turn ends what the call ends.
-turn-is : (k : Turn) (x y : Lent) (p : ℕ) → Performs x k y → ended-by (call-of (k .call) (x .words)) (call (call-of (k .call) (x .words)) (x .state)) p ≡ turn-ends p k
-turn-is k x y p d =
+turn-is : (k : Turn) (x y : Lent) (t : Told) (p : ℕ) → Performs x k y → Knows machine t x → ended-by (x .state) (call-of (k .call) (x .words)) (call (call-of (k .call) (x .words)) (x .state)) p ≡ turn-ends p t k
+turn-is k x y t p d w =
     let a = call (call-of (k .call) (x .words)) (x .state) .answer in
-    ends-ok (call-of (k .call) (x .words)) a p ∙ ap₂ (λ u v. u && v) (sym (told-is a (k .answer) (d .tells))) (ends-any (k .call) (x .words) p)
+    ends-ok (call-of (k .call) (x .words)) a (sessionOf p (x .state) .asked) p ∙ ap₂ (λ u v. u && v) (sym (told-is a (k .answer) (d .tells)))
+    (ends-any (k .call) (x .words) p (sessionOf p (x .state) .asked) ∙ ap (λ b. ends-at (call-of (k .call) 0) ok b p) (w .asked-told p))
 
 -- A run of two lists is two runs.
 run-cut : (ks js : List Turn) {x z : Lent} → Run machine x (ks ++ js) z → (y : Lent) × Run machine x ks y × Run machine y js z
@@ -184,6 +202,8 @@ ledger-step (begin p) s S = begin-ledger p s (call (begin p) s) (moves (begin p)
 ledger-step (put p c e f g) s S = put-ledger p c e f g s (call (put p c e f g) s) (moves (put p c e f g) s (safe-of s S))
 ledger-step (commit p) s S = commit-ledger p s (call (commit p) s) (moves (commit p) s (safe-of s S))
 ledger-step (abort p) s S = abort-ledger p s (call (abort p) s) (moves (abort p) s (safe-of s S))
+ledger-step (ask p) s S = ask-ledger p s (call (ask p) s) (moves (ask p) s (safe-of s S))
+ledger-step recover s S = recover-ledger s (call recover s) S (moves recover s (safe-of s S))
 
 -- The calls of a list of turns, on a store of so many words.
 abbrev pub calls-on : ℕ → List Turn → List Call
@@ -200,7 +220,7 @@ ledger-run (C.next {x} {y} {z} {k} {ks} d r) S l h = λ e m q v.
     let next = next-ledger l (x .state) c o in
     let sound : Sound (y .state) = subst Sound (sym (d .state-is)) (keeps c (x .state) S) in
     let here : (e : Kind) (m : Mode) (q v : ℕ) → holders (y .state) e m q v ≡ next e m q v =
-    λ e m q v. ap (λ s. holders s e m q v) (d .state-is) ∙ ledger-step c (x .state) S e m q v ∙ ap (λ b. not (ended-by c o q) && (b || granted (x .state) c o e m q v)) (h e m q v) in
+    λ e m q v. ap (λ s. holders s e m q v) (d .state-is) ∙ ledger-step c (x .state) S e m q v ∙ ap (λ b. not (ended-by (x .state) c o q) && (b || granted (x .state) c o e m q v)) (h e m q v) in
     ledger-run r sound next here e m q v
     ∙ ap (λ s. ledger-after next (calls-on (y .words) ks) s e m q v) (d .state-is) ∙ ap (λ n. ledger-after next (calls-on n ks) (o .next) e m q v) (d .words-same)
 
@@ -240,7 +260,7 @@ descents-keep p n s S h = let x = descent-unseen p n s S h in (x .db-kept, λ k 
 -- ---- a locate that is done
 
 -- What a session holds lasts until its end.
-pub held-lasts : (c : Call) (s : State) → Sound s → (k : Kind) (m : Mode) (q z : ℕ) → ended-by c (call c s) q ≡ false → holders s k m q z ≡ true → holders (call c s .next) k m q z ≡ true
+pub held-lasts : (c : Call) (s : State) → Sound s → (k : Kind) (m : Mode) (q z : ℕ) → ended-by s c (call c s) q ≡ false → holders s k m q z ≡ true → holders (call c s .next) k m q z ≡ true
 held-lasts c s S k m q z e h = ledger-step c s S k m q z ∙ ap₂ (λ a b. not a && (b || granted s c (call c s) k m q z)) e h
 
 -- It holds every key of its range.
@@ -263,13 +283,13 @@ locate-holds m n s S r h c ns e = go (moves (step (suc m) n) s (safe-of s S))
     go (quiet d u x) = absurd (open-not u)
     go (stepped k l q g d) = does (subst (λ y. Does (suc m) y s o) (ap req-of (Option·some-injective q r (sym g ∙ h)) ∙ req-locate r c) d)
 
-run-lasts : (kind : Kind) (m : Mode) (p q : ℕ) {x y : Lent} {ks : List Turn} → Run machine x ks y → Sound (x .state) → Lasts p ks
+pub run-lasts : (kind : Kind) (m : Mode) (p q : ℕ) {x y : Lent} {ks : List Turn} (t : Told) → Run machine x ks y → Knows machine t x → Lasts p t ks
     → holders (x .state) kind m p q ≡ true → holders (y .state) kind m p q ≡ true
-run-lasts kind m p q C.stop S w h = h
-run-lasts kind m p q (C.next {x} {y} {z} {k} {ks} d r) S w h =
+run-lasts kind m p q t C.stop v w h = h
+run-lasts kind m p q t (C.next {x} {y} {z} {k} {ks} d r) v w h =
     let c = call-of (k .call) (x .words) in
-    run-lasts kind m p q r (subst Sound (sym (d .state-is)) (keeps c (x .state) S)) (w .1)
-    (ap (λ s. holders s kind m p q) (d .state-is) ∙ held-lasts c (x .state) S kind m p q (turn-is k x y p d ∙ w .0) h)
+    run-lasts kind m p q (tell k t) r (machine-laws .knows k x y t d v) (w .1)
+    (ap (λ s. holders s kind m p q) (d .state-is) ∙ held-lasts c (x .state) (v .sound) kind m p q (turn-is k x y t p d v ∙ w .0) h)
 
 run-knows : {x y : Lent} {ks : List Turn} (t : Told) → Run machine x ks y → Knows machine t x → Knows machine (told t ks) y
 run-knows t C.stop w = w
@@ -301,15 +321,16 @@ module _ (before : List Turn) (k : Turn) (first second : ℕ) (x y : Lent) (w : 
 -- Any list of turns from a fresh store: once a locate of session p is done, it holds every key of its range, stored or not, until its end.
 pub located-held : (entries records words : ℕ) → Sound (fresh entries records) → (before : List Turn) (k : Turn) (after : List Turn) (y : Lent)
     → Run machine (record { state = fresh entries records; words = words }) (before ++ k ∷ after) y
-    → (p first second : ℕ) → LocateDone before k p first second → Lasts p after → (z : ℕ) → first ≤ z → z ≤ second → holders (y .state) L.group weak p z ≡ true
+    → (p first second : ℕ) → LocateDone before k p first second → Lasts p (tell k (told nothing before)) after → (z : ℕ) → first ≤ z → z ≤ second → holders (y .state) L.group weak p z ≡ true
 located-held e r words S before k after y run p first second D w =
     let cut = run-cut before (k ∷ after) run in
     go (cut .2) (run-knows nothing (cut .1) (record {
       sound = S;
       hand-told = λ q. ap (λ t. hand-put (t .hand)) (fresh-session e r q);
       begun-told = λ q. ap (λ t. t .begun) (fresh-session e r q);
+      asked-told = λ q. ap (λ t. t .asked) (fresh-session e r q);
     }))
   where
     go : {x : Lent} → Run machine x (k ∷ after) y → Knows machine (told nothing before) x → (z : ℕ) → first ≤ z → z ≤ second → holders (y .state) L.group weak p z ≡ true
     go (C.next {x} {y} d r) v = λ z lo hi.
-        run-lasts L.group weak p z r (subst Sound (sym (d .state-is)) (keeps (call-of (k .call) (x .words)) (x .state) (v .sound))) w (turn-holds before k first second x y v d p D z lo hi)
+        run-lasts L.group weak p z (tell k (told nothing before)) r (machine-laws .knows k x y (told nothing before) d v) w (turn-holds before k first second x y v d p D z lo hi)

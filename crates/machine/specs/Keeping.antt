@@ -13,7 +13,7 @@ use Rattle.machine.specs.Holders.{held-by, elem, latch-word}
 use Rattle.machine.specs.Tree.{pick}
 use Rattle.machine.specs.State.{Desc, Tree, Stage, start, enter, change, take, Request, State, more, done, refused, Outcome, top, no-desc, same, or-none, sessionOf, stored, descOf, lowest-from, gap-below, hold-desc, in-stage, at}
 use Rattle.machine.specs.Steps.{pinned, ended, goes-on, finished, guarded, share-by, exclude-by, group-blockers, shared-state, read-step, write-step, excluded-state, entry-step, updating-state, inserted-state, removed-state, insert-step, remove-step, change-step, memberships, passed-state, located-state, last-take, take-desc, take-step, arrived, root-splits, root-need, whole-root, halved-root, root-blockers, enter-step, son-at, level-need, level-state, level-blockers, level-step, pin-step, made-state, make-step, removable, tidied-state, tidy-step, lowest-step, stand-step, at-step, first-step, next-step, answer, written}
-use Rattle.machine.specs.Calls.{Call, format, begin, put, step, commit, abort, call, steps, step-checks}
+use Rattle.machine.specs.Calls.{Call, format, begin, put, step, commit, abort, ask, recover, call, steps, step-checks}
 use Rattle.machine.specs.Sound.{stored-in, times, stands, to-change, Stands, Sound, Formed, Keyed, latches-of, sound-from}
 use Rattle.machine.specs.Context.{Focus}
 use Rattle.machine.specs.Table.{hand-seat}
@@ -29,8 +29,9 @@ use Rattle.machine.specs.Unmoved.{Unmoved, unmoved-entry, unmoved-writte
 use Rattle.machine.specs.Descending.{enter-keyed, level-keyed, stood, pin-keyed, make-keyed, keeper-stored, tidy-keyed}
 use Rattle.machine.specs.EntryLocks.{shared-keyed, shared-formed, written-keyed, written-formed, excluded-keyed, excluded-holds, excluded-formed}
 use Rattle.machine.specs.GroupLocks.{updating-keyed, updating-formed, inserted-keyed, inserted-formed, removed-keyed, removed-formed, passed-keyed, passed-formed, passed-passing, located-keyed, located-formed}
-use Rattle.machine.specs.Ending.{ended-sound, restage-sound, begin-keeps, put-keeps, format-keeps}
+use Rattle.machine.specs.Ending.{ended-sound, restage-sound, begin-keeps, ask-keeps, put-keeps, format-keeps}
 use Rattle.machine.specs.Leaving.{commit-keeps, abort-keeps}
+use Rattle.machine.specs.Recover.{recover-keeps}
 use Rattle.machine.specs.Safety.{descent-most}
 use Rattle.machine.specs.Waits.{settled-step}
 
@@ -309,3 +310,5 @@ keeps (put p c e f g) s S = put-keeps p c e f g s S
 keeps (step p n) s S = step-keeps p n s S
 keeps (commit p) s S = commit-keeps p s S
 keeps (abort p) s S = abort-keeps p s S
+keeps (ask p) s S = ask-keeps p s S
+keeps recover s S = recover-keeps s S

@@ -129,6 +129,7 @@ module _ (p : ℕ) (s : State) (n : ℕ) (S : Sound s) (h : p < length (s .table
     undos-begun = λ e. ap (λ x. x .undos) gone-mine;
     zero-unmarked = λ e. ap (λ x. x .begun) gone-mine;
     apart = λ q i b. absurd (true≢false b (ap (λ x. x .begun) gone-mine));
+    asked-idle = λ e. absurd (true≢false e (ap (λ x. x .asked) gone-mine));
     checked = λ r e. absurd (nothing r e);
     standing = λ r e. absurd (nothing r e);
     undoable = subst (λ x. Undoable p gone (x .undos) (cells gone)) (sym gone-mine) tt;
@@ -162,12 +163,12 @@ commit-sound p s S a b free =
 -- ---- abort
 
 -- The request in hand ended, if there is one.
-record Stopped (p : ℕ) (s t : State) : Type 0 where
+pub record Stopped (p : ℕ) (s t : State) : Type 0 where
   pub sound : Sound t
   pub same : Same s t
   pub empty : sessionOf p t .hand ≡ none
 
-stopped : (p : ℕ) (s : State) → Sound s → (o : Option Request) → sessionOf p s .hand ≡ o → Stopped p s (end-hand p o s)
+pub stopped : (p : ℕ) (s : State) → Sound s → (o : Option Request) → sessionOf p s .hand ≡ o → Stopped p s (end-hand p o s)
 unfolding end-hand
 stopped p s S none e = record { sound = S; same = same-refl s; empty = e }
 stopped p s S (some r) e = record { sound = ended-sound p r s S e; same = ended-same p r s; empty = ended-hand p r s e }

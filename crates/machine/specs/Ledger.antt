@@ -7,7 +7,7 @@ use lib.Dec.{leb, ltb, eqb}
 use Rattle.serial.specs.Locks.{Kind, Mode, weak, strong}
 use Rattle.serial.specs.Locks as L
 use Rattle.machine.specs.State.{Stage, start, enter, change, take, Request, State, Answer, more, wait, done, refused, Outcome, top, sessionOf, stored, ok, at}
-use Rattle.machine.specs.Calls.{Call, format, begin, put, step, commit, abort, call}
+use Rattle.machine.specs.Calls.{Call, format, begin, put, step, commit, abort, ask, recover, call}
 use Rattle.machine.specs.Sound.{of-hand}
 
 -- By kind and mode of lock, session, and entry or key.
@@ -74,6 +74,8 @@ granted s (put p c e f g) o = no-locks
 granted s (step p n) o = of-hand no-locks (λ r. step-grants p r (keys s) (r .stage) (o .answer)) (sessionOf p s .hand)
 granted s (commit p) o = no-locks
 granted s (abort p) o = no-locks
+granted s (ask p) o = no-locks
+granted s recover o = no-locks
 
 -- The call is accepted.
 abbrev pub is-ok : Answer → Bool
@@ -83,20 +85,22 @@ is-ok (wait ps) = false
 is-ok (done ns) = false
 is-ok (refused n b) = false
 
--- Whose locks end: an accepted commit's or abort's session; an accepted format ends everybody's.
-abbrev pub ends-at : Call → Answer → ℕ → Bool
-ends-at (format m words) a q = is-ok a
-ends-at (begin p) a q = false
-ends-at (put p c e f g) a q = false
-ends-at (step p n) a q = false
-ends-at (commit p) a q = is-ok a && eqb p q
-ends-at (abort p) a q = is-ok a && eqb p q
+-- Whose locks end: an accepted commit's or abort's session; a recover ends those of everybody who is not asked, as b says of q; an accepted format everybody's.
+abbrev pub ends-at : Call → Answer → Bool → ℕ → Bool
+ends-at (format m words) a b q = is-ok a
+ends-at (begin p) a b q = false
+ends-at (put p c e f g) a b q = false
+ends-at (step p n) a b q = false
+ends-at (commit p) a b q = is-ok a && eqb p q
+ends-at (abort p) a b q = is-ok a && eqb p q
+ends-at (ask p) a b q = false
+ends-at recover a b q = is-ok a && not b
 
-abbrev pub ended-by : Call → Outcome → ℕ → Bool
-ended-by c o q = ends-at c (o .answer) q
+abbrev pub ended-by : State → Call → Outcome → ℕ → Bool
+ended-by s c o q = ends-at c (o .answer) (sessionOf q s .asked) q
 
 abbrev pub next-ledger : Ledger → State → Call → Outcome → Ledger
-next-ledger l s c o k m q z = not (ended-by c o q) && (l k m q z || granted s c o k m q z)
+next-ledger l s c o k m q z = not (ended-by s c o q) && (l k m q z || granted s c o k m q z)
 
 -- The ledger after a list of calls that begins in s.
 unfoldable pub ledger-after : Ledger → List Call → State → Ledger

@@ -57,6 +57,7 @@ pub mod Renumbering
 pub mod Ending
 pub mod Undoing
 pub mod Leaving
+pub mod Recover
 pub mod Keeping
 -- Events of the lock machine.
 pub mod Agreement
@@ -82,12 +83,14 @@ pub mod Grows
 pub mod Held
 pub mod Answers
 pub mod Needs
--- The order of begins.
-pub mod Begins
-pub mod Line
 -- Demand 3.
 pub mod Demand
 pub mod Told
 pub mod Demand3
+-- The order of begins.
+pub mod Begins
+pub mod Line
+-- What ask and recover promise.
+pub mod Asked
 
 -- Worked cases.

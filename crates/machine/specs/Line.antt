@@ -1,31 +1,32 @@
 -- The order of begins over lists of calls: read off calls and answers alone, the begun sessions stand in a line, the one that began first in front; and by
 -- their numbers they stand in the same line.
 use mathlib.Core.Path.{_≡_, refl, sym, _∙_, subst, ap}
-use mathlib.Core.Bool.{Bool, true, false, cond, not}
+use mathlib.Core.Bool.{Bool, true, false, cond, not, _&&_}
 use mathlib.Core.List.{List, [], _∷_, _++_}
 use mathlib.Core.Logic.{_⊎_, inl, inr}
 use mathlib.Core.Option.{Option, none, some}
-use Prim.Native.Nat.{_<_, ℕ}
+use Prim.Native.Nat.{_≤_, _<_, ℕ}
 use native.Mathlib.Decide.{ℕ-discrete}
 use native.Mathlib.Omega.{arith}
 use lib.Dec.{eqb}
 use lib.ListN.{length}
-use Rattle.serial.specs.Serial.{true≢false, In, Distinct}
-use Rattle.serial.specs.Calls.{Turn, Run}
+use Rattle.serial.specs.Serial.{true≢false, by-bool, In, Distinct}
+use Rattle.serial.specs.Calls.{Turn, Run, Told, nothing, tell, Knows}
 use Rattle.serial.specs.Calls as C
-use Rattle.serial.specs.Line.{out-of, line-ok, line-answer, in-line, line, Before}
-use Rattle.machine.specs.Logic.{eqb-no, eqb-is, eqb-not}
-use Rattle.machine.specs.State.{Request, State, Answer, ok, more, wait, done, refused, sessionOf, fresh}
+use Rattle.serial.specs.Line.{those, out-of, line-ok, line-answer, in-line, line, Before}
+use Rattle.machine.specs.Logic.{not-false, eqb-is, eqb-not}
+use Rattle.machine.specs.State.{Request, Session, State, Answer, ok, more, wait, done, refused, sessionOf, fresh}
 use Rattle.machine.specs.Steps.{answer}
-use Rattle.machine.specs.Calls.{call, steps, put-checks, step-checks, begin-checks, commit-checks, abort-checks, format-checks, records-for, accepted, begins, commits, aborts, undo-all, end-hand}
+use Rattle.machine.specs.Calls.{call, steps, put-checks, step-checks, begin-checks, commit-checks, abort-checks, ask-checks, format-checks, records-for, accepted, begins, commits, aborts, asks, recovers, is-asked}
 use Rattle.machine.specs.Sound.{Sound, Passes}
-use Rattle.machine.specs.Table.{tenure, hand-tenure, hand-seat, session-same, undo-all-table, end-other, end-many, leave-own, leave-other}
+use Rattle.machine.specs.Table.{tenure, as-asked, hand-tenure, hand-seat, session-kept, session-same, leave-own, leave-other}
 use Rattle.machine.specs.Checks.{refusing-cases, session-number, party-seat}
 use Rattle.machine.specs.Fresh.{fresh-session}
 use Rattle.machine.specs.Hands.{step-handed}
-use Rattle.machine.specs.Keeping.{keeps}
+use Rattle.machine.specs.Recover.{recovered, recovered-begun, recover-kept, abort-own, abort-other}
 use Rattle.machine.specs.Begins.{Begun, begins-begun}
 use Rattle.machine.specs.Demand.{Lent, call-of, Tells, Performs, machine}
+use Rattle.machine.specs.Demand3.{machine-laws, fresh-lent, fresh-known}
 
 -- ---- the line and the numbers
 
@@ -148,78 +149,94 @@ module _ (p : ℕ) (s t : State) (l : List ℕ) (L : Lined l s) (B : Begun p s t
           B .still-first a b (other a (i .0)) (other b (i .1)) (L .begun a (i .0)) (L .begun b (i .1)) (L .lower a b h)
       less a b (inr h) = subst (λ x. sessionOf a t .order < sessionOf x t .order) (sym (h .1)) (last a (h .0))
 
--- ---- a line with one less
+-- ---- a line with fewer
 
-out-in : (p q : ℕ) (l : List ℕ) → In q (out-of p l) → In q l × ¬ (p ≡ q)
-unfolding out-of
-out-in p q [] i = absurd i
-out-in p q (x ∷ l) i = go (out-in p q l) (eqb p x) refl i
-  where
-    go : (In q (out-of p l) → In q l × ¬ (p ≡ q)) → (b : Bool) → eqb p x ≡ b → In q (cond b (out-of p l) (x ∷ out-of p l)) → In q (x ∷ l) × ¬ (p ≡ q)
-    go rest true e i = let j = rest i in (inr (j .0), j .1)
-    go rest false e (inl h) = (inl h, λ w. eqb-not p x e (w ∙ h))
-    go rest false e (inr i) = let j = rest i in (inr (j .0), j .1)
+module _ (f : ℕ → Bool) where
+  those-in : (q : ℕ) (l : List ℕ) → In q (those f l) → In q l × (f q ≡ true)
+  unfolding those
+  those-in q [] i = absurd i
+  those-in q (x ∷ l) i = go (those-in q l) (f x) refl i
+    where
+      go : (In q (those f l) → In q l × (f q ≡ true)) → (b : Bool) → f x ≡ b → In q (cond b (x ∷ those f l) (those f l)) → In q (x ∷ l) × (f q ≡ true)
+      go rest true e (inl h) = (inl h, ap f h ∙ e)
+      go rest true e (inr i) = let j = rest i in (inr (j .0), j .1)
+      go rest false e i = let j = rest i in (inr (j .0), j .1)
 
-in-out : (p q : ℕ) (l : List ℕ) → ¬ (p ≡ q) → In q l → In q (out-of p l)
-unfolding out-of
-in-out p q [] n i = absurd i
-in-out p q (x ∷ l) n i = go (in-out p q l n) (eqb p x) refl i
-  where
-    go : (In q l → In q (out-of p l)) → (b : Bool) → eqb p x ≡ b → In q (x ∷ l) → In q (cond b (out-of p l) (x ∷ out-of p l))
-    go rest true e (inl h) = absurd (n (eqb-is p x e ∙ sym h))
-    go rest true e (inr i) = rest i
-    go rest false e (inl h) = inl h
-    go rest false e (inr i) = inr (rest i)
+  in-those : (q : ℕ) (l : List ℕ) → f q ≡ true → In q l → In q (those f l)
+  unfolding those
+  in-those q [] n i = absurd i
+  in-those q (x ∷ l) n i = go (in-those q l n) (f x) refl i
+    where
+      go : (In q l → In q (those f l)) → (b : Bool) → f x ≡ b → In q (x ∷ l) → In q (cond b (x ∷ those f l) (those f l))
+      go rest true e (inl h) = inl h
+      go rest true e (inr i) = inr (rest i)
+      go rest false e (inl h) = absurd (true≢false n (ap f h ∙ e))
+      go rest false e (inr i) = rest i
 
-out-before : (p a b : ℕ) (l : List ℕ) → Before a b (out-of p l) → Before a b l
-unfolding out-of
-out-before p a b [] h = absurd h
-out-before p a b (x ∷ l) h = go (out-before p a b l) (eqb p x) h
-  where
-    go : (Before a b (out-of p l) → Before a b l) → (o : Bool) → Before a b (cond o (out-of p l) (x ∷ out-of p l)) → Before a b (x ∷ l)
-    go rest true h = inr (rest h)
-    go rest false (inl h) = inl (h .0, out-in p b l (h .1) .0)
-    go rest false (inr h) = inr (rest h)
+  those-before : (a b : ℕ) (l : List ℕ) → Before a b (those f l) → Before a b l
+  unfolding those
+  those-before a b [] h = absurd h
+  those-before a b (x ∷ l) h = go (those-before a b l) (f x) h
+    where
+      go : (Before a b (those f l) → Before a b l) → (o : Bool) → Before a b (cond o (x ∷ those f l) (those f l)) → Before a b (x ∷ l)
+      go rest true (inl h) = inl (h .0, those-in b l (h .1) .0)
+      go rest true (inr h) = inr (rest h)
+      go rest false h = inr (rest h)
 
-before-out : (p a b : ℕ) (l : List ℕ) → ¬ (p ≡ a) → ¬ (p ≡ b) → Before a b l → Before a b (out-of p l)
-unfolding out-of
-before-out p a b [] m n h = absurd h
-before-out p a b (x ∷ l) m n h = go (before-out p a b l m n) (eqb p x) refl h
-  where
-    go : (Before a b l → Before a b (out-of p l)) → (o : Bool) → eqb p x ≡ o → Before a b (x ∷ l) → Before a b (cond o (out-of p l) (x ∷ out-of p l))
-    go rest true e (inl h) = absurd (m (eqb-is p x e ∙ sym (h .0)))
-    go rest true e (inr h) = rest h
-    go rest false e (inl h) = inl (h .0, in-out p b l n (h .1))
-    go rest false e (inr h) = inr (rest h)
+  before-those : (a b : ℕ) (l : List ℕ) → f a ≡ true → f b ≡ true → Before a b l → Before a b (those f l)
+  unfolding those
+  before-those a b [] m n h = absurd h
+  before-those a b (x ∷ l) m n h = go (before-those a b l m n) (f x) refl h
+    where
+      go : (Before a b l → Before a b (those f l)) → (o : Bool) → f x ≡ o → Before a b (x ∷ l) → Before a b (cond o (x ∷ those f l) (those f l))
+      go rest true e (inl h) = inl (h .0, in-those b l n (h .1))
+      go rest true e (inr h) = inr (rest h)
+      go rest false e (inl h) = absurd (true≢false m (ap f (h .0) ∙ e))
+      go rest false e (inr h) = rest h
 
--- Session p ends, and steps out.
-module _ (p : ℕ) (s t : State) (l : List ℕ) (L : Lined l s) (ended : sessionOf p t .begun ≡ false) (others : (q : ℕ) → ¬ (p ≡ q) → tenure (sessionOf q t) ≡ tenure (sessionOf q s)) where
-  mark : (q : ℕ) → ¬ (p ≡ q) → sessionOf q t .begun ≡ sessionOf q s .begun
+-- Whether a session is begun, and its place in the order of begins.
+abbrev place : Session → Bool × ℕ
+place x = (x .begun, x .order)
+
+-- Sessions end, and step out; the others, of whom f says so, stand as they stood.
+module _ (f : ℕ → Bool) (s t : State) (l : List ℕ) (L : Lined l s) (ended : (q : ℕ) → f q ≡ false → sessionOf q t .begun ≡ false)
+    (others : (q : ℕ) → f q ≡ true → place (sessionOf q t) ≡ place (sessionOf q s)) where
+  mark : (q : ℕ) → f q ≡ true → sessionOf q t .begun ≡ sessionOf q s .begun
   mark q n = ap (λ x. x .0) (others q n)
 
-  number : (q : ℕ) → ¬ (p ≡ q) → sessionOf q t .order ≡ sessionOf q s .order
+  number : (q : ℕ) → f q ≡ true → sessionOf q t .order ≡ sessionOf q s .order
   number q n = ap (λ x. x .1) (others q n)
 
-  not-p : (q : ℕ) → sessionOf q t .begun ≡ true → ¬ (p ≡ q)
-  not-p q b e = true≢false b (subst (λ x. sessionOf x t .begun ≡ false) e ended)
+  stays : (q : ℕ) → sessionOf q t .begun ≡ true → f q ≡ true
+  stays q b = by-bool (f q) (λ e. e) (λ e. absurd (true≢false b (ended q e)))
 
   was-begun : (q : ℕ) → sessionOf q t .begun ≡ true → sessionOf q s .begun ≡ true
-  was-begun q b = sym (mark q (not-p q b)) ∙ b
+  was-begun q b = sym (mark q (stays q b)) ∙ b
 
-  ended-line : Lined (out-of p l) t
-  ended-line = record {
-    stands = λ q b. in-out p q l (not-p q b) (L .stands q (was-begun q b));
-    begun = λ q i. let j = out-in p q l i in mark q (j .1) ∙ L .begun q (j .0);
-    before = λ a b u v h. before-out p a b l (not-p a u) (not-p b v)
-        (L .before a b (was-begun a u) (was-begun b v) (omega (arith, h, number a (not-p a u), number b (not-p b v))));
+  fewer-line : Lined (those f l) t
+  fewer-line = record {
+    stands = λ q b. in-those f q l (stays q b) (L .stands q (was-begun q b));
+    begun = λ q i. let j = those-in f q l i in mark q (j .1) ∙ L .begun q (j .0);
+    before = λ a b u v h. before-those f a b l (stays a u) (stays b v)
+        (L .before a b (was-begun a u) (was-begun b v) (omega (arith, h, number a (stays a u), number b (stays b v))));
     lower = λ a b h.
-        let i = before-in a b (out-of p l) h in
-        omega (arith, L .lower a b (out-before p a b l h), number a (out-in p a l (i .0) .1), number b (out-in p b l (i .1) .1));
+        let i = before-in a b (those f l) h in
+        omega (arith, L .lower a b (those-before f a b l h), number a (those-in f a l (i .0) .1), number b (those-in f b l (i .1) .1));
   }
+
+-- Session p ends, and steps out.
+ended-line : (p : ℕ) (s t : State) (l : List ℕ) → Lined l s → sessionOf p t .begun ≡ false → ((q : ℕ) → ¬ (p ≡ q) → sessionOf q t ≡ sessionOf q s) → Lined (out-of p l) t
+ended-line p s t l L ended others = fewer-line (λ q. not (eqb p q)) s t l L
+    (λ q e. subst (λ x. sessionOf x t .begun ≡ false) (eqb-is p q (not-false (eqb p q) e)) ended)
+    (λ q e. ap place (others q (eqb-not p q (not-so (eqb p q) e))))
+  where
+    not-so : (b : Bool) → not b ≡ true → b ≡ false
+    not-so true e = sym e
+    not-so false e = refl
 
 -- ---- a line that stays
 
-kept-line : (s t : State) (l : List ℕ) → ((q : ℕ) → tenure (sessionOf q t) ≡ tenure (sessionOf q s)) → Lined l s → Lined l t
+kept-line : (s t : State) (l : List ℕ) → ((q : ℕ) → place (sessionOf q t) ≡ place (sessionOf q s)) → Lined l s → Lined l t
 kept-line s t l e L = record {
   stands = λ q b. L .stands q (sym (mark q) ∙ b);
   begun = λ q i. mark q ∙ L .begun q i;
@@ -236,26 +253,26 @@ kept-line s t l e L = record {
 -- ---- each call
 
 -- The line after an answer of the machine.
-abbrev line-of : C.Call → Answer → List ℕ → List ℕ
-line-of c ok l = line-ok c l
-line-of c more l = l
-line-of c (wait ps) l = l
-line-of c (done ns) l = l
-line-of c (refused n k) l = l
+abbrev line-of : Told → C.Call → Answer → List ℕ → List ℕ
+line-of t c ok l = line-ok t c l
+line-of t c more l = l
+line-of t c (wait ps) l = l
+line-of t c (done ns) l = l
+line-of t c (refused n k) l = l
 
-tells-line : (c : C.Call) (a : Answer) (b : C.Answer) (l : List ℕ) → Tells a b → line-answer c b l ≡ line-of c a l
-tells-line c ok b l e = ap (λ z. line-answer c z l) e
-tells-line c more b l e = ap (λ z. line-answer c z l) e
-tells-line c (wait ps) b l e = ap (λ z. line-answer c z l) (e .2)
-tells-line c (done ns) b l e = ap (λ z. line-answer c z l) e
-tells-line c (refused n k) b l e = ap (λ z. line-answer c z l) e
+tells-line : (t : Told) (c : C.Call) (a : Answer) (b : C.Answer) (l : List ℕ) → Tells a b → line-answer t c b l ≡ line-of t c a l
+tells-line t c ok b l e = ap (λ z. line-answer t c z l) e
+tells-line t c more b l e = ap (λ z. line-answer t c z l) e
+tells-line t c (wait ps) b l e = ap (λ z. line-answer t c z l) (e .2)
+tells-line t c (done ns) b l e = ap (λ z. line-answer t c z l) e
+tells-line t c (refused n k) b l e = ap (λ z. line-answer t c z l) e
 
-step-line : (p : ℕ) (v : List ℕ) (a : Answer) (l : List ℕ) → line-of (C.step p v) a l ≡ l
-step-line p v ok l = refl
-step-line p v more l = refl
-step-line p v (wait ps) l = refl
-step-line p v (done ns) l = refl
-step-line p v (refused n k) l = refl
+step-line : (t : Told) (p : ℕ) (v : List ℕ) (a : Answer) (l : List ℕ) → line-of t (C.step p v) a l ≡ l
+step-line t p v ok l = refl
+step-line t p v more l = refl
+step-line t p v (wait ps) l = refl
+step-line t p v (done ns) l = refl
+step-line t p v (refused n k) l = refl
 
 -- A step keeps every session's mark and number.
 steps-tenure : (p n : ℕ) (s : State) (h : Option Request) → sessionOf p s .hand ≡ h → (q : ℕ) → tenure (sessionOf q (steps p n h s .next)) ≡ tenure (sessionOf q s)
@@ -263,55 +280,66 @@ unfolding steps
 steps-tenure p n s none e q = refl
 steps-tenure p n s (some r) e q = step-handed p r s (hand-seat p r s e) e n .tenures q
 
-module _ (s : State) (S : Sound s) (l : List ℕ) (L : Lined l s) where
+-- Of a tenure the place.
+placed : {x y : Bool × ℕ × Bool} → x ≡ y → _≡_ {A = Bool × ℕ} (x .0, x .1) (y .0, y .1)
+placed e = ap (λ z. (z .0, z .1)) e
+
+module _ (s : State) (S : Sound s) (l : List ℕ) (L : Lined l s) (t : Told) (asked : (q : ℕ) → is-asked q s ≡ t .asked q) where
   commit-line : (p : ℕ) → Passes (commit-checks p s) → Lined (out-of p l) (commits p s)
   unfolding commits
   commit-line p k = ended-line p s (commits p s) l L
       (ap (λ x. x .begun) (leave-own p _ (party-seat p s (S .seats) (session-number p (k .0) .1))))
-      (λ q n. ap tenure (leave-other p q _ n ∙ session-same s _ refl q))
+      (λ q n. leave-other p q _ n ∙ session-same s _ refl q)
 
   abort-line : (p : ℕ) → Passes (abort-checks p s) → Lined (out-of p l) (aborts p s)
-  unfolding aborts
-  abort-line p k =
-      let a = end-hand p (sessionOf p s .hand) s in
-      let b = undo-all (sessionOf p s .undos) a in
-      let e : b .table ≡ a .table = undo-all-table (sessionOf p s .undos) a in
-      let m : length (b .table) ≡ length (s .table) = ap length e ∙ end-many p (sessionOf p s .hand) s in
-      ended-line p s (aborts p s) l L
-      (ap (λ x. x .begun) (leave-own p b (let z = party-seat p s (S .seats) (session-number p (k .0) .1) in omega arith)))
-      (λ q n. ap tenure (leave-other p q b n ∙ session-same a b e q ∙ end-other p q (sessionOf p s .hand) s n))
+  abort-line p k = ended-line p s (aborts p s) l L (ap (λ x. x .begun) (abort-own p s (party-seat p s (S .seats) (session-number p (k .0) .1)))) (λ q n. abort-other p q s n)
+
+  ask-line : (p : ℕ) → Lined l (asks p s)
+  unfolding asks
+  ask-line p = kept-line s (asks p s) l (session-kept place p as-asked s (λ x. refl)) L
+
+  -- Those that were asked stay where they stood.
+  recover-line : Lined (those (t .asked) l) (recovers s)
+  recover-line = fewer-line (t .asked) s (recovers s) l L
+      (λ q e. recovered-begun s (recovers s) (recovered s S) q ∙ ap (λ b. sessionOf q s .begun && b) (asked q ∙ e) ∙ and-false (sessionOf q s .begun))
+      (λ q e. ap place (recover-kept s S q (asked q ∙ e)))
+    where
+      and-false : (b : Bool) → (b && false) ≡ false
+      and-false true = refl
+      and-false false = refl
 
   -- Every call, from every sound state.
-  call-line : (c : C.Call) (w : ℕ) → Lined (line-of c (call (call-of c w) s .answer) l) (call (call-of c w) s .next)
+  call-line : (c : C.Call) (w : ℕ) → Lined (line-of t c (call (call-of c w) s .answer) l) (call (call-of c w) s .next)
   unfolding call accepted
-  call-line (C.format m) w = refusing-cases (λ o. Lined (line-of (C.format m) (o .answer) l) (o .next)) (format-checks m w) s (answer ok (fresh m (records-for m w))) (λ n. L)
+  call-line (C.format m) w = refusing-cases (λ o. Lined (line-of t (C.format m) (o .answer) l) (o .next)) (format-checks m w) s (answer ok (fresh m (records-for m w))) (λ n. L)
       (λ k. fresh-lined m (records-for m w))
-  call-line (C.begin p) w = refusing-cases (λ o. Lined (line-of (C.begin p) (o .answer) l) (o .next)) (begin-checks p s) s (answer ok (begins p s)) (λ n. L)
+  call-line (C.begin p) w = refusing-cases (λ o. Lined (line-of t (C.begin p) (o .answer) l) (o .next)) (begin-checks p s) s (answer ok (begins p s)) (λ n. L)
       (λ k. begun-line p s (begins p s) l L (begins-begun p s S k))
-  call-line (C.put p c e f g) w = refusing-cases (λ o. Lined (line-of (C.put p c e f g) (o .answer) l) (o .next)) (put-checks p c e f g s) s (answer ok (accepted p c e f g s)) (λ n. L)
-      (λ k. kept-line s (accepted p c e f g s) l (λ q. hand-tenure p q _ s) L)
-  call-line (C.step p v) w = refusing-cases (λ o. Lined (line-of (C.step p v) (o .answer) l) (o .next)) (step-checks p s) s (steps p (length v) (sessionOf p s .hand) s) (λ n. L)
+  call-line (C.put p c e f g) w = refusing-cases (λ o. Lined (line-of t (C.put p c e f g) (o .answer) l) (o .next)) (put-checks p c e f g s) s (answer ok (accepted p c e f g s)) (λ n. L)
+      (λ k. kept-line s (accepted p c e f g s) l (λ q. placed (hand-tenure p q _ s)) L)
+  call-line (C.step p v) w = refusing-cases (λ o. Lined (line-of t (C.step p v) (o .answer) l) (o .next)) (step-checks p s) s (steps p (length v) (sessionOf p s .hand) s) (λ n. L)
       (λ k. let o = steps p (length v) (sessionOf p s .hand) s in
-      subst (λ l. Lined l (o .next)) (sym (step-line p v (o .answer) l)) (kept-line s (o .next) l (steps-tenure p (length v) s (sessionOf p s .hand) refl) L))
-  call-line (C.commit p) w = refusing-cases (λ o. Lined (line-of (C.commit p) (o .answer) l) (o .next)) (commit-checks p s) s (answer ok (commits p s)) (λ n. L) (commit-line p)
-  call-line (C.abort p) w = refusing-cases (λ o. Lined (line-of (C.abort p) (o .answer) l) (o .next)) (abort-checks p s) s (answer ok (aborts p s)) (λ n. L) (abort-line p)
+      subst (λ l. Lined l (o .next)) (sym (step-line t p v (o .answer) l)) (kept-line s (o .next) l (λ q. placed (steps-tenure p (length v) s (sessionOf p s .hand) refl q)) L))
+  call-line (C.commit p) w = refusing-cases (λ o. Lined (line-of t (C.commit p) (o .answer) l) (o .next)) (commit-checks p s) s (answer ok (commits p s)) (λ n. L) (commit-line p)
+  call-line (C.abort p) w = refusing-cases (λ o. Lined (line-of t (C.abort p) (o .answer) l) (o .next)) (abort-checks p s) s (answer ok (aborts p s)) (λ n. L) (abort-line p)
+  call-line (C.ask p) w = refusing-cases (λ o. Lined (line-of t (C.ask p) (o .answer) l) (o .next)) (ask-checks p s) s (answer ok (asks p s)) (λ n. L) (λ k. ask-line p)
+  call-line C.recover w = recover-line
 
 -- ---- the theorem
 
-turn-line : (k : Turn) (x y : Lent) (l : List ℕ) → Performs x k y → Sound (x .state) → Lined l (x .state) → Lined (in-line l k) (y .state)
-turn-line k x y l d S L =
+turn-line : (k : Turn) (x y : Lent) (l : List ℕ) (t : Told) → Performs x k y → Knows machine t x → Lined l (x .state) → Lined (in-line t l k) (y .state)
+turn-line k x y l t d w L =
     let o = call (call-of (k .call) (x .words)) (x .state) in
-    subst (Lined (in-line l k)) (sym (d .state-is))
-    (subst (λ l. Lined l (o .next)) (sym (tells-line (k .call) (o .answer) (k .answer) l (d .tells))) (call-line (x .state) S l L (k .call) (x .words)))
+    subst (Lined (in-line t l k)) (sym (d .state-is))
+    (subst (λ l. Lined l (o .next)) (sym (tells-line t (k .call) (o .answer) (k .answer) l (d .tells))) (call-line (x .state) (w .sound) l L t (w .asked-told) (k .call) (x .words)))
 
 -- Any list of turns from a sound state whose begun sessions stand in a line.
-pub line-run : {x y : Lent} {ks : List Turn} → Run machine x ks y → Sound (x .state) → (l : List ℕ) → Lined l (x .state) → Lined (line l ks) (y .state)
-line-run C.stop S l L = L
-line-run (C.next {x} {y} {z} {k} {ks} d r) S l L =
-    line-run r (subst Sound (sym (d .state-is)) (keeps (call-of (k .call) (x .words)) (x .state) S)) (in-line l k) (turn-line k x y l d S L)
+pub line-run : {x y : Lent} {ks : List Turn} → Run machine x ks y → (t : Told) → Knows machine t x → (l : List ℕ) → Lined l (x .state) → Lined (line t l ks) (y .state)
+line-run C.stop t w l L = L
+line-run (C.next {x} {y} {z} {k} {ks} d r) t w l L = line-run r (tell k t) (machine-laws .knows k x y t d w) (in-line t l k) (turn-line k x y l t d w L)
 
--- Any list of turns from a fresh store: a session is begun exactly if its last accepted begin was followed by no accepted commit, abort of it or format, and of
--- two begun ones the one whose begin was accepted first has the lower number.
-pub fresh-line-run : (entries records words : ℕ) → Sound (fresh entries records) → (ks : List Turn) (y : Lent)
-    → Run machine (record { state = fresh entries records; words = words }) ks y → Lined (line [] ks) (y .state)
-fresh-line-run m r words S ks y run = line-run run S [] (fresh-lined m r)
+-- Any list of turns from a fresh store: a session is begun exactly if its last accepted begin was followed by no accepted commit or abort of it, recover while
+-- it was not asked, or format, and of two begun ones the one whose begin was accepted first has the lower number.
+pub fresh-line-run : (entries records words : ℕ) → 1 ≤ entries → entries ≤ 1024 → 8 ≤ records → records ≤ 4096 → (ks : List Turn) (y : Lent)
+    → Run machine (fresh-lent entries records words) ks y → Lined (line nothing [] ks) (y .state)
+fresh-line-run m r words a b c d ks y run = line-run run nothing (fresh-known m r words a b c d) [] (fresh-lined m r)

@@ -3,7 +3,7 @@ use mathlib.Core.Path.{_≡_, refl, sym, _∙_, subst, ap}
 use mathlib.Core.Bool.{true}
 use mathlib.Core.List.{List, [], _∷_}
 use mathlib.Core.Logic.{inl}
-use mathlib.Core.Option.{some}
+use mathlib.Core.Option.{some, Option·none-ne-some}
 use Prim.Native.Nat.{suc, _+_, _<_, ℕ}
 use native.Mathlib.Omega.{arith}
 use lib.ListN.{length, getD, length-set}
@@ -121,6 +121,7 @@ module _ (m : ℕ) (r : Request) (s t : State) (S : Sound s) (hand : sessionOf (
     undos-begun = λ h. absurd (true≢false begun h);
     zero-unmarked = λ z. absurd (omega (arith, z));
     apart = apart-kept p s t (S .orders) (T .others) (T .tenure-same);
+    asked-idle = λ h. absurd (Option·none-ne-some r (sym (S .only-asked p (sym (ap (λ x. x .2) (T .tenure-same)) ∙ h) .1) ∙ hand));
     checked = λ q h. checks-kept p (q .code) (q .entry) (q .first) (q .second) s t (W .many) (S .checked p q (sym (T .hand-same) ∙ h));
     standing = λ q h. let i = sym (T .hand-same) ∙ h in stands-kept p s t (locks-remains p s t W) q (q .stage) (S .checked p q i .0) (S .standing p q i);
     undoable = u;

@@ -1,7 +1,7 @@
 -- Every call, refused or accepted, moves the lock machine as its answer says. What is asked of a state is one record, Safe.
-use mathlib.Core.Path.{_≡_, refl}
+use mathlib.Core.Path.{_≡_, refl, ap}
 use mathlib.Core.Bool.{Bool, true, false}
-use mathlib.Core.List.{[], _∷_}
+use mathlib.Core.List.{[], _∷_, map}
 use mathlib.Core.Option.{Option, none, some}
 use Prim.Native.Nat.{zero, suc, _≤_, _<_, ℕ}
 use native.Mathlib.Omega.{arith}
@@ -10,10 +10,12 @@ use lib.ListN.{length}
 use Rattle.serial.specs.LockMachine.{Opened, Committed, Aborted, Unseen}
 use Rattle.machine.specs.Logic.{not-false, leb-no}
 use Rattle.machine.specs.Holders.{width}
-use Rattle.machine.specs.State.{start, enter, Request, State, Answer, more, wait, done, refused, Outcome, top, descOf, sessionOf, fresh, at, ok}
+use Rattle.machine.specs.State.{start, enter, Request, State, Answer, more, wait, done, refused, Outcome, top, descOf, sessionOf, on-session, fresh, at, ok, Session}
 use Rattle.machine.specs.Steps.{finished, next-step, first-step, enter-step, at-step, answer}
-use Rattle.machine.specs.Calls.{Call, format, begin, put, step, commit, abort, call, refusing, has-begun, put-checks, step-checks, begin-checks, commit-checks, abort-checks, format-checks, records-for, accepted, begins, commits, aborts, steps, end-hand, first-stage}
-use Rattle.machine.specs.View.{view, same-refl, same-unseen, set-hand-same}
+use Rattle.machine.specs.Calls.{Call, format, begin, put, step, commit, abort, ask, recover, call, refusing, has-begun, put-checks, step-checks, begin-checks, commit-checks, abort-checks, ask-checks, format-checks, records-for, accepted, begins, commits, aborts, asks, recovers, steps, end-hand, first-stage}
+use Rattle.machine.specs.View.{view, same-refl, same-unseen, set-hand-same, log-entry, frame-holders, frame-items}
+use Rattle.machine.specs.Table.{as-asked, session-kept}
+use Rattle.machine.specs.Recover.{Recovered}
 use Rattle.machine.specs.Descents.{finished-same}
 use Rattle.machine.specs.Housekeeping.{like-unseen, at-step-like, enter-step-like}
 use Rattle.machine.specs.Checks.{refusing-cases, party-number, session-number, party-seat, session-begun, session-unbegun}
@@ -35,6 +37,7 @@ pub record Safe (s : State) : Type 0 where
   pub ready : (m : ℕ) (r : Request) → sessionOf (suc m) s .begun ≡ true → suc m ≤ width → sessionOf (suc m) s .hand ≡ some r → Ready (suc m) s r
   pub tidying : (r : Request) → sessionOf 0 s .hand ≡ some r → Tidying s r
   pub chains : (m : ℕ) → sessionOf (suc m) s .begun ≡ true → Chain (sessionOf (suc m) s .undos) (end-hand (suc m) (sessionOf (suc m) s .hand) s)
+  pub recovery : Recovered s (recovers s)
   pub seats : (m : ℕ) → suc m ≤ width → suc m < length (end-hand (suc m) (sessionOf (suc m) s .hand) s .table)
 
 -- An answer that tells nothing to the history of sessions and finished requests.
@@ -52,6 +55,8 @@ silent (put p c e f g) a = unfinished a
 silent (step p n) a = unfinished a
 silent (commit p) a = halted a
 silent (abort p) a = halted a
+silent (ask p) a = unfinished a
+silent recover a = halted a
 
 -- What a call did, as the lock machine sees it.
 pub data Moves (s : State) (o : Outcome) : Call → Type 0 where
@@ -61,6 +66,8 @@ pub data Moves (s : State) (o : Outcome) : Call → Type 0 where
   began : (p : ℕ) → o .answer ≡ ok → Opened p (view s) (view (o .next)) → Moves s o (begin p)
   committed : (p : ℕ) → o .answer ≡ ok → Committed p (view s) (view (o .next)) → Moves s o (commit p)
   aborted : (p : ℕ) → o .answer ≡ ok → Aborted p (view s) (view (o .next)) → Moves s o (abort p)
+  -- The events of a recover are an abort of each session that it aborts.
+  recovered : o .answer ≡ ok → Recovered s (o .next) → Moves s o recover
   -- A session's step: see Does.
   stepped : (m n : ℕ) (r : Request) → sessionOf (suc m) s .hand ≡ some r → Does (suc m) (req-of r) s o → Moves s o (step (suc m) n)
   formatted : (m words : ℕ) → o .answer ≡ ok → o .next ≡ fresh m (records-for m words) → Moves s o (format m words)
@@ -77,6 +84,8 @@ refused-quiet c s n = quiet c (told c) (same-unseen s s (same-refl s))
     told (step p m) = refl
     told (commit p) = refl
     told (abort p) = refl
+    told (ask p) = refl
+    told recover = refl
 
 -- ---- the calls
 
@@ -99,6 +108,29 @@ abort-moves p s S = refusing-cases (λ o. Moves s o (abort p)) (abort-checks p s
     go : (q : ℕ) → ¬ (q ≡ 0) × (q ≤ width) → has-begun q s ≡ true → Moves s (answer ok (aborts q s)) (abort q)
     go zero n b = absurd (n .0 refl)
     go (suc m) n b = let w = session-begun (suc m) s (n .0) b in aborted (suc m) refl (abort-aborted (suc m) s (S .seats m (n .1)) w (S .chains m w))
+
+-- Ask changes its mark alone.
+ask-unseen : (p : ℕ) (s : State) → Unseen (view s) (view (asks p s))
+unfolding asks on-session
+ask-unseen p s =
+    record {
+      stays = λ t. record { holds-kept = λ k m z. frame-holders s (asks p s) refl refl k m t z; log-kept = ap (map log-entry) (session-kept (λ x. x .undos) p as-asked s (λ x. refl) t) };
+      begun-same = session-kept (λ x. x .begun) p as-asked s (λ x. refl);
+      db-kept = frame-items s (asks p s) refl refl;
+    }
+
+ask-moves : (p : ℕ) (s : State) → Safe s → Moves s (call (ask p) s) (ask p)
+unfolding call
+ask-moves p s S = refusing-cases (λ o. Moves s o (ask p)) (ask-checks p s) s (answer ok (asks p s)) (refused-quiet (ask p) s) λ k. quiet (ask p) refl (ask-unseen p s)
+
+recover-moves : (s : State) → Safe s → Moves s (call recover s) recover
+unfolding call
+recover-moves s S = recovered refl (S .recovery)
+
+-- A commit of a session that is begun and has no request in hand is accepted.
+pub commit-accepted : (m : ℕ) (s : State) → suc m ≤ width → sessionOf (suc m) s .begun ≡ true → sessionOf (suc m) s .hand ≡ none → call (commit (suc m)) s .answer ≡ ok
+unfolding call refusing
+commit-accepted m s h e f = rw (eqb·suc-zero m, leb-no (suc width) (suc m) (omega (arith, h)), e, f) refl
 
 -- An abort of a session that is begun is accepted.
 pub abort-accepted : (m : ℕ) (s : State) → suc m ≤ width → sessionOf (suc m) s .begun ≡ true → call (abort (suc m)) s .answer ≡ ok
@@ -142,3 +174,5 @@ moves (put p c e f g) s S = put-moves p c e f g s
 moves (step p n) s S = step-moves p n s S
 moves (commit p) s S = commit-moves p s S
 moves (abort p) s S = abort-moves p s S
+moves (ask p) s S = ask-moves p s S
+moves recover s S = recover-moves s S

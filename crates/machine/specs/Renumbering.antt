@@ -65,6 +65,10 @@ module _ (s : State) (S : Sound s) where
   unfolding renumbered
   undos-same q = renumbered-kept (λ x. x .undos) (λ n x. refl) q s
 
+  asked-same : (q : ℕ) → sessionOf q anew .asked ≡ sessionOf q s .asked
+  unfolding renumbered
+  asked-same q = renumbered-kept (λ x. x .asked) (λ n x. refl) q s
+
   ranks : (q : ℕ) → sessionOf q anew .begun ≡ true → sessionOf q anew .order ≡ rank (s .table) (sessionOf q s)
   unfolding renumbered
   ranks q b = renumbered-order q s (sym (begun-same q) ∙ b)
@@ -102,6 +106,7 @@ module _ (s : State) (S : Sound s) where
     unbegun-undos = λ q e. undos-same q ∙ S .unbegun-undos q (sym (begun-same q) ∙ e);
     zero-unmarked = begun-same 0 ∙ S .zero-unmarked;
     orders = anew-orders;
+    only-asked = λ q e. let o = S .only-asked q (sym (asked-same q) ∙ e) in (begun-same q ∙ o .0, hand-same q ∙ o .1);
     pins-match = λ k. S .pins-match k ∙ sym (total-map (pins-by k) (ranked (s .table)) (ranked-kept (pins-by k) (λ n x. refl) (s .table)) (s .table));
     checked = λ q r e. S .checked q r (sym (hand-same q) ∙ e);
     standing = λ q r e. let o = sym (hand-same q) ∙ e in stands-kept q s anew (remains q) r (r .stage) (S .checked q r o .0) (S .standing q r o);

@@ -18,6 +18,7 @@ use Rattle.machine.specs.Looks.{sound-ordered, kept-of, fit-of, change-s
 use Rattle.machine.specs.Nearest.{Takes, takes-of}
 use Rattle.machine.specs.Descending.{proper-key, keeper-stored}
 use Rattle.machine.specs.Leaving.{chain-of}
+use Rattle.machine.specs.Recover.{recovered}
 use Rattle.machine.specs.Events.{asked}
 use Rattle.machine.specs.Session.{Ready, reads, writes, to-insert, to-remove, enters, descends, inserts, removes, takes}
 use Rattle.machine.specs.Moves.{Safe, Tidying, nothing-above, entering, descending}
@@ -91,5 +92,6 @@ safe-of s S = record {
   ready = λ m r b w e. session-ready s S m (r .code) (r .entry) (r .first) (r .second) (r .stage) e;
   tidying = keeper-tidying s S;
   chains = λ m b. chain-of (suc m) s S b;
+  recovery = recovered s S;
   seats = λ m w. let n = end-many (suc m) (sessionOf (suc m) s .hand) s in omega (arith, n, S .seats, w);
 }

@@ -220,6 +220,8 @@ pub record Sound (s : State) : Type 0 where
   pub zero-unmarked : sessionOf 0 s .begun ≡ false
   -- No two begun sessions share a number in the order of begins.
   pub orders : (p q : ℕ) → sessionOf p s .begun ≡ true → sessionOf q s .begun ≡ true → sessionOf p s .order ≡ sessionOf q s .order → p ≡ q
+  -- Only a begun session with no request in hand is asked.
+  pub only-asked : (p : ℕ) → sessionOf p s .asked ≡ true → (sessionOf p s .begun ≡ true) × (sessionOf p s .hand ≡ none)
   -- Pins match the requests in hand; so what is pinned is stored.
   pub pins-match : (k : ℕ) → pins-in k (lvs s) ≡ total (pins-by k) (s .table)
   -- Latches match the descents: one for each that stands at a node, on the path to its key, and no other.
@@ -261,6 +263,8 @@ pub record Keyed (s : State) : Type 0 where
   pub unbegun-undos : (p : ℕ) → sessionOf p s .begun ≡ false → sessionOf p s .undos ≡ []
   pub zero-unmarked : sessionOf 0 s .begun ≡ false
   pub orders : (p q : ℕ) → sessionOf p s .begun ≡ true → sessionOf q s .begun ≡ true → sessionOf p s .order ≡ sessionOf q s .order → p ≡ q
+  -- Only a begun session with no request in hand is asked.
+  pub only-asked : (p : ℕ) → sessionOf p s .asked ≡ true → (sessionOf p s .begun ≡ true) × (sessionOf p s .hand ≡ none)
   pub pins-match : (k : ℕ) → pins-in k (lvs s) ≡ total (pins-by k) (s .table)
   pub checked : (p : ℕ) (r : Request) → sessionOf p s .hand ≡ some r → Passes (request-checks p (r .code) (r .entry) (r .first) (r .second) s)
   pub standing : (p : ℕ) (r : Request) → sessionOf p s .hand ≡ some r → Stands p s r (r .stage)
@@ -287,6 +291,7 @@ keyed-of S = record {
   unbegun-undos = S .unbegun-undos;
   zero-unmarked = S .zero-unmarked;
   orders = S .orders;
+  only-asked = S .only-asked;
   pins-match = S .pins-match;
   checked = S .checked;
   standing = S .standing;
@@ -310,6 +315,7 @@ sound-from F W K = record {
   unbegun-undos = K .unbegun-undos;
   zero-unmarked = K .zero-unmarked;
   orders = K .orders;
+  only-asked = K .only-asked;
   pins-match = K .pins-match;
   latches-match = W .latches-match;
   placed = W .placed;

@@ -67,6 +67,8 @@ pub record Session : Type 0 where
   pub hand : Option Request
   -- newest first
   pub undos : List Undo
+  -- The session is asked: only commit and abort remain to it.
+  pub asked : Bool
 
 pub record State : Type 0 where
   -- Entry 1 comes first: M is how many there are.
@@ -103,7 +105,7 @@ entryOf zero s = no-entry
 entryOf (suc i) s = getD (s .entries) i no-entry
 
 abbrev pub idle : Session
-idle = record { begun = false; order = 0; hand = none; undos = [] }
+idle = record { begun = false; order = 0; hand = none; undos = []; asked = false }
 
 unfoldable pub sessionOf : ℕ → State → Session
 sessionOf p s = getD (s .table) p idle
@@ -195,13 +197,13 @@ without-member e (x ∷ l) = let rest = without-member e l in cond (eqb e x) l (
 -- ---- sessions
 
 unfoldable pub set-hand : ℕ → Option Request → State → State
-set-hand p r s = on-session p (λ t. record { begun = t .begun; order = t .order; hand = r; undos = t .undos }) s
+set-hand p r s = on-session p (λ t. record { begun = t .begun; order = t .order; hand = r; undos = t .undos; asked = t .asked }) s
 
 abbrev pub in-stage : Stage → Request → Request
 in-stage g r = record { code = r .code; entry = r .entry; first = r .first; second = r .second; stage = g }
 
 unfoldable pub add-undo : ℕ → Undo → State → State
-add-undo p b s = on-session p (λ t. record { begun = t .begun; order = t .order; hand = t .hand; undos = b ∷ t .undos }) s
+add-undo p b s = on-session p (λ t. record { begun = t .begun; order = t .order; hand = t .hand; undos = b ∷ t .undos; asked = t .asked }) s
 
 -- ---- a fresh store: all values 0, one root and key 0
 

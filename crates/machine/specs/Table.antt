@@ -40,16 +40,16 @@ session-kept π p f s e q = go (s .table) p q
     go (x ∷ l) (suc i) zero = refl
     go (x ∷ l) (suc i) (suc j) = go l i j
 
--- Whether it is begun, and its place in the order of begins: what no step changes.
-abbrev pub tenure : Session → Bool × ℕ
-tenure t = (t .begun, t .order)
+-- Whether it is begun, its place in the order of begins, and whether it is asked: what no step changes.
+abbrev pub tenure : Session → Bool × ℕ × Bool
+tenure t = (t .begun, t .order, t .asked)
 
 -- A session with another request in hand; with one more undo record.
 abbrev pub with-hand : Option Request → Session → Session
-with-hand r t = record { begun = t .begun; order = t .order; hand = r; undos = t .undos }
+with-hand r t = record { begun = t .begun; order = t .order; hand = r; undos = t .undos; asked = t .asked }
 
 abbrev pub with-undo : Undo → Session → Session
-with-undo b t = record { begun = t .begun; order = t .order; hand = t .hand; undos = b ∷ t .undos }
+with-undo b t = record { begun = t .begun; order = t .order; hand = t .hand; undos = b ∷ t .undos; asked = t .asked }
 
 pub hand-put : (p : ℕ) (r : Option Request) (s : State) → p < length (s .table) → sessionOf p (set-hand p r s) ≡ with-hand r (sessionOf p s)
 unfolding set-hand
@@ -66,6 +66,10 @@ hand-many p r s = session-many p (with-hand r) s
 pub hand-tenure : (p q : ℕ) (r : Option Request) (s : State) → tenure (sessionOf q (set-hand p r s)) ≡ tenure (sessionOf q s)
 unfolding set-hand
 hand-tenure p q r s = session-kept tenure p (with-hand r) s (λ x. refl) q
+
+-- Who is asked stays.
+pub hand-marks : (p q : ℕ) (r : Option Request) (s : State) → sessionOf q (set-hand p r s) .asked ≡ sessionOf q s .asked
+hand-marks p q r s = ap (λ x. x .2) (hand-tenure p q r s)
 
 pub undo-put : (p : ℕ) (b : Undo) (s : State) → p < length (s .table) → sessionOf p (add-undo p b s) ≡ with-undo b (sessionOf p s)
 unfolding add-undo
@@ -88,6 +92,10 @@ has-seat π z (x ∷ l) (suc p) e = omega (arith, has-seat π z l p e)
 pub hand-seat : (p : ℕ) (r : Request) (s : State) → sessionOf p s .hand ≡ some r → p < length (s .table)
 unfolding sessionOf
 hand-seat p r s e = has-seat (λ t. is-some (t .hand)) refl (s .table) p (ap is-some e)
+
+pub asked-seat : (p : ℕ) (s : State) → sessionOf p s .asked ≡ true → p < length (s .table)
+unfolding sessionOf
+asked-seat p s e = has-seat (λ t. t .asked) refl (s .table) p e
 
 pub begun-seat : (p : ℕ) (s : State) → sessionOf p s .begun ≡ true → p < length (s .table)
 unfolding sessionOf
@@ -177,10 +185,14 @@ leave-other p q s n = session-other p q (λ _. idle) _ n ∙ session-same s _ re
 
 -- A session with another number; one that is begun, with its number.
 abbrev pub with-order : ℕ → Session → Session
-with-order n t = record { begun = t .begun; order = n; hand = t .hand; undos = t .undos }
+with-order n t = record { begun = t .begun; order = n; hand = t .hand; undos = t .undos; asked = t .asked }
 
 abbrev pub as-begun : ℕ → Session → Session
-as-begun n t = record { begun = true; order = n; hand = t .hand; undos = t .undos }
+as-begun n t = record { begun = true; order = n; hand = t .hand; undos = t .undos; asked = t .asked }
+
+-- One that is asked.
+abbrev pub as-asked : Session → Session
+as-asked t = record { begun = t .begun; order = t .order; hand = t .hand; undos = t .undos; asked = true }
 
 pub ranked-kept : {B : Type 0} (π : Session → B) → ((n : ℕ) (x : Session) → π (with-order n x) ≡ π x) → (ts : List Session) (x : Session) → π (ranked ts x) ≡ π x
 ranked-kept π e ts x = either (λ y. π y ≡ π x) (x .begun) (with-order (rank ts x) x) x (e (rank ts x) x) refl

@@ -1,5 +1,6 @@
--- The requests in hand after a call are those that calls and answers tell.
+-- The requests in hand after a call, and who is asked, are what calls and answers tell.
 use mathlib.Core.Path.{_≡_, refl, sym, _∙_, subst, ap}
+use mathlib.Core.Bool.{Bool, true, false}
 use mathlib.Core.List.{List, []}
 use mathlib.Core.Option.{Option, none, some}
 use Prim.Native.Nat.{ℕ}
@@ -10,13 +11,15 @@ use Rattle.serial.specs.Serial.{put-cases}
 use Rattle.serial.specs.Serial as Serial
 use Rattle.serial.specs.Calls.{Told}
 use Rattle.serial.specs.Calls as C
+use Rattle.machine.specs.Logic.{either}
 use Rattle.machine.specs.State.{Request, State, Answer, more, wait, done, refused, Outcome, sessionOf, set-hand, in-stage, fresh, ok}
 use Rattle.machine.specs.Steps.{next-step, answer, settled}
-use Rattle.machine.specs.Calls.{Call, format, begin, commit, abort, call, put-checks, step-checks, begin-checks, commit-checks, abort-checks, format-checks, records-for, accepted, begins, commits, aborts, undo-all, end-hand, steps, first-stage, put, step}
+use Rattle.machine.specs.Calls.{Call, format, begin, commit, abort, ask, recover, call, put-checks, step-checks, begin-checks, commit-checks, abort-checks, ask-checks, format-checks, records-for, accepted, begins, commits, aborts, asks, recovers, undo-all, end-hand, steps, first-stage, put, step}
 use Rattle.machine.specs.Sound.{Sound}
-use Rattle.machine.specs.Table.{hand-other, hand-seat, begins-kept, session-same, undo-all-table, end-other, end-many, leave-own, leave-other, hand-put}
+use Rattle.machine.specs.Table.{as-asked, hand-other, hand-seat, hand-marks, session-put, session-other, session-kept, begins-kept, session-same, undo-all-table, end-other, end-many, leave-own, leave-other, hand-put}
 use Rattle.machine.specs.Checks.{refusing-numbers, party-number, session-number, party-seat, session-unbegun}
 use Rattle.machine.specs.Looks.{unbegun-hand}
+use Rattle.machine.specs.Recover.{recovered, recovered-hands, recovered-asked, abort-own, abort-other}
 use Rattle.machine.specs.Fresh.{fresh-session}
 use Rattle.machine.specs.Hands.{Own, step-handed}
 use Rattle.machine.specs.Demand.{as-told, tell-of}
@@ -47,7 +50,7 @@ module _ (s : State) (S : Sound s) (t : Told) (l : List ℕ) (h : (q : ℕ) → 
 
   put-hands : (p c e f g : ℕ) → HandsTold (put p c e f g) l t (call (put p c e f g) s)
   unfolding call accepted
-  put-hands p c e f g = refusing-numbers (HandsTold (put p c e f g) l t) (put-checks p c e f g s) s (answer ok (accepted p c e f g s)) (h, (h, (h, (h, (h, (h, (h, tt))))))) λ k.
+  put-hands p c e f g = refusing-numbers (HandsTold (put p c e f g) l t) (put-checks p c e f g s) s (answer ok (accepted p c e f g s)) (h, (h, (h, (h, (h, (h, (h, (h, tt)))))))) λ k.
       let r : Request = record { code = c; entry = e; first = f; second = g; stage = first-stage c f s } in
       one-hand p (set-hand p (some r) s) (some r) (ap (λ x. x .hand) (hand-put p (some r) s (party-seat p s (S .seats) (party-number p (k .0))))) (λ q n. ap (λ x. x .hand) (hand-other p q (some r) s n))
 
@@ -67,6 +70,15 @@ module _ (s : State) (S : Sound s) (t : Told) (l : List ℕ) (h : (q : ℕ) → 
       one-hand p (aborts p s) none
       (ap (λ x. x .hand) (leave-own p b (let z = party-seat p s (S .seats) (session-number p (k .0) .1) in omega arith)))
       (λ q n. ap (λ x. x .hand) (leave-other p q b n ∙ session-same a b e q ∙ end-other p q (sessionOf p s .hand) s n))
+
+  ask-hands : (p : ℕ) → HandsTold (ask p) l t (call (ask p) s)
+  unfolding call asks
+  ask-hands p = refusing-numbers (HandsTold (ask p) l t) (ask-checks p s) s (answer ok (asks p s)) (h, (h, (h, (h, tt)))) λ k q.
+      ap D.hand-put (session-kept (λ x. x .hand) p as-asked s (λ x. refl) q) ∙ h q
+
+  recover-hands : HandsTold recover l t (call recover s)
+  unfolding call
+  recover-hands q = ap D.hand-put (recovered-hands s (recovers s) (recovered s S) q)
 
   -- The same request in hand, perhaps in another stage.
   hold-told : (p : ℕ) (u : State) (v : Option Request) → sessionOf p u .hand ≡ v → D.hand-put v ≡ D.hand-put (sessionOf p s .hand)
@@ -100,3 +112,74 @@ module _ (s : State) (S : Sound s) (t : Told) (l : List ℕ) (h : (q : ℕ) → 
   call-hands (step p n) = step-hands p n
   call-hands (commit p) = commit-hands p
   call-hands (abort p) = abort-hands p
+  call-hands (ask p) = ask-hands p
+  call-hands recover = recover-hands
+
+-- ---- who is asked
+
+abbrev MarksTold : Call → List ℕ → Told → Outcome → Type 0
+MarksTold c l t o = (q : ℕ) → sessionOf q (o .next) .asked ≡ tell-of (as-told c) (o .answer) l t .asked q
+
+module _ (s : State) (S : Sound s) (t : Told) (l : List ℕ) (h : (q : ℕ) → sessionOf q s .asked ≡ t .asked q) where
+  -- One party's mark becomes b, the others' stay.
+  one-mark : (p : ℕ) (u : State) (b : Bool) → sessionOf p u .asked ≡ b → ((q : ℕ) → ¬ (p ≡ q) → sessionOf q u ≡ sessionOf q s)
+      → (q : ℕ) → sessionOf q u .asked ≡ Serial.put (t .asked) p b q
+  one-mark p u b e n = put-cases (λ q z. sessionOf q u .asked ≡ z) (t .asked) p b e (λ q m. ap (λ x. x .asked) (n q m) ∙ h q)
+
+  format-marks : (m w : ℕ) → MarksTold (format m w) l t (call (format m w) s)
+  unfolding call
+  format-marks m w = refusing-numbers (MarksTold (format m w) l t) (format-checks m w) s (answer ok (fresh m (records-for m w))) (h, tt) λ k q. ap (λ x. x .asked) (fresh-session m (records-for m w) q)
+
+  begin-marks : (p : ℕ) → MarksTold (begin p) l t (call (begin p) s)
+  unfolding call begins
+  begin-marks p = refusing-numbers (MarksTold (begin p) l t) (begin-checks p s) s (answer ok (begins p s)) (h, (h, tt)) λ k q.
+      begins-kept (λ x. x .asked) (λ n x. refl) (λ n x. refl) p q s ∙ h q
+
+  put-marks : (p c e f g : ℕ) → MarksTold (put p c e f g) l t (call (put p c e f g) s)
+  unfolding call accepted
+  put-marks p c e f g = refusing-numbers (MarksTold (put p c e f g) l t) (put-checks p c e f g s) s (answer ok (accepted p c e f g s)) (h, (h, (h, (h, (h, (h, (h, (h, tt)))))))) λ k q.
+      hand-marks p q (some (record { code = c; entry = e; first = f; second = g; stage = first-stage c f s })) s ∙ h q
+
+  commit-marks : (p : ℕ) → MarksTold (commit p) l t (call (commit p) s)
+  unfolding call commits
+  commit-marks p = refusing-numbers (MarksTold (commit p) l t) (commit-checks p s) s (answer ok (commits p s)) (h, (h, (h, tt))) λ k.
+      one-mark p (commits p s) false (ap (λ x. x .asked) (leave-own p _ (party-seat p s (S .seats) (session-number p (k .0) .1)))) (λ q n. leave-other p q _ n ∙ session-same s _ refl q)
+
+  abort-marks : (p : ℕ) → MarksTold (abort p) l t (call (abort p) s)
+  unfolding call
+  abort-marks p = refusing-numbers (MarksTold (abort p) l t) (abort-checks p s) s (answer ok (aborts p s)) (h, (h, tt)) λ k.
+      one-mark p (aborts p s) false (ap (λ x. x .asked) (abort-own p s (party-seat p s (S .seats) (session-number p (k .0) .1)))) (λ q n. abort-other p q s n)
+
+  ask-marks : (p : ℕ) → MarksTold (ask p) l t (call (ask p) s)
+  unfolding call asks
+  ask-marks p = refusing-numbers (MarksTold (ask p) l t) (ask-checks p s) s (answer ok (asks p s)) (h, (h, (h, (h, tt)))) λ k.
+      one-mark p (asks p s) true (ap (λ x. x .asked) (session-put p as-asked s (party-seat p s (S .seats) (session-number p (k .0) .1)))) (λ q n. session-other p q as-asked s n)
+
+  step-marks : (p n : ℕ) → MarksTold (step p n) l t (call (step p n) s)
+  unfolding call steps
+  step-marks p n = refusing-numbers (MarksTold (step p n) l t) (step-checks p s) s (steps p n (sessionOf p s .hand) s) (h, (h, (h, tt))) λ k. go (sessionOf p s .hand) refl
+    where
+      same : (a : Answer) (q : ℕ) → t .asked q ≡ tell-of (C.step p []) a l t .asked q
+      same ok q = refl
+      same more q = refl
+      same (wait ps) q = refl
+      same (done ns) q = refl
+      same (refused i b) q = either (λ u. t .asked q ≡ u .asked q) (C.ends-request i) (C.take-in-hand p none t) t refl refl
+
+      go : (v : Option Request) → sessionOf p s .hand ≡ v → MarksTold (step p n) l t (steps p n v s)
+      go none e = h
+      go (some r) e = λ q. ap (λ x. x .2) (step-handed p r s (hand-seat p r s e) e n .tenures q) ∙ h q ∙ same (settled s (r .stage) (next-step n p r s (r .stage)) .answer) q
+
+  recover-marks : MarksTold recover l t (call recover s)
+  unfolding call
+  recover-marks q = recovered-asked s (recovers s) (recovered s S) q ∙ h q
+
+  pub call-marks : (c : Call) → MarksTold c l t (call c s)
+  call-marks (format m w) = format-marks m w
+  call-marks (begin p) = begin-marks p
+  call-marks (put p c e f g) = put-marks p c e f g
+  call-marks (step p n) = step-marks p n
+  call-marks (commit p) = commit-marks p
+  call-marks (abort p) = abort-marks p
+  call-marks (ask p) = ask-marks p
+  call-marks recover = recover-marks

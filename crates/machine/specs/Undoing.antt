@@ -153,7 +153,7 @@ undo-did p (taken e k) us s S w = taken-did p k e us s S w
 
 -- A session with other undo records.
 abbrev pub with-undos : List Undo → Session → Session
-with-undos us x = record { begun = x .begun; order = x .order; hand = x .hand; undos = us }
+with-undos us x = record { begun = x .begun; order = x .order; hand = x .hand; undos = us; asked = x .asked }
 
 module _ (p : ℕ) (b : Undo) (us : List Undo) (s : State) (S : Sound s) (chain : sessionOf p s .undos ≡ b ∷ us) (u : State) (U : Undid p us s u) where
   abbrev x : Session
@@ -235,6 +235,7 @@ module _ (p : ℕ) (b : Undo) (us : List Undo) (s : State) (S : Sound s) (chain 
     undos-begun = λ e. still e;
     zero-unmarked = λ e. absurd (true≢false begun (subst (λ q. sessionOf q s .begun ≡ false) (sym e) (S .zero-unmarked)));
     apart = apart-kept p s undid (S .orders) theirs (ap tenure mine);
+    asked-idle = λ e. (ap (λ y. y .begun) mine ∙ begun, hands p ∙ S .only-asked p (sym (ap (λ y. y .asked) mine) ∙ e) .1);
     checked = λ r e. checks-kept p (r .code) (r .entry) (r .first) (r .second) s undid (U .many) (S .checked p r (sym (hands p) ∙ e));
     standing = λ r e. let i = sym (hands p) ∙ e in stands-kept p s undid undid-remains r (r .stage) (S .checked p r i .0) (S .standing p r i);
     undoable = subst (λ y. Undoable p undid (y .undos) (cells undid)) (sym mine) (undoable-kept p s undid undid-remains us (U .rest) (cells undid) (λ k f i. U .cells-are k f) (U .undoable));

@@ -113,8 +113,8 @@ hand-of x = cond (eqb (x .stage) 0) none (some (record { code = x .code; entry =
 
 -- Party 0 has no mark and no undo records.
 abbrev pub session-of : List ℕ → ℕ → ℕ → ℕ → Session → M.Session
-session-of s m r zero x = record { begun = false; order = 0; hand = hand-of x; undos = [] }
-session-of s m r (suc p) x = record { begun = not (eqb (x .begun) 0); order = x .order; hand = hand-of x; undos = map (undo-at s m) (chain s m r (x .undo)) }
+session-of s m r zero x = record { begun = false; order = 0; hand = hand-of x; undos = []; asked = not (eqb (x .asked) 0) }
+session-of s m r (suc p) x = record { begun = not (eqb (x .begun) 0); order = x .order; hand = hand-of x; undos = map (undo-at s m) (chain s m r (x .undo)); asked = not (eqb (x .asked) 0) }
 
 -- From party p on.
 abbrev pub sessions-of : List ℕ → ℕ → ℕ → ℕ → List Session → List M.Session

@@ -1,11 +1,11 @@
-// Naive: a second model of the whole entry store, written from document 01 and document 02's M-101 and M-104 alone, to be run beside the store and compared
-// with it.
+// Naive: a second model of the whole entry store, written from document 01 and document 02's M-101, M-104 and M-105 alone, to be run beside the store and
+// compared with it.
 //
 // The model is plain arrays in one lent slice: the entries, the descriptors rising by key with their groups as sets of bits, the tree nodes, the
 // parties, the begun sessions in the order in which they began, an undo log in order of time, and a count of free records. There are no records and no
-// chains. Latches and pins are not kept: they follow from the stages of the requests in hand. Whom a wait names is read off the order of begins, and not
-// off the numbers that the sessions have in it. It is made for M from 1 to 32 and every R; a larger M that document 01 allows is formatted, and its entries
-// above 32 read as 0.
+// chains. Latches and pins are not kept: they follow from the stages of the requests in hand. That a session is asked is a stage too. Whom a wait names is
+// read off the order of begins, and not off the numbers that the sessions have in it. It is made for M from 1 to 32 and every R; a larger M that document
+// 01 allows is formatted, and its entries above 32 read as 0.
 //
 // It promises that every function is safe and ends, on any words. That it does what these documents say is tested and not proved. It rests on naive_tree
 // for its arrays, descriptors and tree, on naive_steps for the descent, the parties, the order of begins and the undo log.
@@ -28,6 +28,7 @@ use naive_steps::line::add_last;
 use naive_steps::line::leave;
 use naive_steps::line::number_all;
 pub use naive_steps::line::place_of as place_in_line;
+use naive_steps::party::ASKED;
 use naive_steps::party::AT;
 use naive_steps::party::CHANGE;
 use naive_steps::party::DONE;
@@ -47,7 +48,11 @@ use naive_steps::party::TIDY;
 use naive_steps::party::WAIT;
 use naive_steps::party::WRITE;
 use naive_steps::party::alone;
+pub use naive_steps::party::is_asked as asked;
+use naive_steps::party::is_asked;
+use naive_steps::party::is_at_node;
 pub use naive_steps::party::is_begun as begun;
+use naive_steps::party::is_begun;
 pub use naive_steps::party::is_in_hand as in_hand;
 use naive_steps::party::is_in_hand;
 use naive_steps::party::reply;
@@ -70,6 +75,7 @@ use naive_tree::arrays::NOWHERE;
 use naive_tree::arrays::ORDER;
 use naive_tree::arrays::PARTIES;
 use naive_tree::arrays::R;
+use naive_tree::arrays::RECOVERS;
 use naive_tree::arrays::ROOT;
 use naive_tree::arrays::SHARES;
 use naive_tree::arrays::STAGE;
@@ -82,18 +88,32 @@ use naive_tree::arrays::clear_bits;
 use naive_tree::arrays::field;
 use naive_tree::arrays::get;
 use naive_tree::arrays::minus;
+use naive_tree::arrays::note;
 use naive_tree::arrays::plus;
 use naive_tree::arrays::raise;
 use naive_tree::arrays::set;
 use naive_tree::arrays::set_field;
 use naive_tree::arrays::set_fields;
 use naive_tree::events::ABORT_IN_HAND;
+use naive_tree::events::ABORTED_BY_RECOVER;
+use naive_tree::events::ASK_AGAIN;
+use naive_tree::events::ASK_IN_HAND;
+use naive_tree::events::ASK_TAKEN;
+use naive_tree::events::ASKED_ABORT;
+use naive_tree::events::ASKED_COMMIT;
 use naive_tree::events::COMMIT_WITH_UNDOS;
+use naive_tree::events::CUT_AT_NODE;
 use naive_tree::events::LATCH_WAIT;
+use naive_tree::events::LEFT_BY_RECOVER;
 use naive_tree::events::NO_EVENT;
 use naive_tree::events::NOT_LOWEST;
+use naive_tree::events::PUT_WHEN_ASKED;
+use naive_tree::events::RECOVERED;
+use naive_tree::events::RECOVERED_COMMIT;
 use naive_tree::events::RENUMBERED;
 use naive_tree::events::SEVERAL_WAIT;
+use naive_tree::events::TIDY_ENDED;
+use naive_tree::events::TIDY_ENDED_AT_NODE;
 use naive_tree::events::TWO_LATCHED;
 pub use naive_tree::keys::free;
 pub use naive_tree::keys::is_stored as stored;
@@ -149,6 +169,15 @@ fn party_refusal(a: &Words, p: u32, lowest: u32, from: u32, to: u32) -> u32 {
     unless((from <= stage) & (stage <= to), 7)
 }
 
+// The same of a put or an ask, which no asked session makes: it is refused by 21, after 5 and before 7.
+fn open_refusal(a: &Words, p: u32, lowest: u32) -> u32 {
+    let n = party_refusal(a, p, lowest, IDLE, IDLE);
+    if (n == 7) & is_asked(a, p) {
+        return 21;
+    }
+    n
+}
+
 pub fn begin(a: &mut Words, p: u32) -> Said {
     let n = party_refusal(a, p, 1, NONE, NONE);
     if n != 0 {
@@ -184,7 +213,7 @@ fn is_infinity(key: u32) -> bool {
 
 // The number with which a put is refused, 0 for none.
 fn put_refusal(a: &Words, p: u32, code: u32, entry: u32, first: u32, second: u32) -> u32 {
-    let n = party_refusal(a, p, 0, IDLE, IDLE);
+    let n = open_refusal(a, p, 0);
     if n != 0 {
         return n;
     }
@@ -211,6 +240,7 @@ fn first_stage(a: &Words, code: u32, first: u32) -> u32 {
 // Puts a request. Its descent goes to its first key, and a locate takes the lowest one above the one before that.
 pub fn put(a: &mut Words, p: u32, code: u32, entry: u32, first: u32, second: u32) -> Said {
     let n = put_refusal(a, p, code, entry, first, second);
+    raise(a, COUNTERS, PUT_WHEN_ASKED, (n == 21) as u32);
     if n != 0 {
         return say(REFUSED, n, 0);
     }
@@ -292,24 +322,46 @@ fn make_step(a: &mut Words, p: u32, stage: u32) -> Said {
     go_down(a, p, minus(stage, AT))
 }
 
+// Asks session p, so that only commit and abort remain to it.
+pub fn ask(a: &mut Words, p: u32) -> Said {
+    let n = open_refusal(a, p, 1);
+    raise(a, COUNTERS, ASK_AGAIN, (n == 21) as u32);
+    raise(a, COUNTERS, ASK_IN_HAND, (n == 7) as u32);
+    if n != 0 {
+        return say(REFUSED, n, 0);
+    }
+    set_field(a, p, RECOVERS, 0);
+    reply(a, p, ASK_TAKEN, ASKED, OK, 0, 0)
+}
+
 pub fn commit(a: &mut Words, p: u32) -> Said {
-    end(a, p, IDLE)
+    end(a, p, ASKED)
 }
 
 pub fn abort(a: &mut Words, p: u32) -> Said {
     end(a, p, 4294967295)
 }
 
-// Ends session p, at a stage up to this one: it holds nothing and is not begun. A commit is of a session with nothing in hand.
+// Counts that session p is committed or aborted: what it has in hand, and whether it is asked.
+fn count_end(a: &mut Words, p: u32, is_abort: bool) {
+    let is_cut = is_in_hand(a, p);
+    let is_asked = is_asked(a, p);
+    let is_late = is_asked & (field(a, p, RECOVERS) != 0);
+    raise(a, COUNTERS, ABORT_IN_HAND, is_cut as u32);
+    raise(a, COUNTERS, ASKED_COMMIT, (is_asked & !is_abort) as u32);
+    raise(a, COUNTERS, RECOVERED_COMMIT, (is_late & !is_abort) as u32);
+    raise(a, COUNTERS, ASKED_ABORT, (is_asked & is_abort) as u32);
+}
+
+// Ends session p, at a stage up to this one: it holds nothing and is not begun. A commit is of a session with nothing in hand, asked or not.
 fn end(a: &mut Words, p: u32, to: u32) -> Said {
     let n = party_refusal(a, p, 1, IDLE, to);
     if n != 0 {
         return say(REFUSED, n, 0);
     }
-    let is_cut = is_in_hand(a, p);
-    let is_abort = to != IDLE;
+    let is_abort = to != ASKED;
+    count_end(a, p, is_abort);
     let count = end_records(a, p, is_abort);
-    raise(a, COUNTERS, ABORT_IN_HAND, is_cut as u32);
     raise(
         a,
         COUNTERS,
@@ -319,6 +371,41 @@ fn end(a: &mut Words, p: u32, to: u32) -> Said {
     clear_bits(a, LOCATES, NOWHERE - LOCATES, bit(p));
     leave(a, p);
     reply(a, p, NO_EVENT, NONE, OK, 0, 0)
+}
+
+// What a recover does to session p: one that is asked stays, any other that is begun is aborted.
+fn recover_one(a: &mut Words, p: u32) {
+    if is_asked(a, p) {
+        let n = plus(field(a, p, RECOVERS), 1);
+        set_field(a, p, RECOVERS, n);
+        note(a, LEFT_BY_RECOVER);
+        return;
+    }
+    if is_begun(a, p) {
+        let is_at_node = is_at_node(a, p);
+        note(a, ABORTED_BY_RECOVER);
+        raise(a, COUNTERS, CUT_AT_NODE, is_at_node as u32);
+        abort(a, p);
+    }
+}
+
+// Housekeeping ends: its request, and its latch with it.
+fn end_housekeeping(a: &mut Words) {
+    let is_ended = is_in_hand(a, 0);
+    let is_at_node = is_at_node(a, 0);
+    raise(a, COUNTERS, TIDY_ENDED, is_ended as u32);
+    raise(a, COUNTERS, TIDY_ENDED_AT_NODE, is_at_node as u32);
+    set_field(a, 0, STAGE, IDLE);
+}
+
+// Every session that is not asked is aborted, the last one first, and then housekeeping ends.
+pub fn recover(a: &mut Words) -> Said {
+    for k in 1..PARTIES {
+        recover_one(a, minus(PARTIES, k));
+    }
+    end_housekeeping(a);
+    note(a, RECOVERED);
+    say(OK, 0, 0)
 }
 
 // The value of an entry.

@@ -27,21 +27,24 @@ pub const LOCATE: u32 = 5;
 
 pub const TIDY: u32 = 6;
 
-// The stages of a party: NONE of a session that is not begun, IDLE with no request in hand. Of a request: START before its first step or with nothing to
-// descend to, ENTER before the root, CHANGE before an insert's or remove's last step, TAKE while a locate takes its keys, AT + n at node n, which it has latched.
+// The stages of a party: NONE of a session that is not begun, IDLE with no request in hand, ASKED of a session that is asked, and so has none in hand. Of a
+// request: START before its first step or with nothing to descend to, ENTER before the root, CHANGE before an insert's or remove's last step, TAKE while a
+// locate takes its keys, AT + n at node n, which it has latched.
 pub const NONE: u32 = 0;
 
 pub const IDLE: u32 = 1;
 
-pub const START: u32 = 2;
+pub const ASKED: u32 = 2;
 
-pub const ENTER: u32 = 3;
+pub const START: u32 = 3;
 
-pub const CHANGE: u32 = 4;
+pub const ENTER: u32 = 4;
 
-pub const TAKE: u32 = 5;
+pub const CHANGE: u32 = 5;
 
-pub const AT: u32 = 6;
+pub const TAKE: u32 = 6;
+
+pub const AT: u32 = 7;
 
 // The words that are told of a call.
 pub const OK: u32 = 0;
@@ -110,8 +113,16 @@ pub fn is_begun(a: &Words, p: u32) -> bool {
     (p == 0) | (field(a, p, STAGE) != NONE)
 }
 
+pub fn is_asked(a: &Words, p: u32) -> bool {
+    field(a, p, STAGE) == ASKED
+}
+
 pub fn is_in_hand(a: &Words, p: u32) -> bool {
-    IDLE < field(a, p, STAGE)
+    START <= field(a, p, STAGE)
+}
+
+pub fn is_at_node(a: &Words, p: u32) -> bool {
+    AT <= field(a, p, STAGE)
 }
 
 // The parties other than session p in a holders word.
@@ -141,7 +152,7 @@ pub fn alone(p: u32) -> u32 {
 // to second once it has pinned first.
 fn is_pinned_by(a: &Words, q: u32, key: u32) -> bool {
     let stage = field(a, q, STAGE);
-    let is_past = (IDLE < stage) & (field(a, q, TARGET) != key);
+    let is_past = (START <= stage) & (field(a, q, TARGET) != key);
     let is_first = (field(a, q, FIRST) == key) & (is_past | (stage == CHANGE));
     is_first | ((field(a, q, SECOND) == key) & (stage == TAKE))
 }

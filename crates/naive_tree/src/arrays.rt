@@ -21,9 +21,9 @@ pub const PARTIES: u32 = 17;
 // The parts, each an array of words. Format clears those from HEADER on.
 pub const COUNTERS: u32 = 0;
 
-pub const HEADER: u32 = 48;
+pub const HEADER: u32 = 64;
 
-pub const VALUES: u32 = 64;
+pub const VALUES: u32 = 80;
 
 pub const SESSIONS: u32 = VALUES + ENTRY_SLOTS;
 
@@ -102,6 +102,9 @@ pub const LAST: u32 = 6;
 
 // Its number in the order of begins, which no request changes.
 pub const ORDER: u32 = 7;
+
+// How many recovers it has lived through since it was asked.
+pub const RECOVERS: u32 = 8;
 
 // A number that is added to take one away, and an element that no array has.
 pub const LESS: u32 = 4294967295;

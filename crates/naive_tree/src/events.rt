@@ -78,4 +78,35 @@ pub const UNDONE_UNDER_NEWER: u32 = 35;
 
 pub const UNDONE_OVER_OLDER: u32 = 36;
 
+// An ask that is accepted; one that is refused since the session is asked; and since it has a request in hand.
+pub const ASK_TAKEN: u32 = 37;
+
+pub const ASK_AGAIN: u32 = 38;
+
+pub const ASK_IN_HAND: u32 = 39;
+
+// A put that is refused since the session is asked.
+pub const PUT_WHEN_ASKED: u32 = 40;
+
+// A commit of an asked session; of these, one that has lived through a recover since it was asked; an abort of an asked session.
+pub const ASKED_COMMIT: u32 = 41;
+
+pub const RECOVERED_COMMIT: u32 = 42;
+
+pub const ASKED_ABORT: u32 = 43;
+
+pub const RECOVERED: u32 = 44;
+
+// A session that a recover aborts; of these, one with a request in hand at a node; one that is asked and that a recover leaves.
+pub const ABORTED_BY_RECOVER: u32 = 45;
+
+pub const CUT_AT_NODE: u32 = 46;
+
+pub const LEFT_BY_RECOVER: u32 = 47;
+
+// A recover that ends a tidy in hand; of these, one at a node.
+pub const TIDY_ENDED: u32 = 48;
+
+pub const TIDY_ENDED_AT_NODE: u32 = 49;
+
 pub const NO_EVENT: u32 = 4294967295;

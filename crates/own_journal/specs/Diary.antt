@@ -49,6 +49,8 @@ note-ok (C.put p code entry first second) d = d
 note-ok (C.step p l) d = d
 note-ok (C.commit s) d = write (commit-line (d .runs s)) d
 note-ok (C.abort s) d = d
+note-ok (C.ask s) d = d
+note-ok C.recover d = d
 
 -- Codes 1 to 5 are written.
 abbrev pub note-request : ℕ → Asked → Option Req → List ℕ → List ℕ → Diary → Diary
@@ -68,6 +70,8 @@ note-done (C.put p code entry first second) ns l t d = d
 note-done (C.step p l₀) ns l t d = note-finished p (t .hands p) ns l d
 note-done (C.commit s) ns l t d = d
 note-done (C.abort s) ns l t d = d
+note-done (C.ask s) ns l t d = d
+note-done C.recover ns l t d = d
 
 -- Nothing else is written.
 abbrev pub note-answer : Call → Answer → List ℕ → Told → Diary → Diary

@@ -17,7 +17,7 @@ use Rattle.machine.specs.Checks.{refusing-cases, session-number, session-begun}
 use Rattle.machine.specs.Fresh.{fresh-session}
 use Rattle.machine.specs.Ending.{fresh-sound}
 use Rattle.machine.specs.Demand.{Lent, Tells, call-of, Performs, machine, as-put, hand-put, fresh-formatted}
-use Rattle.machine.specs.Demand3.{machine-laws, fresh-lent}
+use Rattle.machine.specs.Demand3.{machine-laws, fresh-lent, fresh-known}
 use Rattle.journal_lines.specs.Journal.{proper}
 use Rattle.own_journal.specs.Diary.{request-line}
 use Rattle.own_journal.specs.Own.{Careful, JournalAccepted, own-journal}
@@ -56,13 +56,6 @@ pub machine-careful : Careful machine
 machine-careful = record { hand-proper = hand-proper; hand-begun = hand-begun; commit-begun = commit-begun }
 
 -- ---- the theorem
-
-fresh-known : (m r words : ℕ) → 1 ≤ m → m ≤ 1024 → 8 ≤ r → r ≤ 4096 → Knows machine nothing (fresh-lent m r words)
-fresh-known m r words a b c d = record {
-  sound = fresh-sound m r a b c d;
-  hand-told = λ p. ap (λ z. hand-put (z .hand)) (fresh-session m r p);
-  begun-told = λ p. ap (λ z. z .begun) (fresh-session m r p);
-}
 
 -- Any list of calls, whoever's turn each is, from a fresh store.
 pub machine-journal : (m r words : ℕ) → 1 ≤ m → m ≤ 1024 → 8 ≤ r → r ≤ 4096 → (ks : List Turn) (y : Lent) → Run machine (fresh-lent m r words) ks y → JournalAccepted ks

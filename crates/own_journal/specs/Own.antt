@@ -16,7 +16,7 @@ use Rattle.serial.specs.Model as R
 use Rattle.serial.specs.Footprints.{store}
 use Rattle.serial.specs.Locks.{Table, Strict}
 use Rattle.serial.specs.LockMachine.{Formatted}
-use Rattle.serial.specs.Calls.{Call, Answer, Turn, Asked, Told, nothing, tell, told, tell-ok, tell-answer, tell-done, tell-refused, take-in-hand, finished, fed, number-of, answer-of, ends-request, Machine, Run, Knows, Laws, demand-3}
+use Rattle.serial.specs.Calls.{Call, Answer, Turn, Asked, Told, nothing, tell, told, tell-ok, tell-answer, tell-done, tell-refused, take-in-hand, without, finished, fed, number-of, answer-of, ends-request, Machine, Run, Knows, Laws, demand-3}
 use Rattle.serial.specs.Calls as C
 use Rattle.serial.specs.Codes.{two-by-two, two-by-two-words}
 use Rattle.machine.specs.Logic.{both, eqb-yes, eqb-no, eqb-is}
@@ -243,6 +243,26 @@ module _ (h : Hist store) (u : ℕ → Bool) (d : Diary) (A : Agrees h u d) wher
       run-is v (yes e) b = absurd (S.true≢false b refl)
       run-is v (no n) b = A .current-is v b
 
+  -- Recover: of the unfinished sessions those stay that are asked.
+  agrees-recover : (asked : ℕ → Bool) → Agrees (without (λ s. u s && not (asked s)) h) (λ s. u s && asked s) d
+  agrees-recover asked = record {
+    all-are-proper = A .all-are-proper;
+    all-do-end = A .all-do-end;
+    closed-is = A .closed-is;
+    current-is = λ v b. A .current-is v (was v b) ∙ ap (λ z. map as-written (cond z [] (h .current v))) (sym (kept-on v b));
+    still-open = λ v b. A .still-open v (was v b);
+    apart = λ v w a b. A .apart v w (was v a) (was w b);
+    old-lines = A .old-lines;
+    old-runs = λ v b. A .old-runs v (was v b);
+    all-listed = A .all-listed;
+  }
+    where
+      was : (v : ℕ) → (u v && asked v) ≡ true → u v ≡ true
+      was v b = both (u v) (asked v) b .0
+
+      kept-on : (v : ℕ) → (u v && asked v) ≡ true → (u v && not (asked v)) ≡ false
+      kept-on v b = let q = both (u v) (asked v) b in rw (q .0, q .1) refl
+
   -- Unfinished session s commits.
   agrees-commit : (s : ℕ) → u s ≡ true → Agrees (hstep store (S.commit s) h) (S.put u s false) (note-ok (C.commit s) d)
   unfolding committed-in proper
@@ -395,6 +415,8 @@ module _ (𝓢 : Machine) (T : Table) (strict : Strict T) (𝓛 : Laws 𝓢 T) (
   ok-agrees (C.commit s) l x y t d D w A =
       agrees-commit (t .past) (t .unfinished) d A s (sym (w .begun-told s) ∙ 𝓒 .commit-begun s (record { call = C.commit s; answer = C.ok; list = l }) x y refl refl D (w .sound))
   ok-agrees (C.abort s) l x y t d D w A = agrees-abort (t .past) (t .unfinished) d A s
+  ok-agrees (C.ask s) l x y t d D w A = A
+  ok-agrees C.recover l x y t d D w A = agrees-recover (t .past) (t .unfinished) d A (t .asked)
 
   done-agrees : (c : Call) (ns l : List ℕ) (x : X) (t : Told) (d : Diary) → Knows 𝓢 t x → Faithful t d → Faithful (tell-done c ns l t) (note-done c ns l t d)
   done-agrees (C.format m) ns l x t d w A = A
@@ -403,6 +425,8 @@ module _ (𝓢 : Machine) (T : Table) (strict : Strict T) (𝓛 : Laws 𝓢 T) (
   done-agrees (C.step p l₀) ns l x t d w A = finish-agrees p (t .hands p) ns l x t d w refl A
   done-agrees (C.commit s) ns l x t d w A = A
   done-agrees (C.abort s) ns l x t d w A = A
+  done-agrees (C.ask s) ns l x t d w A = A
+  done-agrees C.recover ns l x t d w A = A
 
   refused-agrees : (c : Call) (n : ℕ) (t : Told) (d : Diary) → Faithful t d → Faithful (tell-refused c n t) d
   refused-agrees (C.format m) n t d A = A
@@ -415,6 +439,8 @@ module _ (𝓢 : Machine) (T : Table) (strict : Strict T) (𝓛 : Laws 𝓢 T) (
       go false = A
   refused-agrees (C.commit s) n t d A = A
   refused-agrees (C.abort s) n t d A = A
+  refused-agrees (C.ask s) n t d A = A
+  refused-agrees C.recover n t d A = A
 
   -- One call.
   pub call-agrees : (c : Call) (a : Answer) (l : List ℕ) (x y : X) (t : Told) (d : Diary) → Does x (record { call = c; answer = a; list = l }) y → Knows 𝓢 t x → Faithful t d

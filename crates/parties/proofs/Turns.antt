@@ -12,7 +12,7 @@ use Rattle.marks.specs.declared.Chain.{Chain}
 use Rattle.marks.specs.Trail.{Turn, Trail, ends, Ends, Turned, turned, turned-as, trail-as, ended-as, go-end}
 use Rattle.undo_chains.specs.UndoChains.{undosFrom}
 use Rattle.standing.specs.Standing.{partyOk}
-use Rattle.parties.specs.Parties.{partiesFrom, oneAtNode, standingFrom, someUndo, hasUndos, undosOf, allUndos}
+use Rattle.parties.specs.Parties.{partiesFrom, markOk, marksFrom, oneAtNode, standingFrom, someUndo, hasUndos, undosOf, allUndos}
 
 one-less : (k : ℕ) → 0 < k → k ≡ suc (k - 1)
 one-less k h = omega arith
@@ -41,6 +41,27 @@ module _ {whole : Turn (List ℕ)} {s seen : List ℕ} {m r : ℕ} {t : List Ses
   pub stand-end : {rest : ℕ} → Standing whole s seen m r t tally p rest → rest ≡ 0 → Turned whole true tally
   unfolding partiesFrom
   stand-end {rest} g e = turned (ap (partiesFrom s seen m r t tally p) (sym e) ∙ g .is)
+
+-- ---- the parties that may be asked
+
+-- what is left of the table, done, gives the whole
+pub record Marking (whole : Bool) (t : List Session) (p rest : ℕ) : Type 0 where
+  pub is : marksFrom t p rest ≡ whole
+
+mark-turn : (t : List Session) (p rest : ℕ) → 0 < rest → marksFrom t p rest ≡ cond (markOk p (session-at t p)) (marksFrom t (p + 1) (rest - 1)) false
+unfolding marksFrom
+mark-turn t p rest h = ap (marksFrom t p) (one-less rest h)
+
+module _ {whole : Bool} {t : List Session} {p : ℕ} where
+  pub mark-bad : {rest : ℕ} {b : Bool} → Marking whole t p rest → 0 < rest → b ≡ markOk p (session-at t p) → b ≡ false → false ≡ whole
+  mark-bad {rest} {b} g h q o = sym (mark-turn t p rest h ∙ ap (λ z. cond z (marksFrom t (p + 1) (rest - 1)) false) (sym q ∙ o)) ∙ g .is
+
+  pub mark-more : {rest rest′ : ℕ} {b : Bool} → Marking whole t p rest → 0 < rest → b ≡ markOk p (session-at t p) → b ≡ true → rest′ ≡ rest - 1 → Marking whole t (p + 1) rest′
+  mark-more {rest} {rest′} {b} g h q o z = record { is = ap (marksFrom t (p + 1)) z ∙ sym (mark-turn t p rest h ∙ ap (λ z. cond z (marksFrom t (p + 1) (rest - 1)) false) (sym q ∙ o)) ∙ g .is }
+
+  pub mark-end : {rest : ℕ} → Marking whole t p rest → rest ≡ 0 → true ≡ whole
+  unfolding marksFrom
+  mark-end {rest} g e = ap (marksFrom t p) (sym e) ∙ g .is
 
 -- ---- the parties at a node
 

@@ -18,6 +18,18 @@ partiesFrom s seen m r t tally p (suc n) =
 unfoldable pub partiesOk : List ℕ → List ℕ → ℕ → ℕ → List Session → List ℕ → Turn (List ℕ)
 partiesOk s seen m r t tally = partiesFrom s seen m r t tally 0 parties
 
+-- party p is asked only if it is a begun session with no request in hand
+unfoldable pub markOk : ℕ → Session → Bool
+markOk p x = cond (eqb (x .asked) 0) true (cond (eqb p 0) false (cond (eqb (x .begun) 0) false (eqb (x .stage) 0)))
+
+-- the parties from p on, n of them
+unfoldable pub marksFrom : List Session → ℕ → ℕ → Bool
+marksFrom t p zero = true
+marksFrom t p (suc n) = cond (markOk p (session-at t p)) (marksFrom t (p + 1) n) false
+
+unfoldable pub marksOk : List Session → Bool
+marksOk t = marksFrom t 0 parties
+
 -- one for a party at a node
 unfoldable pub oneAtNode : Session → ℕ
 oneAtNode s = cond (eqb (s .stage) 3) 1 0

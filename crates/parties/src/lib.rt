@@ -9,7 +9,7 @@ ghost use lib.ListN.{length};
 ghost use Rattle.marks.specs.Marks.{HasRecords};
 ghost use Rattle.marks.specs.Trail.{Turned, Ends};
 ghost use Rattle.undo_chains.specs.UndoChains.{Filing};
-ghost use Rattle.parties.specs.Parties.{partiesOk, oneAtNode, standingAtNodes, hasUndos, allUndos};
+ghost use Rattle.parties.specs.Parties.{partiesOk, markOk, marksOk, oneAtNode, standingAtNodes, hasUndos, allUndos};
 use marks::Chain;
 use sessions::PARTIES;
 use sessions::Session;
@@ -30,6 +30,37 @@ pub fn parties_ok(
     while p < PARTIES {
         let s = t[p];
         if !standing::party_ok(store, seen, tally, m, r, p, s) {
+            return false;
+        }
+        p += 1;
+    }
+    true
+}
+
+// Party p is asked only if it is a begun session with no request in hand.
+fn mark_ok(p: usize, s: Session) -> bool
+    ensures { λ b. ⌜ b ≡ markOk p s ⌝ }
+{
+    if s.asked == 0 {
+        return true;
+    }
+    if p == 0 {
+        return false;
+    }
+    if s.begun == 0 {
+        return false;
+    }
+    s.stage == 0
+}
+
+// So for all parties.
+pub fn marks_ok(t: [Session; PARTIES]) -> bool
+    ensures { λ b. ⌜ b ≡ marksOk t ⌝ }
+{
+    let mut p = 0;
+    while p < PARTIES {
+        let s = t[p];
+        if !mark_ok(p, s) {
             return false;
         }
         p += 1;

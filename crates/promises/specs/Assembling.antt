@@ -101,6 +101,8 @@ others-same (C.put p c e f g) t = λ q n. refl
 others-same (C.step p l) t = λ q n. refl
 others-same (C.commit p) t = λ q n. refl
 others-same (C.abort p) t = λ q n. refl
+others-same (C.ask p) t = λ q n. refl
+others-same C.recover t = λ q n a. refl
 
 kept-same : (c : C.Call) (s : List ℕ) → Kept c s s
 kept-same (C.format m) s = tt
@@ -109,6 +111,8 @@ kept-same (C.put p c e f g) s = refl
 kept-same (C.step p l) s = tt
 kept-same (C.commit p) s = tt
 kept-same (C.abort p) s = tt
+kept-same (C.ask p) s = refl
+kept-same C.recover s = tt
 
 pub list-same : (c : C.Call) → list-of c ≡ list-after c []
 list-same (C.format m) = refl
@@ -117,6 +121,8 @@ list-same (C.put p c e f g) = refl
 list-same (C.step p l) = refl
 list-same (C.commit p) = refl
 list-same (C.abort p) = refl
+list-same (C.ask p) = refl
+list-same C.recover = refl
 
 pub answered-refused : (c : C.Call) (s : List ℕ) (t : List Session) → Sound s t → (n : ℕ) → C.ends-request n ≡ false → outcome c s t ≡ answer (refused n 0) (meaning s t)
     → Answered c s t (C.refused n 0) (list-of c) s t × Around s s

@@ -16,7 +16,7 @@ use Rattle.serial.specs.Serial.{true≢false}
 use Rattle.serial.specs.Calls as C
 use Rattle.machine.specs.State.{State, Request, Answer, ok, more, wait, done, refused, Outcome, sessionOf, fresh}
 use Rattle.machine.specs.Steps.{answer}
-use Rattle.machine.specs.Calls.{Call, call, steps, begins, commits, aborts, accepted, format-checks, records-for}
+use Rattle.machine.specs.Calls.{Call, call, steps, begins, commits, aborts, asks, recovers, accepted, format-checks, records-for}
 use Rattle.machine.specs.Sound.{of-hand}
 use Rattle.machine.specs.Hands.{Handed, Own, step-handed}
 use Rattle.machine.specs.Answers.{may-write, written-only}
@@ -25,7 +25,7 @@ use Rattle.meaning.specs.Reading.{M-of, meaning}
 use Rattle.meaning.specs.Sound.{Sound}
 use Rattle.layout.specs.Asked.{request-in}
 use Rattle.finishing.specs.Finishing.{Elsewhere, elsewhere-same}
-use Rattle.refusals.specs.Refusing.{first-of, begin-list, put-list, step-list, commit-list, abort-list, begin-refused, put-refused, step-refused, commit-refused, abort-refused}
+use Rattle.refusals.specs.Refusing.{first-of, begin-list, put-list, step-list, commit-list, abort-list, ask-list, ask-refused, begin-refused, put-refused, step-refused, commit-refused, abort-refused}
 use Rattle.refusals.specs.Coded.{format-refused}
 use Rattle.promises.specs.Relations.{outcome, stays, list-of, Ended, Answered, Calls, Formats}
 use Rattle.promises.specs.Assembling.{is-refused, number-of, Each, first-is, list-same}
@@ -39,6 +39,8 @@ checks-of (C.put p c e f g) s t = put-list (M-of s) t p c e f g
 checks-of (C.step p l) s t = step-list t p
 checks-of (C.commit p) s t = commit-list t p
 checks-of (C.abort p) s t = abort-list t p
+checks-of (C.ask p) s t = ask-list t p
+checks-of C.recover s t = []
 
 -- The number of the first that holds, 0 for none.
 abbrev pub refusal-of : C.Call → List ℕ → List Session → ℕ
@@ -59,6 +61,8 @@ Accepts (C.put p c e f g) a = a ≡ C.ok
 Accepts (C.step p l) a = steps-with a ≡ true
 Accepts (C.commit p) a = a ≡ C.ok
 Accepts (C.abort p) a = a ≡ C.ok
+Accepts (C.ask p) a = a ≡ C.ok
+Accepts C.recover a = a ≡ C.ok
 
 -- The party whose request a step ends.
 abbrev pub Ends : C.Call → State → Type 0
@@ -68,6 +72,8 @@ Ends (C.put p c e f g) z = Unit {0}
 Ends (C.step p l) z = sessionOf p z .hand ≡ none
 Ends (C.commit p) z = Unit {0}
 Ends (C.abort p) z = Unit {0}
+Ends (C.ask p) z = Unit {0}
+Ends C.recover z = Unit {0}
 
 -- Every word of the store but the latch and the pins of the request that a step ends.
 abbrev pub Spared : C.Call → List ℕ → List Session → List ℕ → Type 0
@@ -77,6 +83,8 @@ Spared (C.put p c e f g) s t s′ = ⊥
 Spared (C.step p l) s t s′ = (i : ℕ) → Elsewhere (M-of s) (session-at t p) i → getD s′ i 0 ≡ getD s i 0
 Spared (C.commit p) s t s′ = ⊥
 Spared (C.abort p) s t s′ = ⊥
+Spared (C.ask p) s t s′ = ⊥
+Spared C.recover s t s′ = ⊥
 
 spared : (c : C.Call) (s : List ℕ) (t : List Session) (s′ : List ℕ) (t′ : List Session) → Ended c s t s′ t′ → Spared c s t s′
 spared (C.format m) s t s′ t′ e = e
@@ -85,6 +93,8 @@ spared (C.put p c i f g) s t s′ t′ e = e
 spared (C.step p l) s t s′ t′ e = λ i a. ap (λ z. getD z i 0) (e .0) ∙ elsewhere-same s (M-of s) (session-at t p) i a
 spared (C.commit p) s t s′ t′ e = e
 spared (C.abort p) s t s′ t′ e = e
+spared (C.ask p) s t s′ t′ e = e
+spared C.recover s t s′ t′ e = e
 
 pub record Demand-1 (c : C.Call) (s : List ℕ) (t : List Session) (a : C.Answer) (l′ s′ : List ℕ) (t′ : List Session) : Type 0 where
   -- Refused first: a damaged store or a wrong session table by its number and never for another cause,
@@ -117,7 +127,9 @@ early c s t = first-is Early (checks-of c s t) (out 0 (λ e. omega (arith, e)) (
     all : (c : C.Call) → Each Early (checks-of c s t)
     all (C.format m) = (((λ e. omega (arith, e)), (λ e. omega (arith, e)), refl), tt)
     all (C.begin p) = (((λ e. omega (arith, e)), (λ e. omega (arith, e)), refl), (((λ e. omega (arith, e)), (λ e. omega (arith, e)), refl), tt))
-    all (C.put p c e f g) = (((λ e. omega (arith, e)), (λ e. omega (arith, e)), refl), (((λ e. omega (arith, e)), (λ e. omega (arith, e)), refl), (((λ e. omega (arith, e)), (λ e. omega (arith, e)), refl), (((λ e. omega (arith, e)), (λ e. omega (arith, e)), refl), (((λ e. omega (arith, e)), (λ e. omega (arith, e)), refl), (((λ e. omega (arith, e)), (λ e. omega (arith, e)), refl), (((λ e. omega (arith, e)), (λ e. omega (arith, e)), refl), tt)))))))
+    all (C.ask p) = (((λ e. omega (arith, e)), (λ e. omega (arith, e)), refl), (((λ e. omega (arith, e)), (λ e. omega (arith, e)), refl), (((λ e. omega (arith, e)), (λ e. omega (arith, e)), refl), (((λ e. omega (arith, e)), (λ e. omega (arith, e)), refl), tt))))
+    all C.recover = tt
+    all (C.put p c e f g) = (((λ e. omega (arith, e)), (λ e. omega (arith, e)), refl), (((λ e. omega (arith, e)), (λ e. omega (arith, e)), refl), (((λ e. omega (arith, e)), (λ e. omega (arith, e)), refl), (((λ e. omega (arith, e)), (λ e. omega (arith, e)), refl), (((λ e. omega (arith, e)), (λ e. omega (arith, e)), refl), (((λ e. omega (arith, e)), (λ e. omega (arith, e)), refl), (((λ e. omega (arith, e)), (λ e. omega (arith, e)), refl), (((λ e. omega (arith, e)), (λ e. omega (arith, e)), refl), tt))))))))
     all (C.step p l) = (((λ e. omega (arith, e)), (λ e. omega (arith, e)), refl), (((λ e. omega (arith, e)), (λ e. omega (arith, e)), refl), (((λ e. omega (arith, e)), (λ e. omega (arith, e)), refl), tt)))
     all (C.commit p) = (((λ e. omega (arith, e)), (λ e. omega (arith, e)), refl), (((λ e. omega (arith, e)), (λ e. omega (arith, e)), refl), (((λ e. omega (arith, e)), (λ e. omega (arith, e)), refl), tt)))
     all (C.abort p) = (((λ e. omega (arith, e)), (λ e. omega (arith, e)), refl), (((λ e. omega (arith, e)), (λ e. omega (arith, e)), refl), tt))
@@ -132,6 +144,12 @@ unrefused (C.put p c e f g) s t = answer ok (accepted p c e f g (meaning s t))
 unrefused (C.step p l) s t = steps p (length l) (sessionOf p (meaning s t) .hand) (meaning s t)
 unrefused (C.commit p) s t = answer ok (commits p (meaning s t))
 unrefused (C.abort p) s t = answer ok (aborts p (meaning s t))
+unrefused (C.ask p) s t = answer ok (asks p (meaning s t))
+unrefused C.recover s t = answer ok (recovers (meaning s t))
+
+recover-checks : (s : List ℕ) (t : List Session) → call (call-of C.recover (length s)) (meaning s t) ≡ cond (eqb (first-of []) 0) (unrefused C.recover s t) (answer (refused (first-of []) 0) (meaning s t))
+unfolding call first-of
+recover-checks s t = refl
 
 by-checks : (c : C.Call) (s : List ℕ) (t : List Session) → Sound s t
     → outcome c s t ≡ cond (eqb (refusal-of c s t) 0) (unrefused c s t) (answer (refused (refusal-of c s t) 0) (meaning s t))
@@ -142,6 +160,8 @@ by-checks (C.put p c e f g) s t A = put-refused s t A p c e f g (unrefused (C.pu
 by-checks (C.step p l) s t A = step-refused s t A p (unrefused (C.step p l) s t)
 by-checks (C.commit p) s t A = commit-refused s t A p (unrefused (C.commit p) s t)
 by-checks (C.abort p) s t A = abort-refused s t A p (unrefused (C.abort p) s t)
+by-checks (C.ask p) s t A = ask-refused s t A p (unrefused (C.ask p) s t)
+by-checks C.recover s t A = recover-checks s t
 
 -- A step's own answers.
 step-with : (p : ℕ) (r : Request) (s : State) (z : Answer) (t : State) (a : C.Answer) → Own p r s z t → Tells z a → steps-with a ≡ true
@@ -176,6 +196,8 @@ module _ (c : C.Call) (s : List ℕ) (t : List Session) (a : C.Answer) (l′ s�
       quiet (Call.step p i) = and-false (of-hand false (λ r. eqb (r .code) 5) (sessionOf p (meaning s t) .hand))
       quiet (Call.commit p) = refl
       quiet (Call.abort p) = refl
+      quiet (Call.ask p) = refl
+      quiet Call.recover = refl
 
 -- A step that no check refuses.
 module _ (p : ℕ) (l : List ℕ) (s : List ℕ) (t : List Session) (S : Sound s t) (z : refusal-of (C.step p l) s t ≡ 0) where
@@ -199,6 +221,8 @@ accepts (C.put p c i f g) s t a S z e h = subst (λ o. Tells (o .answer) a) e h
 accepts (C.step p l) s t a S z e h = own-answer p l s t S z a h
 accepts (C.commit p) s t a S z e h = subst (λ o. Tells (o .answer) a) e h
 accepts (C.abort p) s t a S z e h = subst (λ o. Tells (o .answer) a) e h
+accepts (C.ask p) s t a S z e h = subst (λ o. Tells (o .answer) a) e h
+accepts C.recover s t a S z e h = subst (λ o. Tells (o .answer) a) e h
 
 ended-by : (c : C.Call) (s : List ℕ) (t : List Session) → Sound s t → refusal-of c s t ≡ 0 → (n k : ℕ) → outcome c s t .answer ≡ refused n k → Ends c (outcome c s t .next)
 ended-by (C.format m) s t S z n k e = tt
@@ -207,6 +231,8 @@ ended-by (C.put p c i f g) s t S z n k e = tt
 ended-by (C.step p l) s t S z n k e = own-end p l s t S z n k e
 ended-by (C.commit p) s t S z n k e = tt
 ended-by (C.abort p) s t S z n k e = tt
+ended-by (C.ask p) s t S z n k e = tt
+ended-by C.recover s t S z n k e = tt
 
 -- Not refused by 2: an accepted call.
 not-2 : (c : C.Call) (a : C.Answer) → Accepts c a → a ≡ C.refused 2 0 → ⊥
@@ -216,6 +242,8 @@ not-2 (C.put p c i f g) a h e = true≢false {b = true} refl (ap is-refused (sym
 not-2 (C.step p l) a h e = true≢false (sym (ap steps-with e) ∙ h) refl
 not-2 (C.commit p) a h e = true≢false {b = true} refl (ap is-refused (sym e ∙ h))
 not-2 (C.abort p) a h e = true≢false {b = true} refl (ap is-refused (sym e ∙ h))
+not-2 (C.ask p) a h e = true≢false {b = true} refl (ap is-refused (sym e ∙ h))
+not-2 C.recover a h e = true≢false {b = true} refl (ap is-refused (sym e ∙ h))
 
 -- Every call on every words and table.
 pub demand-1 : (c : C.Call) (s : List ℕ) (t : List Session) (a : C.Answer) (l′ s′ : List ℕ) (t′ : List Session) → Calls c s t a l′ s′ t′ → Demand-1 c s t a l′ s′ t′
@@ -261,6 +289,8 @@ accepts-not-1 (C.put p c i f g) a k h e = true≢false {b = true} refl (ap is-re
 accepts-not-1 (C.step p l) a k h e = true≢false (sym (ap steps-with e) ∙ h) refl
 accepts-not-1 (C.commit p) a k h e = true≢false {b = true} refl (ap is-refused (sym e ∙ h))
 accepts-not-1 (C.abort p) a k h e = true≢false {b = true} refl (ap is-refused (sym e ∙ h))
+accepts-not-1 (C.ask p) a k h e = true≢false {b = true} refl (ap is-refused (sym e ∙ h))
+accepts-not-1 C.recover a k h e = true≢false {b = true} refl (ap is-refused (sym e ∙ h))
 
 -- No call by value is refused 1.
 pub calls-not-1 : (c : C.Call) (s : List ℕ) (t : List Session) (a : C.Answer) (l′ s′ : List ℕ) (t′ : List Session) → Calls c s t a l′ s′ t′ → (k : ℕ) → ¬ (a ≡ C.refused 1 k)

@@ -24,7 +24,7 @@ pub record Lending : Type 0 where
   pub store : List ℕ
   pub table : List Session
 
--- A call may return with this answer and list and leave these words, by the promises of the six calls.
+-- A call may return with this answer and list and leave these words, by the promises of the eight calls.
 unfoldable pub Returns : Lending → Turn → Lending → Type 0
 Returns x k y = Sound (x .store) (x .table) → Answered (k .call) (x .store) (x .table) (k .answer) (k .list) (y .store) (y .table)
 
@@ -34,6 +34,7 @@ words = record {
   Sound = λ x. Sound (x .store) (x .table);
   meaning = λ x. view (meaning (x .store) (x .table));
   hand = λ x p. hand-put (sessionOf p (meaning (x .store) (x .table)) .hand);
+  marked = λ x p. sessionOf p (meaning (x .store) (x .table)) .asked;
   Does = Returns;
 }
 
@@ -49,8 +50,8 @@ unfolding Returns
 runs-performed S C.stop = C.stop
 runs-performed S (C.next {x} {y} {z} {k} {ks} d r) = let A = d S in C.next (performs k x y A) (runs-performed (A .sound) r)
 
-known : (t : Told) (x : Lending) → Knows words t x → Knows machine t (lent x)
-known t x w = record { sound = w .sound .state; hand-told = w .hand-told; begun-told = w .begun-told }
+pub known : (t : Told) (x : Lending) → Knows words t x → Knows machine t (lent x)
+known t x w = record { sound = w .sound .state; hand-told = w .hand-told; begun-told = w .begun-told; asked-told = w .asked-told }
 
 module _ (returns : (c : C.Call) (x : Lending) → Sound (x .store) (x .table) → (a : C.Answer) × (l : List ℕ) × (y : Lending) × Returns x (record { call = c; answer = a; list = l }) y) where
   pub words-laws : Laws words lock-rule
@@ -59,9 +60,10 @@ module _ (returns : (c : C.Call) (x : Lending) → Sound (x .store) (x .table) �
     returns = returns;
     knows = λ k x y t d w. let A = d (w .sound) in
         let K = machine-laws .knows k (lent x) (lent y) t (performs k x y A) (known t x w) in
-        record { sound = A .sound; hand-told = K .hand-told; begun-told = K .begun-told };
+        record { sound = A .sound; hand-told = K .hand-told; begun-told = K .begun-told; asked-told = K .asked-told };
     moves = λ k x y t d w. go k x y t (machine-laws .moves k (lent x) (lent y) t (performs k x y (d (w .sound))) (known t x w));
     abort-ok = λ s k x y e d S b. machine-laws .abort-ok s k (lent x) (lent y) e (performs k x y (d S)) (S .state) b;
+    commit-ok = λ s k x y e d S b. machine-laws .commit-ok s k (lent x) (lent y) e (performs k x y (d S)) (S .state) b;
   }
     where
       go : (k : Turn) (x y : Lending) (t : Told) → C.Moves machine lock-rule t (tell k t) (lent x) (lent y) ⊎ Anew machine (tell k t) (lent y) → C.Moves words lock-rule t (tell k t) x y ⊎ Anew words (tell k t) y
@@ -73,6 +75,7 @@ module _ (returns : (c : C.Call) (x : Lending) → Sound (x .store) (x .table) �
     sound = S;
     hand-told = λ p. ap (λ z. hand-put (sessionOf p z .hand)) e ∙ ap (λ z. hand-put (z .hand)) (fresh-session m r p);
     begun-told = λ p. ap (λ z. sessionOf p z .begun) e ∙ ap (λ z. z .begun) (fresh-session m r p);
+    asked-told = λ p. ap (λ z. sessionOf p z .asked) e ∙ ap (λ z. z .asked) (fresh-session m r p);
   }
 
   pub fresh-new : (m r : ℕ) (x : Lending) → meaning (x .store) (x .table) ≡ fresh m r → Formatted (words .meaning x)

@@ -8,7 +8,7 @@ use lib.ListN.{length}
 use Rattle.sessions.specs.declared.Session.{Session}
 use Rattle.serial.specs.Locks.{Kind, Mode, weak}
 use Rattle.serial.specs.Locks as L
-use Rattle.serial.specs.Calls.{Turn, Run}
+use Rattle.serial.specs.Calls.{Turn, Run, nothing, tell, told}
 use Rattle.serial.specs.Calls as C
 use Rattle.machine.specs.State.{State, fresh}
 use Rattle.machine.specs.Calls.{records-for}
@@ -50,7 +50,7 @@ module _ (m : ℕ) (s s′ : List ℕ) (t t′ : List Session) (F : Formats m s 
 
   -- By calls and answers alone: once a locate of session p is done, it holds every key of its range, stored or not, until its end.
   pub located-run : (before : List Turn) (k : Turn) (after : List Turn) (y : Lending) → Run words start (before ++ k ∷ after) y
-      → (p lo hi : ℕ) → LocateDone before k p lo hi → Lasts p after → (z : ℕ) → lo ≤ z → z ≤ hi → holders-in y L.group weak p z ≡ true
+      → (p lo hi : ℕ) → LocateDone before k p lo hi → Lasts p (tell k (told nothing before)) after → (z : ℕ) → lo ≤ z → z ≤ hi → holders-in y L.group weak p z ≡ true
   located-run before k after y run p lo hi D w z a b =
       located-held m (records-for m (length s)) (length s′) (subst S.Sound means (sound .state)) before k after (lent y)
       (subst (λ v. Run machine (record { state = v; words = length s′ }) (before ++ k ∷ after) (lent y)) means (runs-performed sound run)) p lo hi D w z a b

@@ -11,6 +11,7 @@ pub mod Words
 pub mod Promised
 pub mod Demand1
 pub mod Demand2
+pub mod Asked
 pub mod Making
 pub mod Holding
 pub mod Line

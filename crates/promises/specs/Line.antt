@@ -11,7 +11,7 @@ use lib.ListN.{length}
 use Rattle.sessions.specs.declared.Session.{Session}
 use Rattle.sessions.specs.Sessions.{session-at}
 use Rattle.serial.specs.Serial.{true≢false, In}
-use Rattle.serial.specs.Calls.{Turn, Run}
+use Rattle.serial.specs.Calls.{Turn, Run, nothing}
 use Rattle.serial.specs.Calls as C
 use Rattle.serial.specs.Line.{line, Before}
 use Rattle.machine.specs.Logic.{eqb-yes, eqb-no}
@@ -29,7 +29,8 @@ use Rattle.layout.specs.Asked.{request-in}
 use Rattle.promises.specs.Relations.{Formats, Calls}
 use Rattle.promises.specs.Demand1.{refusal-of}
 use Rattle.promises.specs.Demand2.{demand-2}
-use Rattle.promises.specs.Demands.{Lending, Returns, words, runs-performed}
+use Rattle.promises.specs.Demands.{Lending, Returns, words, known, runs-performed}
+use Rattle.promises.specs.Words.{formatted-known}
 
 -- ---- a line, and the words of a table
 
@@ -75,15 +76,16 @@ run-sound S C.stop = S
 run-sound S (C.next d r) = run-sound (d S .sound) r
 
 format-lined : (m : ℕ) (s s′ : List ℕ) (t t′ : List Session) → Formats m s t C.ok s′ t′ → (ks : List Turn) (y : Lending) → Run words (record { store = s′; table = t′ }) ks y
-    → Lined (line [] ks) (meaning (y .store) (y .table))
+    → Lined (line nothing [] ks) (meaning (y .store) (y .table))
 format-lined m s s′ t t′ F ks y run =
     let S = F .accepts refl .0 in
-    line-run (runs-performed S run) (S .state) [] (subst (Lined []) (sym (F .accepts refl .1)) (fresh-lined m (records-for m (length s))))
+    line-run (runs-performed S run) nothing (known nothing (record { store = s′; table = t′ }) (formatted-known m s s′ t t′ F))
+    [] (subst (Lined []) (sym (F .accepts refl .1)) (fresh-lined m (records-for m (length s))))
 
 pub words-line : (m : ℕ) (s s′ : List ℕ) (t t′ : List Session) → Formats m s t C.ok s′ t′ → (ks : List Turn) (y : Lending) → Run words (record { store = s′; table = t′ }) ks y
-    → InLine (line [] ks) (y .table)
+    → InLine (line nothing [] ks) (y .table)
 words-line m s s′ t t′ F ks y run =
-    lined-table (y .store) (y .table) (run-sound (F .accepts refl .0) run) (line [] ks) (format-lined m s s′ t t′ F ks y run)
+    lined-table (y .store) (y .table) (run-sound (F .accepts refl .0) run) (line nothing [] ks) (format-lined m s s′ t t′ F ks y run)
 
 -- ---- whom a wait names, over lists of calls
 
@@ -103,7 +105,7 @@ long-begun S r g q l = S .only-begun (l .kind) (l .held) q (l .what) (l .holding
 -- After an accepted format and any list of calls: of the sessions whose long locks are in the way of a step, a wait names the one that stands first in the line.
 pub wait-in-line : (m : ℕ) (s s′ : List ℕ) (t t′ : List Session) → Formats m s t C.ok s′ t′ → (ks : List Turn) (y : Lending) → Run words (record { store = s′; table = t′ }) ks y
     → (p q : ℕ) (l l′ s″ : List ℕ) (t″ : List Session) → Calls (C.step p l) (y .store) (y .table) (C.wait q) l′ s″ t″ → refusal-of (C.step p l) (y .store) (y .table) ≡ 0
-    → let r = request-in (session-at (y .table) p) in (o : ℕ) → ¬ (o ≡ p) → ¬ (o ≡ q) → LongLock r (meaning (y .store) (y .table)) (r .stage) o → Before q o (line [] ks)
+    → let r = request-in (session-at (y .table) p) in (o : ℕ) → ¬ (o ≡ p) → ¬ (o ≡ q) → LongLock r (meaning (y .store) (y .table)) (r .stage) o → Before q o (line nothing [] ks)
 wait-in-line m s s′ t t′ F ks y run p q l l′ s″ t″ P z o np nq L =
     let S = run-sound (F .accepts refl .0) run in
     let r = request-in (session-at (y .table) p) in

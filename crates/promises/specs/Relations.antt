@@ -1,4 +1,4 @@
--- What each of the six calls promises, over store, table and list at entry, the answer, and store, table and list at exit.
+-- What each of the eight calls promises, over store, table and list at entry, the answer, and store, table and list at exit.
 use mathlib.Core.Path.{_≡_}
 use mathlib.Core.Bool.{Bool, true, false, not}
 use mathlib.Core.List.{List, []}
@@ -41,6 +41,9 @@ Others (C.put p c e f g) t t′ = (q : ℕ) → ¬ (q ≡ p) → session-at t′
 Others (C.step p l) t t′ = (q : ℕ) → ¬ (q ≡ p) → session-at t′ q ≡ session-at t q
 Others (C.commit p) t t′ = (q : ℕ) → ¬ (q ≡ p) → session-at t′ q ≡ session-at t q
 Others (C.abort p) t t′ = (q : ℕ) → ¬ (q ≡ p) → session-at t′ q ≡ session-at t q
+Others (C.ask p) t t′ = (q : ℕ) → ¬ (q ≡ p) → session-at t′ q ≡ session-at t q
+-- The records of the sessions that are asked stay.
+Others C.recover t t′ = (q : ℕ) → ¬ (q ≡ 0) → ¬ (session-at t q .asked ≡ 0) → session-at t′ q ≡ session-at t q
 
 -- Calls that write no word of the store.
 abbrev pub Kept : C.Call → List ℕ → List ℕ → Type 0
@@ -50,6 +53,8 @@ Kept (C.put p c e f g) s s′ = s′ ≡ s
 Kept (C.step p l) s s′ = Unit {0}
 Kept (C.commit p) s s′ = Unit {0}
 Kept (C.abort p) s s′ = Unit {0}
+Kept (C.ask p) s s′ = s′ ≡ s
+Kept C.recover s s′ = Unit {0}
 
 -- What 11 and 12 leave: the request is ended, its latch and its pins with it, and nothing else is written. They arise only inside a step.
 abbrev pub Ended : C.Call → List ℕ → List Session → List ℕ → List Session → Type 0
@@ -59,6 +64,8 @@ Ended (C.put p c e f g) s t s′ t′ = ⊥
 Ended (C.step p l) s t s′ t′ = (s′ ≡ endRequest s (M-of s) (session-at t p)) × (t′ ≡ set t p (idled (session-at t p)))
 Ended (C.commit p) s t s′ t′ = ⊥
 Ended (C.abort p) s t s′ t′ = ⊥
+Ended (C.ask p) s t s′ t′ = ⊥
+Ended C.recover s t s′ t′ = ⊥
 
 -- A call on sound words: the machine's answer, the list that it writes, and words that mean the machine's next state.
 pub record Answered (c : C.Call) (s : List ℕ) (t : List Session) (a : C.Answer) (l′ : List ℕ) (s′ : List ℕ) (t′ : List Session) : Type 0 where
@@ -86,6 +93,8 @@ list-of (C.put p c e f g) = []
 list-of (C.step p l) = l
 list-of (C.commit p) = []
 list-of (C.abort p) = []
+list-of (C.ask p) = []
+list-of C.recover = []
 
 -- Refusal 2, of a store or table that is not sound: nothing is changed.
 pub record Unsound (c : C.Call) (s : List ℕ) (t : List Session) (a : C.Answer) (l′ : List ℕ) (s′ : List ℕ) (t′ : List Session) : Type 0 where
@@ -94,7 +103,7 @@ pub record Unsound (c : C.Call) (s : List ℕ) (t : List Session) (a : C.Answer)
   pub store-same : s′ ≡ s
   pub table-same : t′ ≡ t
 
--- Begin, put, step, commit, abort: refused 2 exactly if store or table is not sound.
+-- Begin, put, step, commit, abort, ask, recover: refused 2 exactly if store or table is not sound.
 pub record Calls (c : C.Call) (s : List ℕ) (t : List Session) (a : C.Answer) (l′ : List ℕ) (s′ : List ℕ) (t′ : List Session) : Type 0 where
   pub answers : Sound s t → Answered c s t a l′ s′ t′ × Around s s′
   pub refuses : ¬ Sound s t → Unsound c s t a l′ s′ t′

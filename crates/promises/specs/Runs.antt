@@ -13,12 +13,12 @@ use Rattle.promises.specs.Demands.{Lending, words}
 abbrev pub lending : List ℕ → List Session → Lending
 lending s t = record { store = s; table = t }
 
--- One ordinary call, as the contracts of begin, put, step, commit and abort say it: demands 1, 2 and 3 are drawn from this.
+-- One ordinary call, as the contracts of all but format say it: demands 1, 2 and 3 are drawn from this.
 abbrev pub Makes : Lending → Turn → Lending → Type 0
 Makes x k y = Calls (k .call) (x .store) (x .table) (k .answer) (k .list) (y .store) (y .table)
 
 abbrev pub calling : Machine
-calling = record { X = Lending; Sound = words .Sound; meaning = words .meaning; hand = words .hand; Does = Makes }
+calling = record { X = Lending; Sound = words .Sound; meaning = words .meaning; hand = words .hand; marked = words .marked; Does = Makes }
 
 -- A call without a list.
 abbrev pub call-turn : C.Call → C.Answer → Turn

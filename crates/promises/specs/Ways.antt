@@ -17,7 +17,7 @@ use Rattle.machine.specs.Logic.{eqb-is, eqb-not, leb-not}
 use Rattle.machine.specs.Holders.{width}
 use Rattle.machine.specs.State.{Outcome, refused, ok, fresh}
 use Rattle.machine.specs.Steps.{answer}
-use Rattle.machine.specs.Calls.{call, begins, commits, aborts, accepted, no-party, no-session, format-checks, records-for}
+use Rattle.machine.specs.Calls.{call, begins, commits, aborts, asks, recovers, accepted, no-party, no-session, format-checks, records-for}
 use Rattle.machine.specs.Demand.{Tells}
 use Rattle.machine.specs.Sound as S
 use Rattle.machine.specs.Ending.{fresh-sound}
@@ -27,19 +27,22 @@ use Rattle.layout.specs.Layout.{means}
 use Rattle.layout.specs.Row.{Becomes}
 use Rattle.layout.specs.Laid.{sound-stands}
 use Rattle.layout.specs.Back.{holds-means, holds-sound}
-use Rattle.endings.specs.Table.{newlyBegun, unbegun}
+use Rattle.endings.specs.Table.{newlyBegun, unbegun, askedNow}
 use Rattle.seniority.specs.Seniority.{begunIn, renumberedIn}
 use Rattle.leaving.specs.Words.{asked, commitWords, PutReady, CommitReady}
 use Rattle.seniority.specs.Laws.{renumbered-first}
 use Rattle.leaving.specs.Renumbered.{renumbered-only, renumbered-unbegun}
 use Rattle.leaving.specs.Begun.{begin-becomes}
+use Rattle.leaving.specs.AskRow.{ask-becomes}
 use Rattle.leaving.specs.Asking.{put-becomes, put-ready}
 use Rattle.leaving.specs.Commit.{commit-becomes, commit-ready}
 use Rattle.leaving.specs.FreshRow.{fresh-table, fresh-room, format-becomes}
 use Rattle.aborting.specs.Words.{abortWords, AbortReady}
 use Rattle.aborting.specs.Abort.{abort-becomes, abort-ready}
+use Rattle.aborting.specs.RecoverRow.{Kept, kept, recoverWords, recover-becomes, recover-spares}
+use Rattle.recovering.specs.Recovering.{RecoverReady}
 use Rattle.endings.specs.Fresh.{freshStore, Roomy}
-use Rattle.refusals.specs.Refusing.{first-of, begun-in, begin-list, put-list, commit-list, abort-list, begin-refused, put-refused, commit-refused, abort-refused}
+use Rattle.refusals.specs.Refusing.{first-of, begun-in, asked-in, hand-in, begin-list, put-list, commit-list, abort-list, ask-list, ask-refused, begin-refused, put-refused, commit-refused, abort-refused}
 use Rattle.refusals.specs.Coded.{format-refused}
 use Rattle.promises.specs.Relations.{outcome, Renumbered, Others, Calls, Formats, Answered, Around, list-of}
 use Rattle.promises.specs.Assembling.{is-refused, no-refusal, first-not-ending, stands-means, answered-by, answered-refused, set-others}
@@ -169,6 +172,37 @@ abort-done s t p z A =
     answered-by (C.abort p) s t A o (abort-refused s t A p o ∙ accept n o (answer (refused n 0) σ) z)
     C.ok [] s′ t′ refl refl becomes (λ q. absurd (true≢false {b = false} q refl)) (no-refusal C.ok refl) (set-others t p (unbegun (session-at t p))) tt
 
+-- ---- ask
+
+pub ask-done : (s : List ℕ) (t : List Session) (p : ℕ) → first-of (ask-list t p) ≡ 0 → Sound s t → Serves (C.ask p) s t C.ok [] s (set t p (askedNow (session-at t p)))
+unfolding call hand-in
+ask-done s t p z A =
+    let B = sound-stands s t A in
+    let σ = meaning s t in
+    let n = first-of (ask-list t p) in
+    let o = answer ok (asks p σ) in
+    let t′ = set t p (askedNow (session-at t p)) in
+    let x = none-true 4 (no-session p) _ (λ q. omega (arith, q)) z in
+    let y = none-true 5 (not (begun-in t p)) _ (λ q. omega (arith, q)) (x .1) in
+    let v = none-true 21 (asked-in t p) _ (λ q. omega (arith, q)) (y .1) in
+    let w = none-true 7 (hand-in t p) [] (λ q. omega (arith, q)) (v .1) in
+    let k = session-number p (x .0) in
+    let becomes = subst (λ z. Becomes s s t′ (asks p z)) (stands-means s t B) (ask-becomes s t B p (k .0) (k .1) (not-begun false (session-at t p .stage) (w .0))) in
+    answered-by (C.ask p) s t A o (ask-refused s t A p o ∙ accept n o (answer (refused n 0) σ) z)
+    C.ok [] s t′ refl refl becomes (λ q. absurd (true≢false {b = false} q refl)) (no-refusal C.ok refl) (set-others t p (askedNow (session-at t p))) refl
+
+-- ---- recover
+
+pub recover-done : (s : List ℕ) (t : List Session) → Sound s t
+    → Serves C.recover s t C.ok [] (recoverWords (M-of s) (R-of s) (kept s t) .words) (recoverWords (M-of s) (R-of s) (kept s t) .table)
+unfolding call
+recover-done s t A =
+    let B = sound-stands s t A in
+    let w = recoverWords (M-of s) (R-of s) (kept s t) in
+    let o = answer ok (recovers (meaning s t)) in
+    let becomes = subst (λ z. Becomes s (w .words) (w .table) (recovers z)) (stands-means s t B) (recover-becomes s t B) in
+    answered-by C.recover s t A o refl C.ok [] (w .words) (w .table) refl refl becomes (λ q. absurd (true≢false {b = false} q refl)) (no-refusal C.ok refl) (recover-spares s t (M-of s) (R-of s)) tt
+
 -- ---- format
 
 -- Sizes that pass.
@@ -240,7 +274,7 @@ unfolding call
 put-refuses s t p c e f g m n A i q z =
     let o = answer ok (accepted p c e f g (meaning s t)) in
     serve-refused (C.put p c e f g) s t n (first-of (put-list (M-of s) t p c e f g)) o A (q ∙ ap (λ k. first-of (put-list k t p c e f g)) i) z
-    (first-not-ending (put-list (M-of s) t p c e f g) (refl, (refl, (refl, (refl, (refl, (refl, (refl, tt)))))))) (put-refused s t A p c e f g o)
+    (first-not-ending (put-list (M-of s) t p c e f g) (refl, (refl, (refl, (refl, (refl, (refl, (refl, (refl, tt))))))))) (put-refused s t A p c e f g o)
 
 pub commit-refuses : (s : List ℕ) (t : List Session) (p n : ℕ) → Sound s t → n ≡ first-of (commit-list t p) → ¬ (n ≡ 0) → Serves (C.commit p) s t (C.refused n 0) [] s t
 unfolding call
@@ -249,6 +283,10 @@ commit-refuses s t p n A e z = let o = answer ok (commits p (meaning s t)) in se
 pub abort-refuses : (s : List ℕ) (t : List Session) (p n : ℕ) → Sound s t → n ≡ first-of (abort-list t p) → ¬ (n ≡ 0) → Serves (C.abort p) s t (C.refused n 0) [] s t
 unfolding call
 abort-refuses s t p n A e z = let o = answer ok (aborts p (meaning s t)) in serve-refused (C.abort p) s t n (first-of (abort-list t p)) o A e z (first-not-ending (abort-list t p) (refl, (refl, tt))) (abort-refused s t A p o)
+
+pub ask-refuses : (s : List ℕ) (t : List Session) (p n : ℕ) → Sound s t → n ≡ first-of (ask-list t p) → ¬ (n ≡ 0) → Serves (C.ask p) s t (C.refused n 0) [] s t
+unfolding call
+ask-refuses s t p n A e z = let o = answer ok (asks p (meaning s t)) in serve-refused (C.ask p) s t n (first-of (ask-list t p)) o A e z (first-not-ending (ask-list t p) (refl, (refl, (refl, (refl, tt))))) (ask-refused s t A p o)
 
 -- The party is one of those that there are.
 pub session-party : (p : ℕ) (cs : List (ℕ × Bool)) → first-of ((4, no-session p) ∷ cs) ≡ 0 → p ≤ width
@@ -307,6 +345,19 @@ pub abort-can : (s : List ℕ) (t : List Session) (p : ℕ) {m r : ℕ} {x : Ses
 abort-can s t p {m} {r} {x} A z i j a =
     subst (λ w. AbortReady s w r p x) (sym i) (subst (λ w. AbortReady s (M-of s) w p x) (sym j)
     (subst (AbortReady s (M-of s) (R-of s) p) (sym a) (abort-ready s t (sound-stands s t A) p (session-least p _ z) (session-party p _ z))))
+
+pub ask-run : (s : List ℕ) (t : List Session) (p : ℕ) {x y : Session} {u : List Session} → Sound s t → first-of (ask-list t p) ≡ 0 → x ≡ session-at t p → y ≡ askedNow x → u ≡ set t p y
+    → Serves (C.ask p) s t C.ok [] s u
+ask-run s t p A z a b c = subst (λ v. Serves (C.ask p) s t C.ok [] s v) (sym (c ∙ ap (set t p) (b ∙ ap askedNow a))) (ask-done s t p z A)
+
+pub recover-can : (s : List ℕ) (t : List Session) {m r : ℕ} → Sound s t → m ≡ M-of s → r ≡ R-of s → RecoverReady s t m r
+recover-can s t A i j = record { stands = sound-stands s t A; entries = sym i; records = sym j }
+
+pub recover-run : (s : List ℕ) (t : List Session) {m r : ℕ} {s′ : List ℕ} {u : List Session} → Sound s t → m ≡ M-of s → r ≡ R-of s → kept s′ u ≡ recoverWords m r (kept s t)
+    → Serves C.recover s t C.ok [] s′ u
+recover-run s t {m} {r} A i j e =
+    let q : kept _ _ ≡ recoverWords (M-of s) (R-of s) (kept s t) = e ∙ ap (λ k. recoverWords k r (kept s t)) i ∙ ap (λ k. recoverWords (M-of s) k (kept s t)) j in
+    subst (λ (w : Kept). Serves C.recover s t C.ok [] (w .words) (w .table)) (sym q) (recover-done s t A)
 
 pub format-can : (s : List ℕ) {m r : ℕ} → first-of (format-checks m (length s)) ≡ 0 → r ≡ records-for m (length s) → Roomy s m r
 format-can s {m} z e = let q = format-sizes m (records-for m (length s)) z in subst (Roomy s m) (sym e) (fresh-room s m (q .0) (q .1) (q .2))

@@ -17,11 +17,11 @@ use Rattle.machine.specs.State.{fresh}
 use Rattle.machine.specs.Calls.{format-checks, records-for}
 use Rattle.meaning.specs.Reading.{M-of, R-of, meaning}
 use Rattle.meaning.specs.Sound.{Sound}
-use Rattle.refusals.specs.Refusing.{first-of, begin-list, put-list, step-list, commit-list, abort-list}
+use Rattle.refusals.specs.Refusing.{first-of, begin-list, put-list, step-list, commit-list, abort-list, ask-list}
 use Rattle.promises.specs.Relations.{Calls, Formats}
 use Rattle.promises.specs.Demands.{Lending, Returns, words, words-laws, words-demand-3, words-made, fresh-known, fresh-new}
 use Rattle.promises.specs.Promised.{calls-return, formats-return}
-use Rattle.promises.specs.Ways.{Serves, begin-done, begin-refuses, put-done, put-refuses, commit-done, commit-refuses, abort-done, abort-refuses, format-done, format-refuses}
+use Rattle.promises.specs.Ways.{Serves, begin-done, begin-refuses, put-done, put-refuses, commit-done, commit-refuses, abort-done, abort-refuses, ask-done, ask-refuses, recover-done, format-done, format-refuses}
 use Rattle.promises.specs.Stepping.{stageStep, settledAnswer}
 use Rattle.promises.specs.Steps.{step-done, step-refuses}
 
@@ -36,6 +36,8 @@ Can (C.put p c e f g) s t = Served (C.put p c e f g) s t
 Can (C.step p l) s t = (a : Answer) × (s′ : List ℕ) × (t′ : List Session) × (l′ : List ℕ) × Calls (C.step p l) s t (said a) l′ s′ t′
 Can (C.commit p) s t = Served (C.commit p) s t
 Can (C.abort p) s t = Served (C.abort p) s t
+Can (C.ask p) s t = Served (C.ask p) s t
+Can C.recover s t = Served C.recover s t
 
 serving : (c : C.Call) (s : List ℕ) (t : List Session) (a : C.Answer) (l s′ : List ℕ) (t′ : List Session) → Sound s t → Serves c s t a l s′ t′ → Calls c s t a l s′ t′
 serving c s t a l s′ t′ A h = record { answers = λ S. h; refuses = λ n. absurd (n A) }
@@ -77,6 +79,12 @@ can (C.abort p) s t A = go (ℕ-discrete (first-of (abort-list t p)) 0)
     go : Dec (first-of (abort-list t p) ≡ 0) → Can (C.abort p) s t
     go (yes z) = served (C.abort p) s t Ok _ _ A (abort-done s t p z A)
     go (no n) = served (C.abort p) s t (Refused (first-of (abort-list t p)) 0) s t A (abort-refuses s t p _ A refl n)
+can (C.ask p) s t A = go (ℕ-discrete (first-of (ask-list t p)) 0)
+  where
+    go : Dec (first-of (ask-list t p) ≡ 0) → Can (C.ask p) s t
+    go (yes z) = served (C.ask p) s t Ok _ _ A (ask-done s t p z A)
+    go (no n) = served (C.ask p) s t (Refused (first-of (ask-list t p)) 0) s t A (ask-refuses s t p _ A refl n)
+can C.recover s t A = served C.recover s t Ok _ _ A (recover-done s t A)
 
 -- Some turn of a call.
 abbrev Turns : C.Call → Lending → Type 0
@@ -92,6 +100,8 @@ can-turn (C.put p c e f g) x k = served-turn (C.put p c e f g) x k
 can-turn (C.step p l) x k = (said (k .0), k .3, record { store = k .1; table = k .2 }, calls-return (C.step p l) (x .store) (x .table) (said (k .0)) (k .3) (k .1) (k .2) (k .4))
 can-turn (C.commit p) x k = served-turn (C.commit p) x k
 can-turn (C.abort p) x k = served-turn (C.abort p) x k
+can-turn (C.ask p) x k = served-turn (C.ask p) x k
+can-turn C.recover x k = served-turn C.recover x k
 
 pub words-returns : (c : C.Call) (x : Lending) → Sound (x .store) (x .table) → (a : C.Answer) × (l : List ℕ) × (y : Lending) × Returns x (record { call = c; answer = a; list = l }) y
 words-returns c x A = can-turn c x (can c (x .store) (x .table) A)

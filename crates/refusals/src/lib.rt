@@ -13,7 +13,7 @@ ghost use lib.ListN.{set};
 ghost use Rattle.sessions.specs.Sessions.{session-at};
 ghost use Rattle.machine.specs.Holders.{width};
 ghost use Rattle.machine.specs.Calls.{infinite, no-party, no-session, format-checks};
-ghost use Rattle.refusals.specs.Refusing.{first-of, begun-in, hand-in, begin-list, step-list, commit-list, abort-list, request-list, put-list};
+ghost use Rattle.refusals.specs.Refusing.{first-of, begun-in, asked-in, hand-in, begin-list, step-list, commit-list, abort-list, ask-list, party-list, request-list, put-list};
 ghost use Rattle.refusals.specs.Coded.{value-list, change-list, locate-list, tidy-list};
 use sessions::PARTIES;
 use sessions::Session;
@@ -58,6 +58,14 @@ pub fn has_request(t: [Session; PARTIES], p: u32) -> bool
 {
     let s = seat(t, p);
     s.stage != 0
+}
+
+// The session is asked.
+pub fn is_asked(t: [Session; PARTIES], p: u32) -> bool
+    ensures { λ b. ⌜ b ≡ asked-in t p ⌝ }
+{
+    let s = seat(t, p);
+    s.asked != 0
 }
 
 // ---- tests of the arguments
@@ -164,6 +172,28 @@ pub fn abort_refusal(t: [Session; PARTIES], p: u32) -> u32
     0
 }
 
+pub fn ask_refusal(t: [Session; PARTIES], p: u32) -> u32
+    ensures { λ n. ⌜ n ≡ first-of (ask-list t p) ⌝ }
+{
+    let out = not_session(p);
+    let begun = is_begun(t, p);
+    let fixed = is_asked(t, p);
+    let busy = has_request(t, p);
+    if out {
+        return 4;
+    }
+    if !begun {
+        return 5;
+    }
+    if fixed {
+        return 21;
+    }
+    if busy {
+        return 7;
+    }
+    0
+}
+
 // Format, of a store of so many words. No number of entries above 1024 is asked for its records.
 pub fn format_refusal(m: u32, words: usize) -> u32
     ensures { λ n. ⌜ n ≡ first-of (format-checks m words) ⌝ }
@@ -259,17 +289,32 @@ pub fn request_refusal(m: u32, p: u32, c: u32, e: u32, f: u32, g: u32) -> u32
     }
 }
 
-pub fn put_refusal(m: u32, t: [Session; PARTIES], p: u32, c: u32, e: u32, f: u32, g: u32) -> u32
-    ensures { λ n. ⌜ n ≡ first-of (put-list m t p c e f g) ⌝ }
+// What refuses a request before it is looked at: 4, 5 or 21, and 0 for none.
+pub fn party_refusal(t: [Session; PARTIES], p: u32) -> u32
+    ensures { λ n. ⌜ n ≡ first-of (party-list t p) ⌝ }
 {
     let out = not_party(p);
     let begun = is_begun(t, p);
-    let busy = has_request(t, p);
+    let asked = is_asked(t, p);
     if out {
         return 4;
     }
     if !begun {
         return 5;
+    }
+    if asked {
+        return 21;
+    }
+    0
+}
+
+pub fn put_refusal(m: u32, t: [Session; PARTIES], p: u32, c: u32, e: u32, f: u32, g: u32) -> u32
+    ensures { λ n. ⌜ n ≡ first-of (put-list m t p c e f g) ⌝ }
+{
+    let n = party_refusal(t, p);
+    let busy = has_request(t, p);
+    if n != 0 {
+        return n;
     }
     if busy {
         return 7;

@@ -67,6 +67,8 @@ const UNDO: u32 = 12;
 
 pub const ORDER: u32 = 13;
 
+const ASKED: u32 = 14;
+
 // A word that no node or descriptor uses: here the highest key below it, which its father's boundary is made of.
 const HIGHEST: u32 = 17;
 
@@ -77,11 +79,11 @@ const TABLE: u32 = STORE as u32;
 
 const ALL: u32 = BEHIND as u32;
 
-// Word i of the session table where nobody has begun, with x where a field is not in use. Party 0 uses neither mark nor chain.
+// Word i of the session table where nobody has begun, with x where a field is not in use. Party 0 uses neither begun mark nor chain.
 fn idle(i: u32, x: u32) -> u32 {
     let k = i % PARTY;
     match k {
-        STAGE => 0,
+        STAGE | ASKED => 0,
         BEGUN | UNDO => if i < PARTY { x } else { 0 },
         _ => x,
     }

@@ -4,7 +4,7 @@ ghost use mathlib.Core.Path.{_≡_};
 // How many parties there are, and how many words a party has, the header, an entry and a record.
 pub const PARTIES: usize = 17;
 
-pub const SESSION_WORDS: usize = 14;
+pub const SESSION_WORDS: usize = 15;
 
 pub const HEADER_WORDS: usize = 16;
 

@@ -1,8 +1,8 @@
 // Book: the numbers of a run in one array. What lies outside is neither read nor written.
 //
-// Word 0 is the random state. From HANDS on stand, 8 words a party, the request in hand and how many the session has finished; then the two lists that are
-// lent, the nodes that a count of them goes through, what the sessions have finished, a copy of the logical content, the logical content, and last, so
-// many words a party, the days that are kept.
+// Word 0 is the random state. From HANDS on stand, 8 words a party, the request in hand and what calls and answers tell of the session; then the two lists
+// that are lent, the nodes that a count of them goes through, what the sessions have finished, a copy of the logical content, the logical content, and
+// last, so many words a party, the days that are kept.
 ghost use Prim.Native.Nat.{_<_};
 use super::content::WORDS;
 use super::side::PARTIES;

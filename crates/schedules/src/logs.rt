@@ -10,10 +10,15 @@ use super::content::run;
 use super::side::PARTIES;
 use super::words::wide;
 
-// The words of a hand: code, entry, first, second; whether its last step waited; how many requests the session has finished.
+// The words of a hand: code, entry, first, second; whether its last step waited; how many requests the session has finished; whether it is begun, and
+// whether it is asked.
 pub const WAITED: usize = 4;
 
 pub const FINISHED: usize = 5;
+
+pub const BEGUN: usize = 6;
+
+pub const ASKED: usize = 7;
 
 // Where the hand of a party stands.
 pub fn hand(p: u32) -> usize

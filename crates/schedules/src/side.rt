@@ -8,7 +8,7 @@ pub const PARTIES: u32 = 17;
 pub const SESSIONS: u32 = PARTIES - 1;
 
 // How many words a party has, the header, an entry and a record.
-pub const SESSION_WORDS: usize = 14;
+pub const SESSION_WORDS: usize = 15;
 
 pub const HEADER_WORDS: usize = 16;
 
@@ -16,8 +16,10 @@ pub const ENTRY_WORDS: usize = 3;
 
 pub const RECORD_WORDS: usize = 20;
 
-// The word of a party that is its number in the order of begins.
+// The word of a party that is its number in the order of begins, and the one that is not 0 where it is asked.
 pub const ORDER: usize = 13;
+
+pub const ASKED: usize = 14;
 
 // The words of the session table; behind it lies the store.
 pub const TABLE: usize = PARTIES as usize * SESSION_WORDS;
@@ -62,6 +64,33 @@ pub fn is_kept(s: &Side, from: usize) -> bool {
     let mut i = from;
     while i < SIDE {
         x = x | (word(s, i) ^ word(s, i + SIDE));
+        i += 1;
+    }
+    x == 0
+}
+
+// Is every word the copy's, but the one at this place?
+pub fn is_kept_but(s: &Side, at: usize) -> bool {
+    let mut x = 0u32;
+    let mut i = 0;
+    while i < SIDE {
+        if i != at {
+            x = x | (word(s, i) ^ word(s, i + SIDE));
+        }
+        i += 1;
+    }
+    x == 0
+}
+
+// Is every word of the table the copy's that belongs to a party which is asked in the copy?
+pub fn are_asked_kept(s: &Side) -> bool {
+    let mut x = 0u32;
+    let mut i = 0;
+    while i < TABLE {
+        let p = i / SESSION_WORDS;
+        if word(s, SIDE + SESSION_WORDS * p + ASKED) != 0 {
+            x = x | (word(s, i) ^ word(s, i + SIDE));
+        }
         i += 1;
     }
     x == 0

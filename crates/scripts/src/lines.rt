@@ -139,7 +139,10 @@ impl Line {
 // How many words the command with this letter has, 0 for none.
 pub fn words_of(letter: u8) -> usize {
     match letter {
-        b'b' | b's' | b'g' | b'c' | b'a' => {
+        b'v' => {
+            return 1;
+        }
+        b'b' | b's' | b'g' | b'c' | b'a' | b'k' => {
             return 2;
         }
         b'r' | b't' => {

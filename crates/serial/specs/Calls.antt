@@ -1,7 +1,7 @@
 -- Demand 3 as one claim about whole lists of calls: the calls with raw numbers, the history that is read off calls and answers alone, the three
 -- sentences as one record, what a store owes for them, and the theorem that it then keeps them.
 use mathlib.Core.Path.{_≡_, refl, sym, _∙_, ap, subst}
-use mathlib.Core.Bool.{Bool, true, false, cond, _||_}
+use mathlib.Core.Bool.{Bool, true, false, cond, not, _||_, _&&_}
 use mathlib.Core.List.{List, [], _∷_, map}
 use mathlib.Core.Logic.{_⊎_, inl, inr}
 use mathlib.Core.Option.{Option, none, some}
@@ -18,10 +18,12 @@ use Rattle.serial.specs.LockMachine.{Store, view, Acts, acts-run, Format
 
 -- ---- calls and answers
 
--- A call with its arguments, each any word: format entries; begin party; put party code entry first second; step party list; commit party; abort party.
+-- A call with its arguments, each any word: format entries; begin party; put party code entry first second; step party list; commit party; abort party;
+-- ask party; recover.
 -- A step has the words of its own lent list.
 pub data Call : Type 0 where
-  format begin commit abort : ℕ → Call
+  format begin commit abort ask : ℕ → Call
+  recover : Call
   put : ℕ → ℕ → ℕ → ℕ → ℕ → Call
   step : ℕ → List ℕ → Call
 
@@ -53,25 +55,48 @@ pub record Told : Type 0 where
   pub past : Hist store
   pub unfinished : ℕ → Bool
   pub hands : ℕ → Option Asked
+  -- The sessions that are asked.
+  pub asked : ℕ → Bool
 
 abbrev pub nothing : Told
-nothing = record { past = none-yet store; unfinished = λ s. false; hands = λ p. none }
+nothing = record { past = none-yet store; unfinished = λ s. false; hands = λ p. none; asked = λ s. false }
 
 -- A session lasts from an accepted begin to the next accepted commit or abort of its number.
-abbrev pub session-event : Event store → ℕ → Bool → Told → Told
-session-event e s b t = record { past = hstep store e (t .past); unfinished = S.put (t .unfinished) s b; hands = S.put (t .hands) s none }
+abbrev pub session-event : Event store → ℕ → Bool → (ℕ → Bool) → Told → Told
+session-event e s b m t = record { past = hstep store e (t .past); unfinished = S.put (t .unfinished) s b; hands = S.put (t .hands) s none; asked = m }
+
+-- The end of a session is the end of its mark.
+abbrev pub unmarked : ℕ → Told → ℕ → Bool
+unmarked s t = S.put (t .asked) s false
 
 abbrev pub take-in-hand : ℕ → Option Asked → Told → Told
-take-in-hand p a t = record { past = t .past; unfinished = t .unfinished; hands = S.put (t .hands) p a }
+take-in-hand p a t = record { past = t .past; unfinished = t .unfinished; hands = S.put (t .hands) p a; asked = t .asked }
+
+-- An accepted ask fixes its session.
+abbrev pub fix-session : ℕ → Told → Told
+fix-session s t = record { past = t .past; unfinished = t .unfinished; hands = t .hands; asked = S.put (t .asked) s true }
+
+-- Recover aborts each unfinished session that was not asked,
+abbrev pub given-up : Told → ℕ → Bool
+given-up t s = t .unfinished s && not (t .asked s)
+
+-- whose finished requests feed nothing, and ends every request in hand.
+abbrev pub without : (ℕ → Bool) → Hist store → Hist store
+without f h = record { closed = h .closed; current = λ s. cond (f s) [] (h .current s) }
+
+abbrev pub recovered : Told → Told
+recovered t = record { past = without (given-up t) (t .past); unfinished = λ s. t .unfinished s && t .asked s; hands = λ p. none; asked = t .asked }
 
 -- An accepted call. An accepted format starts the history anew.
 abbrev pub tell-ok : Call → Told → Told
 tell-ok (format m) t = nothing
-tell-ok (begin s) t = session-event (S.begin s) s true t
-tell-ok (commit s) t = session-event (S.commit s) s false t
-tell-ok (abort s) t = session-event (S.abort s) s false t
+tell-ok (begin s) t = session-event (S.begin s) s true (t .asked) t
+tell-ok (commit s) t = session-event (S.commit s) s false (unmarked s t) t
+tell-ok (abort s) t = session-event (S.abort s) s false (unmarked s t) t
 tell-ok (put p code entry first second) t = take-in-hand p (some (record { code = code; entry = entry; first = first; second = second })) t
 tell-ok (step p l) t = t
+tell-ok (ask s) t = fix-session s t
+tell-ok recover t = recovered t
 
 -- The first number beside done. All of them are the answer, and for a locate twice so many words of the list as the first one says.
 abbrev pub number-of : List ℕ → ℕ
@@ -101,7 +126,9 @@ tell-done (begin s) ns l t = t
 tell-done (commit s) ns l t = t
 tell-done (abort s) ns l t = t
 tell-done (put p code entry first second) ns l t = t
-tell-done (step p l₀) ns l t = record { past = finished p (t .hands p) ns l (t .past); unfinished = t .unfinished; hands = S.put (t .hands) p none }
+tell-done (step p l₀) ns l t = record { past = finished p (t .hands p) ns l (t .past); unfinished = t .unfinished; hands = S.put (t .hands) p none; asked = t .asked }
+tell-done (ask s) ns l t = t
+tell-done recover ns l t = t
 
 -- The refusals that end the request.
 abbrev pub ends-request : ℕ → Bool
@@ -114,6 +141,8 @@ tell-refused (commit s) n t = t
 tell-refused (abort s) n t = t
 tell-refused (put p code entry first second) n t = t
 tell-refused (step p l) n t = cond (ends-request n) (take-in-hand p none t) t
+tell-refused (ask s) n t = t
+tell-refused recover n t = t
 
 abbrev pub tell-answer : Call → Answer → List ℕ → Told → Told
 tell-answer c ok l t = tell-ok c t
@@ -139,6 +168,8 @@ pub record Machine : Type 1 where
   pub Sound : X → Type 0
   pub meaning : X → Store
   pub hand : X → ℕ → Option Asked
+  -- The sessions that are asked.
+  pub marked : X → ℕ → Bool
   pub Does : X → Turn → X → Type 0
 
 -- The database that the model has after the committed sessions, run whole, one after another, in order of commit.
@@ -159,7 +190,7 @@ Accepted [] = Unit {0}
 Accepted (k ∷ ks) = (k .answer ≡ ok) × Accepted ks
 
 module _ (𝓢 : Machine) where
-  open Machine 𝓢 using (X, Sound, meaning, hand, Does)
+  open Machine 𝓢 using (X, Sound, meaning, hand, marked, Does)
 
   -- A list of calls, whoever's turn each is.
   pub data Run : X → List Turn → X → Type 0 where
@@ -192,6 +223,7 @@ module _ (𝓢 : Machine) where
     pub sound : Sound x
     pub hand-told : (p : ℕ) → hand x p ≡ t .hands p
     pub begun-told : (s : ℕ) → meaning x .begun s ≡ t .unfinished s
+    pub asked-told : (s : ℕ) → marked x s ≡ t .asked s
 
   -- The history that was told is one of this store's.
   abbrev pub Serial : Told → X → Type 0
@@ -216,6 +248,8 @@ module _ (𝓢 : Machine) where
       pub moves : (k : Turn) (x y : X) (t : Told) → Does x k y → Knows t x → Moves t (tell k t) x y ⊎ Anew (tell k t) y
       -- The abort of a begun session is accepted.
       pub abort-ok : (s : ℕ) (k : Turn) (x y : X) → k .call ≡ abort s → Does x k y → Sound x → meaning x .begun s ≡ true → k .answer ≡ ok
+      -- The commit of a session that is asked is accepted.
+      pub commit-ok : (s : ℕ) (k : Turn) (x y : X) → k .call ≡ commit s → Does x k y → Sound x → marked x s ≡ true → k .answer ≡ ok
 
     -- ---- the theorem
 

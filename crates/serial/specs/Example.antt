@@ -1,5 +1,5 @@
 -- A small machine for the laws of Calls in which sessions work side by side under interval locks: it shows that the laws can be met, and that the
--- theorem is not empty. Its state is what is stored, who has begun, the long locks, the undo logs and the requests in hand. Every step is the last
+-- theorem is not empty. Its state is what is stored, who has begun, the long locks, the undo logs, the requests in hand and who is asked. Every step is the last
 -- of its request. It has no words, no records and no descriptors: refusals 1, 2, 8, 9, 10 and 11 do not arise, and a tidy finds nothing.
 use mathlib.Core.Path.{_≡_, refl}
 use mathlib.Core.Bool.{Bool, true, false, cond, not, _&&_}
@@ -15,8 +15,9 @@ use Rattle.serial.specs.Model.{both, Db, empty, Req, read, write, insert
 use Rattle.serial.specs.Footprints.{Good, store}
 use Rattle.serial.specs.Locks.{Kind, entry, group, Mode, weak, strong, lock-rule, Holds, Agree, undo-of}
 use Rattle.serial.specs.LockMachine.{Store}
-use Rattle.serial.specs.Calls.{Call, format, begin, commit, abort, step, Answer, ok, wait, done, refused, Turn, Asked, Machine, number-of}
+use Rattle.serial.specs.Calls.{Call, format, begin, commit, abort, ask, recover, step, Answer, ok, wait, done, refused, Turn, Asked, Machine, number-of}
 use Rattle.serial.specs.Calls as C
+use Rattle.serial.specs.Recovery.{each}
 
 -- ---- long locks
 
@@ -123,22 +124,23 @@ pub record State : Type 0 where
   pub locks : List Lock
   pub log : ℕ → Log store
   pub hands : ℕ → Option Asked
+  pub asked : ℕ → Bool
 
 abbrev pub meaning : State → Store
 meaning x = record { db = get (x .now); begun = x .begun; holds = holds (x .locks); log = x .log }
 
 abbrev pub blank : State
-blank = record { now = empty; begun = λ s. false; locks = []; log = λ s. []; hands = λ p. none }
+blank = record { now = empty; begun = λ s. false; locks = []; log = λ s. []; hands = λ p. none; asked = λ s. false }
 
 -- What an accepted begin leaves; a request taken in hand, or ended; the locks of a request; a request done; a commit or an abort.
 abbrev pub opened : ℕ → State → State
-opened s x = record { now = x .now; begun = put (x .begun) s true; locks = x .locks; log = x .log; hands = put (x .hands) s none }
+opened s x = record { now = x .now; begun = put (x .begun) s true; locks = x .locks; log = x .log; hands = put (x .hands) s none; asked = x .asked }
 
 abbrev pub handed : ℕ → Option Asked → State → State
-handed p a x = record { now = x .now; begun = x .begun; locks = x .locks; log = x .log; hands = put (x .hands) p a }
+handed p a x = record { now = x .now; begun = x .begun; locks = x .locks; log = x .log; hands = put (x .hands) p a; asked = x .asked }
 
 abbrev pub locked : ℕ → Req → State → State
-locked s r x = record { now = x .now; begun = x .begun; locks = taken s (wanted r) (x .locks); log = x .log; hands = x .hands }
+locked s r x = record { now = x .now; begun = x .begun; locks = taken s (wanted r) (x .locks); log = x .log; hands = x .hands; asked = x .asked }
 
 abbrev pub served : ℕ → Req → State → State
 served s r x = record {
@@ -147,10 +149,21 @@ served s r x = record {
   locks = taken s (wanted r) (x .locks);
   log = put (x .log) s (undo-of r (x .now) ++ x .log s);
   hands = put (x .hands) s none;
+  asked = x .asked;
 }
 
 abbrev pub ended : ℕ → Db → State → State
-ended s d x = record { now = d; begun = put (x .begun) s false; locks = released s (x .locks); log = put (x .log) s []; hands = put (x .hands) s none }
+ended s d x = record { now = d; begun = put (x .begun) s false; locks = released s (x .locks); log = put (x .log) s []; hands = put (x .hands) s none; asked = put (x .asked) s false }
+
+-- What an accepted ask leaves; and a recover, which ends every request and aborts each begun session that is not asked.
+abbrev pub fixed : ℕ → State → State
+fixed s x = record { now = x .now; begun = x .begun; locks = x .locks; log = x .log; hands = x .hands; asked = put (x .asked) s true }
+
+abbrev pub lapse : ℕ → State → State
+lapse s x = cond (x .begun s && not (x .asked s)) (ended s (undone (x .log s) (x .now)) x) x
+
+abbrev pub dropped : State → State
+dropped x = record { now = x .now; begun = x .begun; locks = x .locks; log = x .log; hands = λ p. none; asked = x .asked }
 
 -- The answer, the list when the call returns, and the state that it leaves.
 abbrev pub Result : Type 0
@@ -180,10 +193,12 @@ Check = Bool × ℕ
 abbrev pub checks : Call → State → List Check
 checks (format m) x = (leb 1 m && leb m 1024, 3) ∷ []
 checks (begin s) x = (session s, 4) ∷ ((not (x .begun s), 5) ∷ [])
-checks (C.put p code e f g) x = (leb p 16, 4) ∷ ((active x p, 5) ∷ ((empty-hand (x .hands p), 7) ∷ ((allowed p code, 6) ∷ [])))
+checks (C.put p code e f g) x = (leb p 16, 4) ∷ ((active x p, 5) ∷ ((not (x .asked p), 21) ∷ ((empty-hand (x .hands p), 7) ∷ ((allowed p code, 6) ∷ []))))
 checks (step p l) x = (leb p 16, 4) ∷ ((active x p, 5) ∷ [])
 checks (commit s) x = (session s, 4) ∷ ((x .begun s, 5) ∷ ((empty-hand (x .hands s), 7) ∷ []))
 checks (abort s) x = (session s, 4) ∷ ((x .begun s, 5) ∷ [])
+checks (ask s) x = (session s, 4) ∷ ((x .begun s, 5) ∷ ((not (x .asked s), 21) ∷ ((empty-hand (x .hands s), 7) ∷ [])))
+checks recover x = []
 
 abbrev pub first-failed : List Check → Option ℕ
 first-failed [] = none
@@ -197,6 +212,8 @@ lent (C.put p code e f g) = []
 lent (step p l) = l
 lent (commit s) = []
 lent (abort s) = []
+lent (ask s) = []
+lent recover = []
 
 -- A locate's words at the start of the list, whose later words stay.
 abbrev pub written : Ans → List ℕ → List ℕ
@@ -234,6 +251,8 @@ accepted (C.put p code e f g) x = (ok, [], handed p (some (record { code = code;
 accepted (step p l) x = step-on p l x (x .hands p)
 accepted (commit s) x = (ok, [], ended s (x .now) x)
 accepted (abort s) x = (ok, [], ended s (undone (x .log s) (x .now)) x)
+accepted (ask s) x = (ok, [], fixed s x)
+accepted recover x = (ok, [], each lapse 16 1 (dropped x))
 
 abbrev pub unless : Option ℕ → Call → State → Result
 unless (some n) c x = (refused n 0, lent c, x)
@@ -251,15 +270,17 @@ abbrev pub Bits : Log store → Type 0
 Bits [] = Unit {0}
 Bits (u ∷ l) = Bit (u .0) (u .1) × Bits l
 
--- What the laws need of a state: the memberships rise, only sessions have begun, the locks agree, the logs can be undone.
+-- What the laws need of a state: the memberships rise, only sessions have begun, the locks agree, the logs can be undone, and who may be asked.
 pub record Sound (x : State) : Type 0 where
   pub good : Good (x .now)
   pub sessions : (s : ℕ) → x .begun s ≡ true → session s ≡ true
   pub agree : Agree lock-rule (holds (x .locks))
   pub bits : (s : ℕ) → Bits (x .log s)
+  -- Only a begun session with no request in hand is asked.
+  pub only-asked : (s : ℕ) → x .asked s ≡ true → (x .begun s ≡ true) × (x .hands s ≡ none)
 
 abbrev pub Does : State → Turn → State → Type 0
 Does x k y = _≡_ {A = Result} (k .answer, k .list, y) (call (k .call) x)
 
 abbrev pub example : Machine
-example = record { X = State; Sound = Sound; meaning = meaning; hand = λ x. x .hands; Does = Does }
+example = record { X = State; Sound = Sound; meaning = meaning; hand = λ x. x .hands; marked = λ x. x .asked; Does = Does }

@@ -1,16 +1,16 @@
 -- The small machine of Example meets the laws of Calls, and so Demand 3: its locks agree, its undo of a database is the undo item by item, and its
 -- answers tell the model's.
 use mathlib.Core.Path.{_≡_, refl, sym, _∙_, ap, subst}
-use mathlib.Core.Bool.{Bool, true, false, cond, not}
-use mathlib.Core.List.{List, [], _∷_, _++_}
+use mathlib.Core.Bool.{Bool, true, false, cond, not, _&&_}
+use mathlib.Core.List.{List, [], _∷_, _++_, map}
 use mathlib.Core.Logic.{_⊎_, inl, inr}
 use mathlib.Core.Option.{Option, none, some, Option·some-injective, Option·none-ne-some, Option·some-ne-none}
 use Prim.Native.Nat.{ℕ, zero, suc, _≤_, min, max}
 use native.Mathlib.Decide.{ℕ-discrete}
 use native.Mathlib.Omega.{arith}
-use lib.Dec.{leb}
+use lib.Dec.{leb, T, leb→le}
 use lib.ListN.{length, drop}
-use Rattle.serial.specs.Serial.{pick, pick-yes, pick-no, put, put-same, put-other, put-cases, true≢false, Log, set, undo, undo-cong, Event, Hist, hstep}
+use Rattle.serial.specs.Serial.{pick, pick-yes, pick-no, put, put-same, put-other, put-cases, true≢false, not-true, Log, set, undo, undo-cong, Event, Hist, hstep}
 use Rattle.serial.specs.Serial as S
 use Rattle.serial.specs.Model.{Db, Req, read, write, insert, remove, locate, ans, request-of, Item, value, cell, Item-discrete, get}
 use Rattle.serial.specs.Footprints.{Good, eff-good, frame, store, cell-inserted, cell-removed}
@@ -19,7 +19,8 @@ use Rattle.serial.specs.LockMachine as M
 use Rattle.serial.specs.Calls.{ok, Turn, Asked, Told, nothing, tell-answer, tell-refused, tell-ok, fed, finished, ends-request, take-in-hand, answer-of, told, Run, Knows, Moves, Anew, Laws, Demand-3, demand-3}
 use Rattle.serial.specs.Calls as C
 use Rattle.serial.specs.Codes.{tells-answer}
-use Rattle.serial.specs.Example.{Span, Lock, kind?, Covers, covers?, holds, meet?, conflicts, blocker, or-else, blocked, lock, taken, released, on, wanted, put-back, undone, State, meaning, blank, opened, handed, locked, served, ended, session, active, Check, checks, first-failed, written, serve, short, try, serve-asked, step-on, accepted, unless, call, Bit, Bits, Sound, Result, Does, example}
+use Rattle.serial.specs.Recovery.{each, Lapse, each-lapsed, lapsed-past, lapsed-begun}
+use Rattle.serial.specs.Example.{Span, Lock, kind?, Covers, covers?, holds, meet?, conflicts, blocker, or-else, blocked, lock, taken, released, on, wanted, put-back, undone, State, meaning, blank, opened, handed, locked, served, ended, fixed, lapse, dropped, session, active, empty-hand, Check, checks, first-failed, written, serve, short, try, serve-asked, step-on, accepted, unless, call, Bit, Bits, Sound, Result, Does, example}
 
 -- ---- the locks agree
 
@@ -249,6 +250,8 @@ refused-told (C.begin s) x t n e = refl
 refused-told (C.put p code a f g) x t n e = refl
 refused-told (C.commit s) x t n e = refl
 refused-told (C.abort s) x t n e = refl
+refused-told (C.ask s) x t n e = refl
+refused-told C.recover x t n e = refl
 refused-told (C.step p l) x t n e = at (leb p 16) (active x p) e
   where
     at : (a b : Bool) → cond a (cond b none (some 5)) (some 4) ≡ some n → cond (ends-request n) (take-in-hand p none t) t ≡ t
@@ -258,9 +261,10 @@ refused-told (C.step p l) x t n e = at (leb p 16) (active x p) e
 
 blank-knows : Knows example nothing blank
 blank-knows = record {
-  sound = record { good = tt; sessions = λ s h. absurd (true≢false h refl); agree = λ k m n s u z p q. absurd (true≢false p refl); bits = λ s. tt };
+  sound = record { good = tt; sessions = λ s h. absurd (true≢false h refl); agree = λ k m n s u z p q. absurd (true≢false p refl); bits = λ s. tt; only-asked = λ s h. absurd (true≢false h refl) };
   hand-told = λ p. refl;
   begun-told = λ s. refl;
+  asked-told = λ s. refl;
 }
 
 blank-formatted : M.Formatted (meaning blank)
@@ -271,19 +275,102 @@ by-event : (t t′ : Told) (x y : State) (e : Event store) → M.Act lock-rule e
     → Moves example lock-rule t t′ x y ⊎ Anew example t′ y
 by-event t t′ x y e a h = inl (record { events = e ∷ []; moved = M.more a M.still; as-told = h })
 
+-- The end of a session.
+module _ (x : State) (S : Sound x) where
+  ended-sound : (s : ℕ) (d : Db) → Good d → Sound (ended s d x)
+  ended-sound s d g = record {
+    good = g;
+    sessions = put-cases (λ u b. b ≡ true → session u ≡ true) (x .begun) s false (λ q. absurd (true≢false q refl)) (λ u m. S .sessions u);
+    agree = agree-released s (x .locks) (S .agree);
+    bits = put-cases (λ u l. Bits l) (x .log) s [] tt (λ u m. S .bits u);
+    only-asked = λ u h. other u h (ℕ-discrete s u);
+  }
+    where
+      other : (u : ℕ) → put (x .asked) s false u ≡ true → Dec (s ≡ u) → (put (x .begun) s false u ≡ true) × (put (x .hands) s none u ≡ none)
+      other u h (yes e) = absurd (true≢false h (subst (λ z. put (x .asked) s false z ≡ false) e (put-same (x .asked) s false)))
+      other u h (no n) =
+          let q = S .only-asked u (sym (put-other (x .asked) s false u n) ∙ h) in
+          (put-other (x .begun) s false u n ∙ q .0, put-other (x .hands) s none u n ∙ q .1)
+
+  ended-acts : (s : ℕ) (d : Db) → x .begun s ≡ true → M.Ended s (meaning x) (meaning (ended s d x))
+  ended-acts s d e = record {
+    was = e;
+    now = put-same (x .begun) s false;
+    holds-off = λ k m z. released-off s (x .locks) k m z;
+    log-off = put-same (x .log) s [];
+    others = λ u n. record { holds-kept = λ k m z. released-other s (x .locks) k m u z n; log-kept = put-other (x .log) s [] u n };
+    begun-others = λ u n. put-other (x .begun) s false u n;
+  }
+
+  abort-acts : (s : ℕ) → x .begun s ≡ true → M.Aborted s (meaning x) (meaning (ended s (undone (x .log s) (x .now)) x))
+  abort-acts s e = record {
+    ended = ended-acts s (undone (x .log s) (x .now)) e;
+    db-undone = λ i. undone-get (x .log s) (x .now) (S .good) (S .bits s) i;
+  }
+
+-- ---- recover
+
+lapses-begun : (s : ℕ) (x : State) → (x .begun s && not (x .asked s)) ≡ true → (x .begun s ≡ true) × (x .asked s ≡ false)
+lapses-begun s x e = at (x .begun s) (x .asked s) e
+  where
+    at : (a b : Bool) → (a && not b) ≡ true → (a ≡ true) × (b ≡ false)
+    at true true q = (refl, sym q)
+    at true false q = (refl, refl)
+    at false b q = (q, not-true b (λ z. true≢false q refl))
+
+lapse-is : (s : ℕ) (x : State) → (x .begun s && not (x .asked s)) ≡ true → lapse s x ≡ ended s (undone (x .log s) (x .now)) x
+lapse-is s x e = ap (λ b. cond b (ended s (undone (x .log s) (x .now)) x) x) e
+
+lapse-laws : Lapse lock-rule Sound meaning (λ x. x .asked) lapse
+lapse-laws = record {
+  sound = λ p x S e. subst Sound (sym (lapse-is p x e)) (ended-sound x S p (undone (x .log p) (x .now)) (undone-good (x .log p) (x .now) (S .good)));
+  aborted = λ p x S e. subst (λ y. M.Aborted p (meaning x) (meaning y)) (sym (lapse-is p x e)) (abort-acts x S p (lapses-begun p x e .0));
+  marks = λ p x S e q. ap (λ y. y .asked q) (lapse-is p x e)
+      ∙ put-cases (λ u b. b ≡ x .asked u) (x .asked) p false (sym (lapses-begun p x e .1)) (λ u n. refl) q;
+  spares = λ p x e. ap (λ b. cond b (ended p (undone (x .log p) (x .now)) x) x) e;
+}
+
+no-hand : (o : Option Asked) → empty-hand o ≡ true → o ≡ none
+no-hand none e = refl
+no-hand (some a) e = absurd (true≢false e refl)
+
+-- No lapse puts a request in hand.
+each-empty : (n p : ℕ) (x : State) → ((q : ℕ) → x .hands q ≡ none) → (q : ℕ) → each lapse n p x .hands q ≡ none
+each-empty zero p x h q = h q
+each-empty (suc n) p x h q = each-empty n (suc p) (lapse p x) (λ u. at (x .begun p && not (x .asked p)) u) q
+  where
+    at : (b : Bool) (u : ℕ) → cond b (ended p (undone (x .log p) (x .now)) x) x .hands u ≡ none
+    at true u = put-cases (λ v a. a ≡ none) (x .hands) p none refl (λ v n. h v) u
+    at false u = h u
+
+session-range : (s : ℕ) → session s ≡ true → (1 ≤ s) × (s ≤ 16)
+session-range s e = at (leb 1 s) refl (leb s 16) refl e
+  where
+    at : (a : Bool) → leb 1 s ≡ a → (b : Bool) → leb s 16 ≡ b → (a && b) ≡ true → (1 ≤ s) × (s ≤ 16)
+    at true p true q z = (leb→le 1 s (subst T (sym p) tt), leb→le s 16 (subst T (sym q) tt))
+    at true p false q z = absurd (true≢false z refl)
+    at false p b q z = absurd (true≢false z refl)
+
 module _ (t : Told) (x : State) (w : Knows example t x) where
   unchanged : Kept t t x x
   unchanged = (w, inl (record { events = []; moved = M.still; as-told = refl }))
 
-  handed-kept : (p : ℕ) (a : Option Asked) (h : Hist store) → h ≡ t .past
-      → Kept t (record { past = h; unfinished = t .unfinished; hands = put (t .hands) p a }) x (handed p a x)
-  handed-kept p a h e = (
+  handed-kept : (p : ℕ) (a : Option Asked) → (x .asked p ≡ true → a ≡ none) → (h : Hist store) → h ≡ t .past
+      → Kept t (record { past = h; unfinished = t .unfinished; hands = put (t .hands) p a; asked = t .asked }) x (handed p a x)
+  handed-kept p a z h e = (
     record {
-      sound = record { good = w .sound .good; sessions = w .sound .sessions; agree = w .sound .agree; bits = w .sound .bits };
+      sound = record {
+        good = w .sound .good;
+        sessions = w .sound .sessions;
+        agree = w .sound .agree;
+        bits = w .sound .bits;
+        only-asked = λ u q. (w .sound .only-asked u q .0, put-cases (λ v o. x .asked v ≡ true → o ≡ none) (x .hands) p a z (λ v n i. w .sound .only-asked v i .1) u q);
+      };
       hand-told = put-map (x .hands) (t .hands) p a (w .hand-told);
       begun-told = w .begun-told;
+      asked-told = w .asked-told;
     },
-    by-event t (record { past = h; unfinished = t .unfinished; hands = put (t .hands) p a }) x (handed p a x) S.quiet
+    by-event t (record { past = h; unfinished = t .unfinished; hands = put (t .hands) p a; asked = t .asked }) x (handed p a x) S.quiet
         (record { stays = λ u. record { holds-kept = λ k m z. refl; log-kept = refl }; begun-same = λ u. refl; db-kept = λ i. refl }) e,
   )
 
@@ -295,9 +382,14 @@ module _ (t : Told) (x : State) (w : Knows example t x) where
         sessions = put-cases (λ u b. b ≡ true → session u ≡ true) (x .begun) s true (λ q. e) (λ u m. w .sound .sessions u);
         agree = w .sound .agree;
         bits = w .sound .bits;
+        only-asked = λ u q. (
+          put-cases (λ v b. x .asked v ≡ true → b ≡ true) (x .begun) s true (λ i. refl) (λ v n i. w .sound .only-asked v i .0) u q,
+          put-cases (λ v o. x .asked v ≡ true → o ≡ none) (x .hands) s none (λ i. refl) (λ v n i. w .sound .only-asked v i .1) u q,
+        );
       };
       hand-told = put-map (x .hands) (t .hands) s none (w .hand-told);
       begun-told = put-map (x .begun) (t .unfinished) s true (w .begun-told);
+      asked-told = w .asked-told;
     },
     by-event t (tell-ok (C.begin s) t) x (opened s x) (S.begin s)
         (record {
@@ -310,47 +402,64 @@ module _ (t : Told) (x : State) (w : Knows example t x) where
   )
 
   -- Commit and abort.
-  ended-sound : (s : ℕ) (d : Db) → Good d → Sound (ended s d x)
-  ended-sound s d g = record {
-    good = g;
-    sessions = put-cases (λ u b. b ≡ true → session u ≡ true) (x .begun) s false (λ q. absurd (true≢false q refl)) (λ u m. w .sound .sessions u);
-    agree = agree-released s (x .locks) (w .sound .agree);
-    bits = put-cases (λ u l. Bits l) (x .log) s [] tt (λ u m. w .sound .bits u);
-  }
-
-  ended-acts : (s : ℕ) (d : Db) → x .begun s ≡ true → M.Ended s (meaning x) (meaning (ended s d x))
-  ended-acts s d e = record {
-    was = e;
-    now = put-same (x .begun) s false;
-    holds-off = λ k m z. released-off s (x .locks) k m z;
-    log-off = put-same (x .log) s [];
-    others = λ u n. record { holds-kept = λ k m z. released-other s (x .locks) k m u z n; log-kept = put-other (x .log) s [] u n };
-    begun-others = λ u n. put-other (x .begun) s false u n;
-  }
-
   ended-knows : (s : ℕ) (d : Db) → Good d → (h : Hist store)
-      → Knows example (record { past = h; unfinished = put (t .unfinished) s false; hands = put (t .hands) s none }) (ended s d x)
+      → Knows example (record { past = h; unfinished = put (t .unfinished) s false; hands = put (t .hands) s none; asked = put (t .asked) s false }) (ended s d x)
   ended-knows s d g h = record {
-    sound = ended-sound s d g;
+    sound = ended-sound x (w .sound) s d g;
     hand-told = put-map (x .hands) (t .hands) s none (w .hand-told);
     begun-told = put-map (x .begun) (t .unfinished) s false (w .begun-told);
+    asked-told = put-map (x .asked) (t .asked) s false (w .asked-told);
   }
 
   commit-kept : (s : ℕ) → x .begun s ≡ true → Kept t (tell-ok (C.commit s) t) x (ended s (x .now) x)
   commit-kept s e = (
     ended-knows s (x .now) (w .sound .good) (hstep store (S.commit s) (t .past)),
-    by-event t (tell-ok (C.commit s) t) x (ended s (x .now) x) (S.commit s) (record { ended = ended-acts s (x .now) e; db-kept = λ i. refl }) refl,
+    by-event t (tell-ok (C.commit s) t) x (ended s (x .now) x) (S.commit s) (record { ended = ended-acts x (w .sound) s (x .now) e; db-kept = λ i. refl }) refl,
   )
 
   abort-kept : (s : ℕ) → x .begun s ≡ true → Kept t (tell-ok (C.abort s) t) x (ended s (undone (x .log s) (x .now)) x)
   abort-kept s e = (
     ended-knows s (undone (x .log s) (x .now)) (undone-good (x .log s) (x .now) (w .sound .good)) (hstep store (S.abort s) (t .past)),
     by-event t (tell-ok (C.abort s) t) x (ended s (undone (x .log s) (x .now)) x) (S.abort s)
-        (record {
-          ended = ended-acts s (undone (x .log s) (x .now)) e;
-          db-undone = λ i. undone-get (x .log s) (x .now) (w .sound .good) (w .sound .bits s) i;
-        }) refl,
+        (abort-acts x (w .sound) s e) refl,
   )
+
+  ask-kept : (s : ℕ) → x .begun s ≡ true → empty-hand (x .hands s) ≡ true → Kept t (tell-ok (C.ask s) t) x (fixed s x)
+  ask-kept s b o = (
+    record {
+      sound = record {
+        good = w .sound .good;
+        sessions = w .sound .sessions;
+        agree = w .sound .agree;
+        bits = w .sound .bits;
+        only-asked = put-cases (λ u m. m ≡ true → (x .begun u ≡ true) × (x .hands u ≡ none)) (x .asked) s true (λ i. (b, no-hand (x .hands s) o)) (λ u n. w .sound .only-asked u);
+      };
+      hand-told = w .hand-told;
+      begun-told = w .begun-told;
+      asked-told = put-map (x .asked) (t .asked) s true (w .asked-told);
+    },
+    by-event t (tell-ok (C.ask s) t) x (fixed s x) S.quiet
+        (record { stays = λ u. record { holds-kept = λ k m z. refl; log-kept = refl }; begun-same = λ u. refl; db-kept = λ i. refl }) refl,
+  )
+
+  recover-kept : Kept t (tell-ok C.recover t) x (each lapse 16 1 (dropped x))
+  recover-kept =
+      let D : Sound (dropped x) = record
+      { good = w .sound .good; sessions = w .sound .sessions; agree = w .sound .agree; bits = w .sound .bits; only-asked = λ u q. (w .sound .only-asked u q .0, refl) } in
+      let r = each-lapsed lock-rule Sound meaning (λ x. x .asked) lapse lapse-laws 16 1 (dropped x) D in
+      let range : (s : ℕ) → x .begun s ≡ true → (1 ≤ s) × (s ≤ 16) = λ s b. session-range s (w .sound .sessions s b) in (
+        record {
+          sound = r .sound;
+          hand-told = each-empty 16 1 (dropped x) (λ q. refl);
+          begun-told = lapsed-begun lock-rule Sound meaning (λ x. x .asked) lapse 16 (dropped x) (each lapse 16 1 (dropped x)) range r t (w .begun-told) (w .asked-told);
+          asked-told = λ s. r .marks s ∙ w .asked-told s;
+        },
+        inl (record {
+          events = S.quiet ∷ map S.abort (r .who);
+          moved = M.more {y = meaning (dropped x)} {e = S.quiet} (record { stays = λ u. record { holds-kept = λ k m z. refl; log-kept = refl }; begun-same = λ u. refl; db-kept = λ i. refl }) (r .moved);
+          as-told = lapsed-past lock-rule Sound meaning (λ x. x .asked) lapse 16 (dropped x) (each lapse 16 1 (dropped x)) range r t (w .begun-told) (w .asked-told);
+        }),
+      )
 
   -- The locks, then the request under them.
   locked-acts : (s : ℕ) (r : Req) → x .begun s ≡ true → blocked s (wanted r) (x .locks) ≡ none → M.Locked lock-rule s (meaning x) (meaning (locked s r x))
@@ -386,6 +495,7 @@ module _ (t : Told) (x : State) (w : Knows example t x) where
     agree = agree-taken s (wanted r) (x .locks) f (w .sound .agree);
     bits = put-cases (λ u l. Bits l) (x .log) s (undo-of r (x .now) ++ x .log s)
         (bits-append (undo-of r (x .now)) (x .log s) (bits-undo r (x .now)) (w .sound .bits s)) (λ u m. w .sound .bits u);
+    only-asked = λ u q. (w .sound .only-asked u q .0, put-cases (λ v o. x .asked v ≡ true → o ≡ none) (x .hands) s none (λ i. refl) (λ v n i. w .sound .only-asked v i .1) u q);
   }
 
   module _ (k : ℕ) (l : List ℕ) (q : Asked) (e : x .hands (suc k) ≡ some q) (b : x .begun (suc k) ≡ true) where
@@ -401,12 +511,13 @@ module _ (t : Told) (x : State) (w : Knows example t x) where
 
     serve-kept : (r : Req) → request-of (q .code) (q .entry) (q .first) (q .second) ≡ some r → blocked (suc k) (wanted r) (x .locks) ≡ none
         → (c : Bool) → After (serve (suc k) l x r c)
-    serve-kept r f g true = handed-kept (suc k) none (t .past) refl
+    serve-kept r f g true = handed-kept (suc k) none (λ z. refl) (t .past) refl
     serve-kept r f g false = (
       record {
         sound = served-sound (suc k) r g;
         hand-told = put-map (x .hands) (t .hands) (suc k) none (w .hand-told);
         begun-told = w .begun-told;
+        asked-told = w .asked-told;
       },
       inl (record {
         events = S.grow (suc k) ∷ (S.finish (suc k) r (ans r (x .now)) ∷ []);
@@ -422,22 +533,24 @@ module _ (t : Told) (x : State) (w : Knows example t x) where
     try-kept r f none g = serve-kept r f g (short (ans r (x .now)) l)
 
     asked-kept : (o : Option Req) → request-of (q .code) (q .entry) (q .first) (q .second) ≡ o → After (serve-asked (suc k) l x o)
-    asked-kept none f = handed-kept (suc k) none (finished (suc k) (t .hands (suc k)) (0 ∷ (0 ∷ [])) l (t .past)) (done-told none f (0 ∷ (0 ∷ [])) l)
+    asked-kept none f = handed-kept (suc k) none (λ z. refl) (finished (suc k) (t .hands (suc k)) (0 ∷ (0 ∷ [])) l (t .past)) (done-told none f (0 ∷ (0 ∷ [])) l)
     asked-kept (some r) f = try-kept r f (blocked (suc k) (wanted r) (x .locks)) refl
 
   step-kept : (p : ℕ) (l : List ℕ) → active x p ≡ true → (o : Option Asked) → x .hands p ≡ o
       → Kept t (tell-answer (C.step p l) (step-on p l x o .0) (step-on p l x o .1) t) x (step-on p l x o .2)
   step-kept p l b none e = unchanged
-  step-kept zero l b (some q) e = handed-kept zero none (t .past) refl
+  step-kept zero l b (some q) e = handed-kept zero none (λ z. refl) (t .past) refl
   step-kept (suc k) l b (some q) e = asked-kept k l q e b (request-of (q .code) (q .entry) (q .first) (q .second)) refl
 
   accepted-kept : (c : C.Call) → Passed (checks c x) → Kept t (tell-answer c (accepted c x .0) (accepted c x .1) t) x (accepted c x .2)
   accepted-kept (C.format m) h = (blank-knows, inr (record { nothing-told = refl; as-new = blank-formatted }))
   accepted-kept (C.begin s) h = begin-kept s (h .0) (h .1 .0)
-  accepted-kept (C.put p code e f g) h = handed-kept p (some (record { code = code; entry = e; first = f; second = g })) (t .past) refl
+  accepted-kept (C.put p code e f g) h = handed-kept p (some (record { code = code; entry = e; first = f; second = g })) (λ z. absurd (true≢false z (not-flip (x .asked p) true (h .1 .1 .0)))) (t .past) refl
   accepted-kept (C.step p l) h = step-kept p l (h .1 .0) (x .hands p) refl
   accepted-kept (C.commit s) h = commit-kept s (h .1 .0)
   accepted-kept (C.abort s) h = abort-kept s (h .1 .0)
+  accepted-kept (C.ask s) h = ask-kept s (h .1 .0) (h .1 .1 .1 .0)
+  accepted-kept C.recover h = recover-kept
 
   call-kept : (c : C.Call) → Kept t (tell-answer c (call c x .0) (call c x .1) t) x (call c x .2)
   call-kept c = at (first-failed (checks c x)) refl
@@ -452,12 +565,16 @@ turn-kept k x y t d w = subst (λ r. Kept t (tell-answer (k .call) (r .0) (r .1)
 abort-accepted : (s : ℕ) (x : State) → session s ≡ true → x .begun s ≡ true → call (C.abort s) x .0 ≡ ok
 abort-accepted s x p q = rw (p, q) refl
 
+commit-accepted : (s : ℕ) (x : State) → Sound x → x .asked s ≡ true → call (C.commit s) x .0 ≡ ok
+commit-accepted s x S e = let q = S .only-asked s e in rw (S .sessions s (q .0), q .0, q .1) refl
+
 pub example-laws : Laws example lock-rule
 example-laws = record {
   returns = λ c x w. (call c x .0, call c x .1, call c x .2, refl);
   knows = λ k x y t d w. turn-kept k x y t d w .0;
   moves = λ k x y t d w. turn-kept k x y t d w .1;
   abort-ok = λ s k x y e d w b. ap (λ r. r .0) d ∙ ap (λ c. call c x .0) e ∙ abort-accepted s x (w .sessions s b) b;
+  commit-ok = λ s k x y e d w m. ap (λ r. r .0) d ∙ ap (λ c. call c x .0) e ∙ commit-accepted s x w m;
 }
 
 -- Demand 3 of this machine, for every list of calls.

@@ -10,6 +10,7 @@ pub mod Codes
 pub mod Line
 pub mod Unfinished
 pub mod Values
+pub mod Recovery
 pub mod Example
 pub mod ExampleLaws
 pub mod Traces

@@ -7,7 +7,7 @@ use native.Mathlib.Decide.{ℕ-discrete, decLt, decLe}
 use Rattle.serial.specs.Serial.{serial-answers, requests}
 use Rattle.serial.specs.Model.{Pair, Db, Req, read, write, insert, remove, locate, Ans, just, empty, ℕ-tri, pair-tri}
 use Rattle.serial.specs.Footprints.{store}
-use Rattle.serial.specs.Calls.{Call, format, begin, commit, abort, put, step, Answer, ok, wait, done, refused, Turn, Run, stop, next, nothing, told, committed-db, Demand-3}
+use Rattle.serial.specs.Calls.{Call, format, begin, commit, abort, ask, recover, put, step, Answer, ok, wait, done, refused, Turn, Run, stop, next, nothing, told, committed-db, Demand-3}
 use Rattle.serial.specs.Example.{State, blank, call, kind?, mode?, example}
 use Rattle.serial.specs.ExampleLaws.{example-demand-3}
 
@@ -220,3 +220,25 @@ lists-plays = refl
 lists-left : map (λ k. k .list) (turns-of lists) ≡ [] ∷ [] ∷ [] ∷ [] ∷ [] ∷ [] ∷ (9 ∷ 9 ∷ 9 ∷ []) ∷ [] ∷ [] ∷ (500 ∷ 3 ∷ 501 ∷ 4 ∷ 9 ∷ []) ∷ []
 unfolding pair-tri ℕ-tri ℕ-discrete decLt decLe kind? mode?
 lists-left = refl
+
+-- ---- ask and recover
+
+-- Session 1 is asked: a put or another ask of it is 21, a step 7, a begin 5. Session 2 is not asked, and has a request in hand. Recover aborts 2 alone;
+-- 1 still holds its entry, and its commit is accepted.
+abbrev recovery : Script
+recovery = (begin 1, ok) ∷ (write-by 1 5 9, ok) ∷ (ask 1, refused 7 0) ∷ (go 1, done (0 ∷ [])) ∷ (ask 1, ok) ∷ (ask 1, refused 21 0) ∷ (read-by 1 5, refused 21 0)
+    ∷ (go 1, refused 7 0) ∷ (begin 1, refused 5 0) ∷ (ask 2, refused 5 0) ∷ (ask 0, refused 4 0)
+    ∷ (begin 2, ok) ∷ (write-by 2 6 8, ok) ∷ (go 2, done (0 ∷ [])) ∷ (write-by 2 5 7, ok) ∷ (go 2, wait 1) ∷ (recover, ok) ∷ (go 2, refused 5 0)
+    ∷ (begin 2, ok) ∷ (read-by 2 6, ok) ∷ (go 2, done (0 ∷ [])) ∷ (read-by 2 5, ok) ∷ (go 2, wait 1) ∷ (commit 1, ok) ∷ (go 2, done (9 ∷ [])) ∷ (recover, ok) ∷ (recover, ok) ∷ []
+
+recovery-plays : Plays recovery
+unfolding pair-tri ℕ-tri ℕ-discrete decLt decLe kind? mode?
+recovery-plays = refl
+
+-- What is told: one committed session, with one request; nothing is unfinished, nobody is asked.
+recovery-told : map (requests store) (told nothing (turns-of recovery) .past .closed) ≡ (write 5 9 ∷ []) ∷ []
+unfolding pair-tri ℕ-tri ℕ-discrete decLt decLe kind? mode?
+recovery-told = refl
+
+recovery-demand-3 : Demand-3 example (told nothing (turns-of recovery)) (after recovery)
+recovery-demand-3 = example-demand-3 (turns-of recovery) (after recovery) (played (map (λ p. p .0) recovery) blank)

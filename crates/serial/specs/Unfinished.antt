@@ -1,16 +1,24 @@
 -- Whatever was told, the unfinished sessions can be listed; so what demand 3 says of their aborts is said of every list of calls.
 use mathlib.Core.Path.{_≡_, refl, sym, _∙_, ap, subst}
-use mathlib.Core.Bool.{Bool, true, false, cond}
+use mathlib.Core.Bool.{Bool, true, false, cond, _&&_}
 use mathlib.Core.List.{List, [], _∷_, map}
 use mathlib.Core.Logic.{inl, inr}
 use mathlib.Core.Option.{none}
 use Prim.Native.Nat.{ℕ}
 use native.Mathlib.Decide.{ℕ-discrete}
-use Rattle.serial.specs.Serial.{put-same, put-other, true≢false, In, Distinct}
+use Rattle.serial.specs.Serial.{pick, put-same, put-other, true≢false, In, Distinct}
 use Rattle.serial.specs.Serial as S
 use Rattle.serial.specs.Locks.{Table, Strict}
 use Rattle.serial.specs.LockMachine.{Formatted}
-use Rattle.serial.specs.Calls.{Call, format, begin, commit, abort, put, step, Answer, ok, more, wait, done, refused, Turn, Told, nothing, take-in-hand, tell-ok, tell-done, ends-request, tell-refused, tell-answer, tell, told, Machine, Run, Unfinished, Made, Knows, Laws, demand-3}
+use Rattle.serial.specs.Calls.{Call, format, begin, commit, abort, ask, recover, put, step, Answer, ok, more, wait, done, refused, Turn, Told, nothing, take-in-hand, tell-ok, tell-done, ends-request, tell-refused, tell-answer, tell, told, Machine, Run, Unfinished, Made, Knows, Laws, demand-3}
+
+and-true : (b : Bool) → (b && true) ≡ b
+and-true true = refl
+and-true false = refl
+
+and-false : (b : Bool) → (b && false) ≡ false
+and-false true = refl
+and-false false = refl
 
 abbrev Listed : Told → Type 0
 Listed t = (ss : List ℕ) × Unfinished t ss
@@ -51,42 +59,57 @@ begin-listed s t l = go (t .unfinished s) refl
         all v h (yes q) = inl (sym q)
         all v h (no n) = inr (l .1 .all v (sym (put-other (t .unfinished) s true v n) ∙ h))
 
-record Less (s : ℕ) (ss : List ℕ) : Type 0 where
+-- Of a list those of whom f says so.
+record Some (f : ℕ → Bool) (ss : List ℕ) : Type 0 where
   left : List ℕ
   once : Distinct left
-  among : (v : ℕ) → In v left → In v ss × ¬ (s ≡ v)
-  others : (v : ℕ) → In v ss → ¬ (s ≡ v) → In v left
+  among : (v : ℕ) → In v left → In v ss × (f v ≡ true)
+  others : (v : ℕ) → In v ss → f v ≡ true → In v left
 
-less : (s : ℕ) (ss : List ℕ) → Distinct ss → Less s ss
-less s [] d = record { left = []; once = tt; among = λ v i. absurd i; others = λ v i n. i }
-less s (x ∷ ss) d = go (ℕ-discrete s x) (less s ss (d .1))
+some-of : (f : ℕ → Bool) (ss : List ℕ) → Distinct ss → Some f ss
+some-of f [] d = record { left = []; once = tt; among = λ v i. absurd i; others = λ v i n. i }
+some-of f (x ∷ ss) d = go (f x) refl (some-of f ss (d .1))
   where
-    go : Dec (s ≡ x) → Less s ss → Less s (x ∷ ss)
-    go (yes q) L = record { left = L .left; once = L .once; among = λ v i. (inr (L .among v i .0), L .among v i .1); others = others }
+    go : (b : Bool) → f x ≡ b → Some f ss → Some f (x ∷ ss)
+    go false q L = record { left = L .left; once = L .once; among = λ v i. (inr (L .among v i .0), L .among v i .1); others = others }
       where
-        others : (v : ℕ) → In v (x ∷ ss) → ¬ (s ≡ v) → In v (L .left)
-        others v (inl w) n = absurd (n (q ∙ sym w))
+        others : (v : ℕ) → In v (x ∷ ss) → f v ≡ true → In v (L .left)
+        others v (inl w) n = absurd (true≢false n (ap f w ∙ q))
         others v (inr i) n = L .others v i n
-    go (no q) L = record { left = x ∷ L .left; once = ((λ i. d .0 (L .among x i .0)), L .once); among = among; others = others }
+    go true q L = record { left = x ∷ L .left; once = ((λ i. d .0 (L .among x i .0)), L .once); among = among; others = others }
       where
-        among : (v : ℕ) → In v (x ∷ L .left) → In v (x ∷ ss) × ¬ (s ≡ v)
-        among v (inl w) = (inl w, λ z. q (z ∙ w))
+        among : (v : ℕ) → In v (x ∷ L .left) → In v (x ∷ ss) × (f v ≡ true)
+        among v (inl w) = (inl w, ap f w ∙ q)
         among v (inr i) = (inr (L .among v i .0), L .among v i .1)
 
-        others : (v : ℕ) → In v (x ∷ ss) → ¬ (s ≡ v) → In v (x ∷ L .left)
+        others : (v : ℕ) → In v (x ∷ ss) → f v ≡ true → In v (x ∷ L .left)
         others v (inl w) n = inl w
         others v (inr i) n = inr (L .others v i n)
 
+-- The unfinished sessions after a call are those of before of whom f says so.
+some-listed : (f : ℕ → Bool) (t u : Told) → ((v : ℕ) → u .unfinished v ≡ (t .unfinished v && f v)) → Listed t → Listed u
+some-listed f t u q l = let L = some-of f (l .0) (l .1 .once) in (L .left, record { once = L .once; each = λ v i. each v (L .among v i); all = λ v h. all L v (sym (q v) ∙ h) })
+  where
+    each : (v : ℕ) → In v (l .0) × (f v ≡ true) → u .unfinished v ≡ true
+    each v i = q v ∙ ap (λ b. b && f v) (l .1 .each v (i .0)) ∙ i .1
+
+    all : (L : Some f (l .0)) (v : ℕ) → (t .unfinished v && f v) ≡ true → In v (L .left)
+    all L v h = go (t .unfinished v) refl h
+      where
+        go : (b : Bool) → t .unfinished v ≡ b → (b && f v) ≡ true → In v (L .left)
+        go true e r = L .others v (l .1 .all v e) r
+        go false e r = absurd (true≢false r refl)
+
 -- A commit or an abort.
 end-listed : (s : ℕ) (t u : Told) → u .unfinished ≡ S.put (t .unfinished) s false → Listed t → Listed u
-end-listed s t u q l = let L = less s (l .0) (l .1 .once) in (L .left, record { once = L .once; each = λ v i. each v (L .among v i); all = λ v h. all L v (ap (λ f. f v) (sym q) ∙ h) (ℕ-discrete s v) })
+end-listed s t u q l = some-listed (λ v. pick (ℕ-discrete s v) false true) t u (λ v. ap (λ f. f v) q ∙ ended v (ℕ-discrete s v)) l
   where
-    each : (v : ℕ) → In v (l .0) × ¬ (s ≡ v) → u .unfinished v ≡ true
-    each v i = ap (λ f. f v) q ∙ put-other (t .unfinished) s false v (i .1) ∙ l .1 .each v (i .0)
+    ended : (v : ℕ) (e : Dec (s ≡ v)) → pick e false (t .unfinished v) ≡ (t .unfinished v && pick e false true)
+    ended v (yes e) = sym (and-false (t .unfinished v))
+    ended v (no n) = sym (and-true (t .unfinished v))
 
-    all : (L : Less s (l .0)) (v : ℕ) → S.put (t .unfinished) s false v ≡ true → Dec (s ≡ v) → In v (L .left)
-    all L v h (yes z) = absurd (true≢false h (subst (λ y. S.put (t .unfinished) s false y ≡ false) z (put-same (t .unfinished) s false)))
-    all L v h (no n) = L .others v (l .1 .all v (sym (put-other (t .unfinished) s false v n) ∙ h)) n
+recover-listed : (t : Told) → Listed t → Listed (tell-ok recover t)
+recover-listed t l = some-listed (t .asked) t (tell-ok recover t) (λ v. refl) l
 
 same-listed : (t u : Told) → u .unfinished ≡ t .unfinished → Listed t → Listed u
 same-listed t u q l = (l .0, record { once = l .1 .once; each = λ v i. ap (λ f. f v) q ∙ l .1 .each v i; all = λ v h. l .1 .all v (ap (λ f. f v) (sym q) ∙ h) })
@@ -99,6 +122,8 @@ ok-listed (format m) t l = nothing-listed
 ok-listed (begin s) t l = begin-listed s t l
 ok-listed (commit s) t l = end-listed s t (tell-ok (commit s) t) refl l
 ok-listed (abort s) t l = end-listed s t (tell-ok (abort s) t) refl l
+ok-listed (ask s) t l = same-listed t (tell-ok (ask s) t) refl l
+ok-listed recover t l = recover-listed t l
 ok-listed (put p c e f g) t l = same-listed t (tell-ok (put p c e f g) t) refl l
 ok-listed (step p ws) t l = l
 
@@ -107,6 +132,8 @@ done-listed (format m) ns ws t = refl
 done-listed (begin s) ns ws t = refl
 done-listed (commit s) ns ws t = refl
 done-listed (abort s) ns ws t = refl
+done-listed (ask s) ns ws t = refl
+done-listed recover ns ws t = refl
 done-listed (put p c e f g) ns ws t = refl
 done-listed (step p l) ns ws t = refl
 
@@ -115,6 +142,8 @@ refused-listed (format m) n t = refl
 refused-listed (begin s) n t = refl
 refused-listed (commit s) n t = refl
 refused-listed (abort s) n t = refl
+refused-listed (ask s) n t = refl
+refused-listed recover n t = refl
 refused-listed (put p c e f g) n t = refl
 refused-listed (step p l) n t = at (ends-request n)
   where

@@ -12,7 +12,7 @@ use Rattle.serial.specs.Model.{Db, Req, Ans, read, write, insert, remove
 use Rattle.serial.specs.Footprints.{store}
 use Rattle.serial.specs.Locks.{Table, Strict}
 use Rattle.serial.specs.LockMachine.{view, Formatted, formatted-fresh}
-use Rattle.serial.specs.Calls.{Call, format, begin, commit, abort, put, step, Answer, ok, more, wait, done, refused, Turn, Asked, Told, nothing, take-in-hand, tell-ok, answer-of, fed, finished, tell-done, ends-request, tell-refused, tell-answer, tell, told, Machine, calls-of, Run, stop, next, Knows, Laws, Serial, keeps}
+use Rattle.serial.specs.Calls.{Call, format, begin, commit, abort, ask, recover, put, step, Answer, ok, more, wait, done, refused, Turn, Asked, Told, nothing, take-in-hand, given-up, without, tell-ok, answer-of, fed, finished, tell-done, ends-request, tell-refused, tell-answer, tell, told, Machine, calls-of, Run, stop, next, Knows, Laws, Serial, keeps}
 
 -- One of two, whichever is picked.
 either : {A : Type 0} (F : A → Type 0) (b : Bool) (x y : A) → F x → F y → F (cond b x y)
@@ -28,6 +28,8 @@ module _ (P : ℕ → Type 0) where
   FitCall (step p l) = Unit {0}
   FitCall (commit p) = Unit {0}
   FitCall (abort p) = Unit {0}
+  FitCall (ask p) = Unit {0}
+  FitCall recover = Unit {0}
 
   abbrev pub FitCalls : List Call → Type 0
   FitCalls [] = Unit {0}
@@ -109,6 +111,9 @@ module _ (P : ℕ → Type 0) where
   hands-put : (t : Told) (p : ℕ) (a : Option Asked) → FitTold t → FitHand a → (q : ℕ) → FitHand (S.put (t .hands) p a q)
   hands-put t p a W w = put-cases (λ q z. FitHand z) (t .hands) p a w (λ q n. W .hands q)
 
+  without-fits : (f : ℕ → Bool) (h : Hist store) → FitHist h → FitHist (without f h)
+  without-fits f h W = record { closed = W .closed; current = λ s. either FitRequests (f s) [] (h .current s) tt (W .current s) }
+
   nothing-fits : FitTold nothing
   nothing-fits = record { past = record { closed = tt; current = λ s. tt }; hands = λ p. tt }
 
@@ -117,6 +122,8 @@ module _ (P : ℕ → Type 0) where
   ok-fits (begin s) t w W = record { past = hist-fits (S.begin s) (t .past) tt (W .past); hands = hands-put t s none W tt }
   ok-fits (commit s) t w W = record { past = hist-fits (S.commit s) (t .past) tt (W .past); hands = hands-put t s none W tt }
   ok-fits (abort s) t w W = record { past = hist-fits (S.abort s) (t .past) tt (W .past); hands = hands-put t s none W tt }
+  ok-fits (ask s) t w W = record { past = W .past; hands = W .hands }
+  ok-fits recover t w W = record { past = without-fits (given-up t) (t .past) (W .past); hands = λ p. tt }
   ok-fits (put p c e f g) t w W = record { past = W .past; hands = hands-put t p (some (record { code = c; entry = e; first = f; second = g })) W w }
   ok-fits (step p l) t w W = W
 
@@ -125,6 +132,8 @@ module _ (P : ℕ → Type 0) where
   done-fits (begin s) ns l t W = W
   done-fits (commit s) ns l t W = W
   done-fits (abort s) ns l t W = W
+  done-fits (ask s) ns l t W = W
+  done-fits recover ns l t W = W
   done-fits (put p c e f g) ns l t W = W
   done-fits (step p l₀) ns l t W = record { past = finished-fits p (t .hands p) ns l (t .past) (W .hands p) (W .past); hands = hands-put t p none W tt }
 
@@ -133,6 +142,8 @@ module _ (P : ℕ → Type 0) where
   refused-fits (begin s) n t W = W
   refused-fits (commit s) n t W = W
   refused-fits (abort s) n t W = W
+  refused-fits (ask s) n t W = W
+  refused-fits recover n t W = W
   refused-fits (put p c e f g) n t W = W
   refused-fits (step p l) n t W = either FitTold (ends-request n) (take-in-hand p none t) t (record { past = W .past; hands = hands-put t p none W tt }) W
 

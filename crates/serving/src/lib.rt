@@ -1,4 +1,4 @@
-// Serving: begin, put, step, commit and abort once store and table are known to be sound, on the words of a store and on the session table by value.
+// Serving: begin, put, step, commit, abort and ask once store and table are known to be sound, on the words of a store and on the session table by value.
 //
 // Each asks for the refusals in the order of the rules, then does its row. Each promises what the crate promises says of a call on sound words (Serves): the
 // answer is the machine's, store and table mean the machine's next state, and they are sound again; so whoever makes several calls tests once. It rests on
@@ -90,4 +90,18 @@ pub fn abort(store: &mut [u32], t: [Session; PARTIES], p: u32) -> Served
         };
     }
     accepted::abort(store, t, p)
+}
+
+pub fn ask(store: &[u32], t: [Session; PARTIES], p: u32) -> Served
+    requires { ⌜ Sound (now store) t ⌝ }
+    ensures { λ r. ⌜ Serves (C.ask p) (now (store .entry)) t (said (r .answer)) [] (now (store .entry)) (r .table) ⌝ }
+{
+    let n = refusals::ask_refusal(t, p);
+    if n != 0 {
+        return Served {
+            table: t, // not asked
+            answer: Answer::Refused(n, 0),
+        };
+    }
+    accepted::ask(store, t, p)
 }

@@ -29,6 +29,7 @@ idle-session =
       last = 0;
       undo = 0;
       order = 0;
+      asked = 0;
     }
 
 -- party p's record
@@ -38,9 +39,9 @@ session-at t p = getD t p idle-session
 unfoldable pub isBegun : Session → Bool
 isBegun x = not (eqb (x .begun) 0)
 
--- whether a session is begun, and its place in the order of begins: what no step changes
-abbrev pub tenure : Session → ℕ × ℕ
-tenure x = (x .begun, x .order)
+-- whether a session is begun, its place in the order of begins, and whether it is asked: what no step changes
+abbrev pub tenure : Session → ℕ × ℕ × ℕ
+tenure x = (x .begun, x .order, x .asked)
 
 -- at another place in the order of begins
 abbrev pub numbered : ℕ → Session → Session
@@ -60,4 +61,5 @@ numbered n x =
       last = x .last;
       undo = x .undo;
       order = n;
+      asked = x .asked;
     }

@@ -6,12 +6,12 @@
 // How many parties there are: the sessions and the housekeeper.
 pub const PARTIES: usize = 17;
 
-// In memory: its 14 words in this order, as a C program lends them.
+// In memory: its 15 words in this order, as a C program lends them.
 #[repr(C)]
 pub struct Session {
     // Not 0: the session is begun. Unused for party 0.
     pub begun: u32,
-    // The request in hand, 1 to 6, and its arguments as they were put. In use where the stage is not 0, as all below but undo and order.
+    // The request in hand, 1 to 6, and its arguments as they were put. In use where the stage is not 0, as all below but undo, order and asked.
     pub code: u32,
     pub entry: u32,
     pub first: u32,
@@ -34,4 +34,6 @@ pub struct Session {
     // The place in the order of begins: of two begun sessions the one with the lower number began first. Free where the session is not begun, and
     // for party 0.
     pub order: u32,
+    // Not 0: the session is asked, so that only commit and abort remain to it. 0 for party 0.
+    pub asked: u32,
 }

@@ -35,3 +35,7 @@ unreached-fault = 10
 -- document 02, M-101
 abbrev pub orders-fault : ℕ
 orders-fault = 12
+
+-- document 02, M-105
+abbrev pub asked-fault : ℕ
+asked-fault = 13

@@ -11,13 +11,13 @@ use Rattle.sessions.specs.declared.Session.{Session}
 use Rattle.seniority.specs.Seniority.{distinctIn}
 use Rattle.marks.specs.Marks.{free-mark}
 use Rattle.marks.specs.Trail.{Trail, Turn, turn, chainOf}
-use Rattle.parties.specs.Parties.{partiesOk, standingAtNodes, allUndos}
+use Rattle.parties.specs.Parties.{partiesOk, standingAtNodes, allUndos, marksOk}
 use Rattle.tree_walk.specs.declared.Walk.{Walk}
 use Rattle.tree_walk.specs.TreeWalk.{Tour, rootTour}
 use Rattle.holders.specs.Holders.{begunMask, entriesFrom}
 use Rattle.holdings.specs.Holdings.{allGroups}
 use Rattle.sound.specs.declared.Checked.{Checked}
-use Rattle.sound.specs.Faults.{sizes-fault, entries-fault, zero-fault, tree-fault, requests-fault, latches-fault, undos-fault, groups-fault, free-fault, unreached-fault, orders-fault}
+use Rattle.sound.specs.Faults.{sizes-fault, entries-fault, zero-fault, tree-fault, requests-fault, latches-fault, undos-fault, groups-fault, free-fault, unreached-fault, orders-fault, asked-fault}
 use Rattle.sound.specs.Sizes.{sizesOk}
 
 abbrev pub failed : ℕ → Checked
@@ -87,13 +87,16 @@ faultIn s m r t =
     (cond (lowestOk s m r) (afterTree s m r (begunMask t) t (rootTour s m r (replicate 4097 0) (replicate 4097 0))) (failed zero-fault))
     (failed entries-fault)
 
--- the order of begins, where nothing was found
-unfoldable pub ordersThen : List Session → Checked → Checked
-ordersThen t c = cond (eqb (c .fault) 0) (cond (distinctIn t) c (failed orders-fault)) c
+-- part n, where nothing was found
+unfoldable pub nextPart : ℕ → Bool → Checked → Checked
+nextPart n good c = cond (eqb (c .fault) 0) (cond good c (failed n)) c
 
 -- the first fault, or 0 and how many records are free
 unfoldable pub firstFault : List ℕ → List Session → Checked
-firstFault s t = cond (sizesOk s) (ordersThen t (faultIn s (headerWord s entriesPlace) (headerWord s recordsPlace) t)) (failed sizes-fault)
+firstFault s t =
+    cond (sizesOk s)
+    (nextPart asked-fault (marksOk t) (nextPart orders-fault (distinctIn t) (faultIn s (headerWord s entriesPlace) (headerWord s recordsPlace) t)))
+    (failed sizes-fault)
 
 -- sound
 unfoldable pub isSound : List ℕ → List Session → Bool

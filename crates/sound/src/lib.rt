@@ -1,4 +1,4 @@
-// Sound: the test that a store and a session table are sound, in document 01's sense ("Sound means"), with document 02's M-101 and M-104.
+// Sound: the test that a store and a session table are sound, in document 01's sense ("Sound means"), with document 02's M-101, M-104 and M-105.
 //
 // `first_fault` runs the passes one after the other and answers the first part that is broken, or that none is and how many records are
 // free; `is_sound` answers whether none is. Neither asks anything of the words that it is given. Each result EQUALS a definition
@@ -11,7 +11,7 @@ ghost use lib.ListN.{length};
 ghost use Rattle.marks.specs.Marks.{HasRecords};
 ghost use Rattle.marks.specs.Trail.{Ends};
 ghost use Rattle.sound.specs.Sizes.{sizesOk};
-ghost use Rattle.sound.specs.Sound.{failed, lowestOk, freeFrom, finishOf, groupsThen, undosThen, partiesThen, faultIn, ordersThen, firstFault, isSound};
+ghost use Rattle.sound.specs.Sound.{failed, lowestOk, freeFrom, finishOf, groupsThen, undosThen, partiesThen, faultIn, nextPart, firstFault, isSound};
 use marks::Chain;
 use sessions::PARTIES;
 use sessions::Session;
@@ -55,6 +55,9 @@ pub const UNREACHED: u32 = 10;
 
 // "no two begun sessions share a number" (document 02, M-101); 11 is the number of a lent table that is not of 17 records
 pub const ORDERS: u32 = 12;
+
+// "only a begun session with no request in hand is asked" (document 02, M-105)
+pub const ASKED: u32 = 13;
 
 // The test's answer: the first part that is broken, 0 for none, and, where it is none, how many records are free.
 pub struct Checked {
@@ -303,15 +306,15 @@ fn fault_in(store: &[u32], m: usize, r: usize, t: [Session; PARTIES]) -> Checked
     parties_then(store, &mut seen, &order, m, r, begun, t, w)
 }
 
-// What was found, and the order of begins where that is nothing.
-fn orders_then(t: [Session; PARTIES], c: Checked) -> Checked
-    ensures { λ d. ⌜ d ≡ ordersThen t c ⌝ }
+// What was found, and where that is nothing part n, which is good or broken.
+fn next_part(n: u32, good: bool, c: Checked) -> Checked
+    ensures { λ d. ⌜ d ≡ nextPart n good c ⌝ }
 {
     if c.fault != 0 {
         return c;
     }
-    if !seniority::distinct(t) {
-        return broken(ORDERS);
+    if !good {
+        return broken(n);
     }
     c
 }
@@ -326,7 +329,10 @@ pub fn first_fault(store: &[u32], t: [Session; PARTIES]) -> Checked
     let m = words::entries(store) as usize;
     let r = words::records(store) as usize;
     let c = fault_in(store, m, r, t);
-    orders_then(t, c)
+    let distinct = seniority::distinct(t);
+    let marked = parties::marks_ok(t);
+    let d = next_part(ORDERS, distinct, c);
+    next_part(ASKED, marked, d)
 }
 
 // The store and the table are sound.

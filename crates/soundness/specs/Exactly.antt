@@ -155,6 +155,7 @@ module _ (s : List ℕ) (t : List Session) (T : Table t) (D : S.Sound s t) where
     all-reached = λ i a b. omega (arith, D .once i a b);
     seats = T .seats;
     orders = D .state .orders;
+    marks = D .state .only-asked;
   }
 
 -- ---- both

@@ -35,6 +35,7 @@ pub mod PartyLatches
 pub mod PartyTally
 pub mod PartiesPass
 pub mod PartyPins
+pub mod MarksPass
 pub mod Counts
 pub mod Reach
 pub mod Counted

@@ -10,16 +10,17 @@ use lib.Dec.{eqb, leb}
 use borrow.Author.Tests.{eq-eqb, eqb-true, eqb-false, le-leb}
 use Rattle.sessions.specs.declared.Session.{Session}
 use Rattle.seniority.specs.Seniority.{distinctIn}
-use Rattle.parties.specs.Parties.{standingAtNodes}
+use Rattle.parties.specs.Parties.{standingAtNodes, marksOk}
 use Rattle.holders.specs.Holders.{begunMask, entriesFrom}
 use Rattle.sound.specs.declared.Checked.{Checked}
 use Rattle.sound.specs.Sizes.{sizesOk}
-use Rattle.sound.specs.Sound.{firstFault, faultIn, afterTree, partiesThen, afterParties, undosThen, afterUndos, groupsThen, afterGroups, finishOf, ending, ordersThen, failed, lowestOk}
+use Rattle.sound.specs.Sound.{firstFault, faultIn, afterTree, partiesThen, afterParties, undosThen, afterUndos, groupsThen, afterGroups, finishOf, ending, nextPart, failed, lowestOk}
 use Rattle.meaning.specs.Reading.{M-of, R-of}
 use Rattle.soundness.specs.HeldTests.{entries-is}
 use Rattle.soundness.specs.SizesPass.{sizes-found, sizes-pass}
 use Rattle.soundness.specs.Lowest.{zero-pass}
 use Rattle.soundness.specs.OrdersPass.{orders-pass}
+use Rattle.soundness.specs.MarksPass.{marks-pass}
 use Rattle.soundness.specs.Parts.{Table, Part, Parts}
 use Rattle.soundness.specs.Tested.{toured, stood, filed, grouped, freed}
 use Rattle.soundness.specs.Walked.{tree-pass, requests-pass, latch-pass, undos-pass, leaves-few, groups-pass, free-pass, reached-pass}
@@ -50,41 +51,43 @@ module _ (s : List ℕ) (t : List Session) where
   past k true c e N = N
   past k false c e N = absurd (false≢true e)
 
+  -- One part more, behind those up to top: it is tested where nothing was found.
+  behind : {top : ℕ} (k : ℕ) (b : Bool) (c : Checked) → (b ≡ true) ↔ Part (suc top) s t → From top k c → From (suc top) k (nextPart (suc top) b c)
+  unfolding nextPart
+  behind {top} k b c i N = go (eqb (c .fault) 0) refl b refl
+    where
+      whole : b ≡ true → c .fault ≡ 0 → (j : ℕ) → k ≤ j → j ≤ suc top → Part j s t
+      whole d e j a l = by (ℕ-discrete j (suc top))
+        where
+          by : Dec (j ≡ suc top) → Part j s t
+          by (yes h) = subst (λ (n : ℕ). Part n s t) (sym h) (i .0 d)
+          by (no n) = N .all e j a (omega (arith, l, n))
+
+      go : (z : Bool) → eqb (c .fault) 0 ≡ z → (d : Bool) → b ≡ d → From (suc top) k (cond z (cond d c (failed (suc top))) c)
+      go true e true d = record { all = whole d; broken = N .broken; before = N .before }
+      go true e false d = record {
+        all = λ z. absurd (omega (arith, z));
+        broken = λ n h. false≢true (sym d ∙ i .1 h);
+        before = λ j a l. N .all (eqb-true (c .fault) 0 e) j a (omega (arith, l));
+      }
+      go false e x d = record { all = λ z. absurd (eqb-false (c .fault) 0 e z); broken = N .broken; before = N .before }
+
   module _ (T : Table t) where
-    -- Behind the parts up to 10: 11, which every table of a record for each party has, and 12.
-    last : (k : ℕ) (c : Checked) → From 10 k c → From 12 k (ordersThen t c)
-    unfolding ordersThen Part
-    last k c N = go (eqb (c .fault) 0) refl (distinctIn t) refl
+    -- Part 11: every table of a record for each party has it.
+    seated : (k : ℕ) (c : Checked) → From 10 k c → From 11 k c
+    unfolding Part
+    seated k c N = record { all = λ e j a l. by j (ℕ-discrete j 11) a l (N .all e j a); broken = N .broken; before = N .before }
       where
-        seats : (j : ℕ) → j ≡ 11 → Part j s t
-        seats j e = subst (λ (n : ℕ). Part n s t) (sym e) (T .seats)
+        by : (j : ℕ) → Dec (j ≡ 11) → k ≤ j → j ≤ 11 → (j ≤ 10 → Part j s t) → Part j s t
+        by j (yes h) a l f = subst (λ (n : ℕ). Part n s t) (sym h) (T .seats)
+        by j (no n) a l f = f (omega (arith, l, n))
 
-        -- up to 11,
-        first : c .fault ≡ 0 → (j : ℕ) → k ≤ j → j ≤ 11 → Part j s t
-        first e j a l = by (ℕ-discrete j 11)
-          where
-            by : Dec (j ≡ 11) → Part j s t
-            by (yes h) = seats j h
-            by (no n) = N .all e j a (omega (arith, l, n))
+    -- Behind the parts up to 10: 11, 12 and 13.
+    last : (k : ℕ) (c : Checked) → From 10 k c → From 13 k (nextPart 13 (marksOk t) (nextPart 12 (distinctIn t) c))
+    unfolding Part
+    last k c N = behind k (marksOk t) (nextPart 12 (distinctIn t) c) (marks-pass s t (T .seats)) (behind k (distinctIn t) c (orders-pass s t (T .seats)) (seated k c N))
 
-        -- and 12
-        whole : distinctIn t ≡ true → c .fault ≡ 0 → (j : ℕ) → k ≤ j → j ≤ 12 → Part j s t
-        whole d e j a l = by (ℕ-discrete j 12)
-          where
-            by : Dec (j ≡ 12) → Part j s t
-            by (yes h) = subst (λ (n : ℕ). Part n s t) (sym h) (orders-pass s t (T .seats) .0 d)
-            by (no n) = first e j a (omega (arith, l, n))
-
-        go : (b : Bool) → eqb (c .fault) 0 ≡ b → (d : Bool) → distinctIn t ≡ d → From 12 k (cond b (cond d c (failed 12)) c)
-        go true e true d = record { all = whole d; broken = N .broken; before = N .before }
-        go true e false d = record {
-          all = λ z. absurd (omega (arith, z));
-          broken = λ n h. false≢true (sym d ∙ orders-pass s t (T .seats) .1 h);
-          before = λ j a l. first (eqb-true (c .fault) 0 e) j a (omega (arith, l));
-        }
-        go false e b d = record { all = λ z. absurd (eqb-false (c .fault) 0 e z); broken = N .broken; before = N .before }
-
-    names : From 12 1 (firstFault s t)
+    names : From 13 1 (firstFault s t)
     unfolding firstFault faultIn afterTree partiesThen afterParties undosThen afterUndos groupsThen afterGroups finishOf ending Part
     names =
         then 1 (λ z. omega (arith, z)) (sizesOk s) _ (sizes-found s, sizes-pass s) (λ Z. last 2 _ (
@@ -121,6 +124,7 @@ module _ (s : List ℕ) (t : List Session) where
           all-reached = f 10 (omega arith) (omega arith);
           seats = T .seats;
           orders = f 12 (omega arith) (omega arith);
+          marks = f 13 (omega arith) (omega arith);
         }
 
     -- Another number: that part is broken,

@@ -11,7 +11,7 @@ use Rattle.words.specs.Store.{wordOf}
 use Rattle.words.specs.Header.{headerWord, heightPlace, firstPlace, freePlace}
 use Rattle.sessions.specs.declared.Session.{Session}
 use Rattle.sessions.specs.Sessions.{session-at, parties}
-use Rattle.sound.specs.Faults.{sizes-fault, entries-fault, zero-fault, tree-fault, requests-fault, latches-fault, undos-fault, groups-fault, free-fault, unreached-fault, orders-fault}
+use Rattle.sound.specs.Faults.{sizes-fault, entries-fault, zero-fault, tree-fault, requests-fault, latches-fault, undos-fault, groups-fault, free-fault, unreached-fault, orders-fault, asked-fault}
 use Rattle.machine.specs.Holders.{width}
 use Rattle.machine.specs.Tree.{leaves}
 use Rattle.machine.specs.State.{Desc, top, sessionOf}
@@ -26,6 +26,7 @@ use Rattle.soundness.specs.PartiesPass.{Parties, Latches-match}
 use Rattle.soundness.specs.UndoNeeds.{Secured}
 use Rattle.soundness.specs.GroupsHeld.{GroupsSound}
 use Rattle.soundness.specs.Reach.{tree-records, undo-records, member-records, met}
+use Rattle.soundness.specs.MarksPass.{Marks}
 use Rattle.soundness.specs.OrdersPass.{Orders}
 
 -- A table of a record for each party, of words.
@@ -87,7 +88,7 @@ abbrev pub table-fault : ℕ
 table-fault = 11
 
 -- Part n. `Sizes` stands in SizesPass, `EntriesHeld` in HeldTests, what is asked of each request in hand (`Parties`) in PartyPass.Party, `Latches-match` in PartiesPass,
--- `Orders` in OrdersPass. A number that is no part's asks for nothing.
+-- `Orders` in OrdersPass, `Marks` in MarksPass. A number that is no part's asks for nothing.
 unfoldable pub Part : ℕ → List ℕ → List Session → Type 0
 Part n s t =
     cond (eqb n sizes-fault) (Sizes s)
@@ -101,7 +102,8 @@ Part n s t =
     (cond (eqb n free-fault) (FreeInOrder s t)
     (cond (eqb n unreached-fault) (AllReached s t)
     (cond (eqb n table-fault) (length t ≡ parties)
-    (cond (eqb n orders-fault) (Orders s t) (Unit {0}))))))))))))
+    (cond (eqb n orders-fault) (Orders s t)
+    (cond (eqb n asked-fault) (Marks s t) (Unit {0})))))))))))))
 
 -- All parts,
 pub record Parts (s : List ℕ) (t : List Session) : Type 0 where
@@ -117,6 +119,7 @@ pub record Parts (s : List ℕ) (t : List Session) : Type 0 where
   pub all-reached : AllReached s t
   pub seats : length t ≡ parties
   pub orders : Orders s t
+  pub marks : Marks s t
 
 -- and each of them by its number.
 pub parts-each : (s : List ℕ) (t : List Session) → Parts s t → (n : ℕ) → Part n s t
@@ -131,7 +134,8 @@ parts-each s t P n =
     (pick (eqb n undos-fault) (P .undos)
     (pick (eqb n groups-fault) (P .groups)
     (pick (eqb n free-fault) (P .free)
-    (pick (eqb n unreached-fault) (P .all-reached) (pick (eqb n table-fault) (P .seats) (pick (eqb n orders-fault) (P .orders) tt)))))))))))
+    (pick (eqb n unreached-fault) (P .all-reached)
+    (pick (eqb n table-fault) (P .seats) (pick (eqb n orders-fault) (P .orders) (pick (eqb n asked-fault) (P .marks) tt))))))))))))
   where
     pick : {A B : Type 0} (b : Bool) → A → B → cond b A B
     pick true x y = x

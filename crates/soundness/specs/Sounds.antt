@@ -176,6 +176,7 @@ module _ (s : List ℕ) (t : List Session) (T : Table t) (P : Parts s t) where
         unbegun-undos = unbegun-undos;
         zero-unmarked = zero-meaning s t;
         orders = P .orders;
+        only-asked = P .marks;
         pins-match = P .groups .pins-match;
         latches-match = P .latches;
         placed = requests .placed;

@@ -22,7 +22,7 @@ use Rattle.layout.specs.Places.{session-means}
 module _ (u : ℕ → List Undone) (p : ℕ) (us : List Undone) where
   session-there : (q : ℕ) (x : Session) → ¬ (q ≡ p) → session-in (put-at p us u) q x ≡ session-in u q x
   session-there zero x n = refl
-  session-there (suc q) x n = ap (λ l. record { begun = not (eqb (x .begun) 0); order = x .order; hand = hand-of x; undos = map (λ y. y .undo) l }) (put-there p us u (suc q) n)
+  session-there (suc q) x n = ap (λ l. record { begun = not (eqb (x .begun) 0); order = x .order; hand = hand-of x; undos = map (λ y. y .undo) l; asked = not (eqb (x .asked) 0) }) (put-there p us u (suc q) n)
 
   later-there : (q : ℕ) (t : List Session) → p < q → sessions-in (put-at p us u) q t ≡ sessions-in u q t
   later-there q [] l = refl
@@ -55,9 +55,9 @@ same-on p f g σ e = ap (λ z. with-table (set (σ .table) p z) σ) e
 
 -- Another undo record, and another request in hand.
 pub log-session : (p : ℕ) (b : Undo) (h : Option Request) (σ : State) → p < length (σ .table)
-    → set-hand p h (add-undo p b σ) ≡ on-session p (λ x. record { begun = x .begun; order = x .order; hand = h; undos = b ∷ x .undos }) σ
+    → set-hand p h (add-undo p b σ) ≡ on-session p (λ x. record { begun = x .begun; order = x .order; hand = h; undos = b ∷ x .undos; asked = x .asked }) σ
 unfolding set-hand add-undo
-log-session p b h σ l = on-twice p (λ x. record { begun = x .begun; order = x .order; hand = h; undos = x .undos }) (λ x. record { begun = x .begun; order = x .order; hand = x .hand; undos = b ∷ x .undos }) σ l
+log-session p b h σ l = on-twice p (λ x. record { begun = x .begun; order = x .order; hand = h; undos = x .undos; asked = x .asked }) (λ x. record { begun = x .begun; order = x .order; hand = x .hand; undos = b ∷ x .undos; asked = x .asked }) σ l
 
 many-sessions : (u : ℕ → List Undone) (q : ℕ) (t : List Session) → length (sessions-in u q t) ≡ length t
 many-sessions u q [] = refl
@@ -77,11 +77,11 @@ log-means L t (suc k) a f E x′ least seat b free =
     let us = a ∷ L .undos p in
     let σ = with-free (length f) (with-entries E (means L t)) in
     let n : length f ≡ means L t .free - 1 = unfold means in (omega (arith, free)) in
-    let new : session-in (put-at p us (L .undos)) p x′ ≡ record { begun = session-in (L .undos) p (session-at t p) .begun; order = session-in (L .undos) p (session-at t p) .order; hand = hand-of x′; undos = a .undo ∷ session-in (L .undos) p (session-at t p) .undos } =
-    ap₂ (λ (m : ℕ × ℕ) l. record { begun = not (eqb (m .0) 0); order = m .1; hand = hand-of x′; undos = map (λ y. y .undo) l }) b (put-here p us (L .undos)) in
+    let new : session-in (put-at p us (L .undos)) p x′ ≡ record { begun = session-in (L .undos) p (session-at t p) .begun; order = session-in (L .undos) p (session-at t p) .order; hand = hand-of x′; undos = a .undo ∷ session-in (L .undos) p (session-at t p) .undos; asked = session-in (L .undos) p (session-at t p) .asked } =
+    ap₂ (λ (m : ℕ × ℕ × ℕ) l. record { begun = not (eqb (m .0) 0); order = m .1; hand = hand-of x′; undos = map (λ y. y .undo) l; asked = not (eqb (m .2) 0) }) b (put-here p us (L .undos)) in
     let old : sessionOf p σ ≡ session-in (L .undos) p (session-at t p) = unfold sessionOf in (session-means L t p seat) in
-    let table = same-on p (λ _. session-in (put-at p us (L .undos)) p x′) (λ y. record { begun = y .begun; order = y .order; hand = hand-of x′; undos = a .undo ∷ y .undos }) σ
-    (new ∙ ap (λ y. record { begun = y .begun; order = y .order; hand = hand-of x′; undos = a .undo ∷ y .undos }) (sym old)) in
+    let table = same-on p (λ _. session-in (put-at p us (L .undos)) p x′) (λ y. record { begun = y .begun; order = y .order; hand = hand-of x′; undos = a .undo ∷ y .undos; asked = y .asked }) σ
+    (new ∙ ap (λ y. record { begun = y .begun; order = y .order; hand = hand-of x′; undos = a .undo ∷ y .undos; asked = y .asked }) (sym old)) in
     means-log L t p us f E x′
     ∙ table
     ∙ sym (log-session p (a .undo) (hand-of x′) σ (omega (arith, many-means L t, seat)))

@@ -82,6 +82,7 @@ toFirst x =
       last = x .last;
       undo = x .undo;
       order = x .order;
+      asked = x .asked;
     }
 
 unfoldable pub entryDone : List ℕ → ℕ → Session → Stepped

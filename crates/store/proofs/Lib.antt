@@ -7,4 +7,5 @@ pub mod Listing
 pub mod Listings
 pub mod Plains
 pub mod Saving
+pub mod Sweeping
 pub mod Thin

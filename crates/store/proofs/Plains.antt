@@ -1,4 +1,4 @@
--- The types of plain data that a thin function takes beside the store and the table, each with its laws: a u32, an `Ask`, a `Go`, a `Wish` and a `DayAsk`.
+-- The types of plain data that a thin function takes beside the store and the table, each with its laws: a u32, a `PutArgs`, a `Go`, a `Wish` and a `DayAsk`.
 use mir.Syntax.{Ty, w32, tyInt}
 use mir.Val.{vint}
 use denote.RattleType.{RattleType}
@@ -6,8 +6,8 @@ use denote.Builtin.{u32}
 use denote.Plain.{uint-tells, uint-lawful, uint-makes}
 use denote.Struct.Laws as LL
 use Rattle.store.proofs.Thin.{PlainLaws}
-use Rattle.store.proofs.Ask as Ak
-use Rattle.store.proofs.Ask.Laws as Ak′
+use Rattle.store.proofs.PutArgs as Ak
+use Rattle.store.proofs.PutArgs.Laws as Ak′
 use Rattle.store.proofs.DayAsk as DayAsk
 use Rattle.store.proofs.DayAsk.Laws as DayAsk′
 use Rattle.store.proofs.Go as Go

@@ -1,4 +1,4 @@
--- What the six calls promise over a lent table: a table that is not of 17 records is refused, and nothing is changed; else what the call by value promises.
+-- What the eight calls promise over a lent table: a table that is not of 17 records is refused, and nothing is changed; else what the call by value promises.
 use mathlib.Core.Path.{_≡_}
 use mathlib.Core.List.{List, []}
 use Prim.Native.Nat.{ℕ}
@@ -10,7 +10,7 @@ use Rattle.outcomes.specs.declared.Answer.{Answer}
 use Rattle.outcomes.specs.declared.Answer.the-variants.{Refused}
 use Rattle.outcomes.specs.Said.{said}
 use Rattle.promises.specs.Relations.{Calls, Formats}
-use Rattle.store.specs.declared.Ask.{Ask}
+use Rattle.store.specs.declared.PutArgs.{PutArgs}
 
 -- What a call does with its argument: store and table as they were, the argument, the answer, store and table as they are left.
 abbrev pub Effect : Type 0 → Type 1
@@ -22,7 +22,7 @@ Formatted s t m a s′ t′ = Formats m s t (said a) s′ t′
 abbrev pub Begun : Effect ℕ
 Begun s t p a s′ t′ = Calls (C.begin p) s t (said a) [] s′ t′
 
-abbrev pub Put : Effect Ask
+abbrev pub Put : Effect PutArgs
 Put s t k a s′ t′ = Calls (C.put (k .party) (k .code) (k .entry) (k .first) (k .second)) s t (said a) [] s′ t′
 
 abbrev pub Committed : Effect ℕ
@@ -30,6 +30,13 @@ Committed s t p a s′ t′ = Calls (C.commit p) s t (said a) [] s′ t′
 
 abbrev pub Aborted : Effect ℕ
 Aborted s t p a s′ t′ = Calls (C.abort p) s t (said a) [] s′ t′
+
+abbrev pub Asked : Effect ℕ
+Asked s t p a s′ t′ = Calls (C.ask p) s t (said a) [] s′ t′
+
+-- Recover has no argument.
+abbrev pub Recovered : Effect (Unit {0})
+Recovered s t _ a s′ t′ = Calls C.recover s t (said a) [] s′ t′
 
 -- A step has a lent list too.
 abbrev pub Stepped : List ℕ → List Session → List ℕ → ℕ → Answer → List ℕ → List Session → List ℕ → Type 0

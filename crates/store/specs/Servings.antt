@@ -1,4 +1,4 @@
--- Lists of calls with runs, requests, batches and day calls among them: what each return of the ten functions says, that any list of them is a list of ordinary
+-- Lists of calls with runs, requests, batches and day calls among them: what each return of the twelve functions says, that any list of them is a list of ordinary
 -- calls which tells what the host sees, and so demand 3.
 use mathlib.Core.Path.{_≡_, refl, sym, ap, subst, _∙_}
 use mathlib.Core.Bool.{Bool, true, false, cond}
@@ -13,10 +13,11 @@ use lib.ListN.{length, replicate}
 use Rattle.sessions.specs.declared.Session.{Session}
 use Rattle.sessions.specs.Sessions.{parties}
 use Rattle.serial.specs.Model.{both}
-use Rattle.serial.specs.Locks.{Kind, Mode}
+use Rattle.serial.specs.Locks.{Kind, Mode, lock-rule}
 use Rattle.serial.specs.Calls.{Turn, Told, nothing, told, Run, stop, next, Demand-3}
 use Rattle.serial.specs.Calls as C
 use Rattle.serial.specs.Line.{line}
+use Rattle.serial.specs.Recovery.{AskedSince, asked-since, run-knows}
 use Rattle.machine.specs.State.{fresh}
 use Rattle.machine.specs.Calls.{records-for}
 use Rattle.machine.specs.Ledger.{no-locks, ledger-after}
@@ -30,7 +31,7 @@ use Rattle.promises.specs.Demand1.{demand-1, calls-not-1}
 use Rattle.promises.specs.Demands.{Lending, words}
 use Rattle.promises.specs.Holding.{holders-in, holders-run}
 use Rattle.promises.specs.Line.{InLine, run-sound, words-line}
-use Rattle.promises.specs.Words.{formatted-calls}
+use Rattle.promises.specs.Words.{words-meet, formatted-known, formatted-calls}
 use Rattle.promises.specs.Runs.{lending, calling, put-turn, step-turn, steps}
 use Rattle.promises.specs.Runs as R
 use Rattle.asking.specs.declared.Asking.the-variants as K
@@ -163,7 +164,7 @@ loan-away a (inr e) = subst TurnedAway (sym e) refl
 away-alike : (k : Turn) → TurnedAway (k .answer) → Alike [] (k ∷ [])
 away-alike k v = record {
   tells = λ h. sym (away-quiet (k .call) (k .answer) (k .list) v h);
-  lines = λ l. sym (away-line k v l);
+  lines = λ h l. sym (away-line k v h l);
   writes = λ h d. sym (away-unwritten (k .call) (k .answer) (k .list) v h d);
 }
 
@@ -241,7 +242,7 @@ returneds-run S (wrong {x} {y} {z} {u} {u′} {js} {ls} c a b r) =
     let v = returneds-run (subst Sound-lent (sym i) S) r in
     (v .0, subst (λ p. Run words p (v .0) z) i (v .1), alike-append (away-told c) (v .2))
 
--- So after an accepted format any list of the ten keeps demand 3.
+-- So after an accepted format any list of the twelve keeps demand 3.
 pub returneds-demand-3 : (m : ℕ) (a : Answer) (x x′ : Lending) → OnTable Formatted (x .store) (x .table) m a (x′ .store) (x′ .table) → said a ≡ C.ok
     → (js : List Turn) (y : Lending) → Returneds x′ js y → Demand-3 words (told nothing js) y
 returneds-demand-3 m a x x′ h e js y r =
@@ -262,8 +263,17 @@ returneds-holders m a x x′ h e js y r =
 -- And by what the host sees alone the begun sessions stand in their line: a record is begun exactly if its session stands in it, and the lower number stands
 -- earlier.
 pub returneds-line : (m : ℕ) (a : Answer) (x x′ : Lending) → OnTable Formatted (x .store) (x .table) m a (x′ .store) (x′ .table) → said a ≡ C.ok
-    → (js : List Turn) (y : Lending) → Returneds x′ js y → InLine (line [] js) (y .table)
+    → (js : List Turn) (y : Lending) → Returneds x′ js y → InLine (line nothing [] js) (y .table)
 returneds-line m a x x′ h e js y r =
     let F = accepted-format m a x x′ h e in
     let q = returneds-run (F .accepts refl .0) r in
-    subst (λ l. InLine l (y .table)) (q .2 .lines []) (words-line m (x .store) (x′ .store) (x .table) (x′ .table) F (q .0) y (q .1))
+    subst (λ l. InLine l (y .table)) (q .2 .lines nothing []) (words-line m (x .store) (x′ .store) (x .table) (x′ .table) F (q .0) y (q .1))
+
+-- And after an accepted ask of session p, until the host sees an accepted commit or abort of p or a format, a commit of p is accepted.
+pub returneds-ask : (m : ℕ) (a : Answer) (x x′ : Lending) → OnTable Formatted (x .store) (x .table) m a (x′ .store) (x′ .table) → said a ≡ C.ok
+    → (js : List Turn) (y z : Lending) (p : ℕ) (j : Turn) → Returneds x′ js y → AskedSince p js → j .call ≡ C.commit p → Lends y j z → j .answer ≡ C.ok
+returneds-ask m a x x′ h e js y z p j r A c d =
+    let F = accepted-format m a x x′ h e in
+    let q = returneds-run (F .accepts refl .0) r in
+    let w = run-knows lock-rule words words-meet nothing (q .1) (formatted-known m (x .store) (x′ .store) (x .table) (x′ .table) F) in
+    words-meet .commit-ok p j y z c (lends-return (sound-long y (w .sound)) d) (w .sound) (w .asked-told p ∙ ap (λ t. t .asked p) (q .2 .tells nothing) ∙ asked-since p js nothing A)

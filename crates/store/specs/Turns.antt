@@ -1,4 +1,4 @@
--- Demand 3 over the six functions of this crate: any list of their returns, each as its contract says, after a format that was accepted.
+-- Demand 3 over the eight functions of this crate: any list of their returns, each as its contract says, after a format that was accepted.
 use mathlib.Core.Path.{_≡_, refl, sym, ap, subst, _∙_}
 use mathlib.Core.Bool.{true, false, cond, not}
 use mathlib.Core.List.{List, [], _∷_, _++_, List-discrete}
@@ -27,22 +27,24 @@ use Rattle.promises.specs.Demands.{Lending, Returns, words}
 use Rattle.promises.specs.Promised.{calls-return, formats-return}
 use Rattle.promises.specs.Runs.{lending}
 use Rattle.promises.specs.Words.{formatted-calls}
-use Rattle.store.specs.declared.Ask.{Ask}
-use Rattle.store.specs.Lent.{Formatted, Begun, Put, Committed, Aborted, OnTable, SteppedOnTable}
+use Rattle.store.specs.declared.PutArgs.{PutArgs}
+use Rattle.store.specs.Lent.{Formatted, Begun, Put, Committed, Aborted, Asked, Recovered, OnTable, SteppedOnTable}
 
 -- A call, its answer as document 01 says it, and the words of the lent list when it returned.
 abbrev pub turn : C.Call → Answer → List ℕ → Turn
 turn c a l = record { call = c; answer = said a; list = l }
 
--- One return of one of the six functions: what its contract says of store, table and list as they were lent and as they were left. Only step has a list.
+-- One return of one of the eight functions: what its contract says of store, table and list as they were lent and as they were left. Only step has a list.
 pub data Lends : Lending → Turn → Lending → Type 0 where
   formats : {x y : Lending} {m : ℕ} {a : Answer} → OnTable Formatted (x .store) (x .table) m a (y .store) (y .table) → Lends x (turn (C.format m) a []) y
   begins : {x y : Lending} {p : ℕ} {a : Answer} → OnTable Begun (x .store) (x .table) p a (y .store) (y .table) → Lends x (turn (C.begin p) a []) y
-  puts : {x y : Lending} {k : Ask} {a : Answer} → OnTable Put (x .store) (x .table) k a (y .store) (y .table)
+  puts : {x y : Lending} {k : PutArgs} {a : Answer} → OnTable Put (x .store) (x .table) k a (y .store) (y .table)
       → Lends x (turn (C.put (k .party) (k .code) (k .entry) (k .first) (k .second)) a []) y
   steps : {x y : Lending} {p : ℕ} {l l′ : List ℕ} {a : Answer} → SteppedOnTable (x .store) (x .table) l p a (y .store) (y .table) l′ → Lends x (turn (C.step p l) a l′) y
   commits : {x y : Lending} {p : ℕ} {a : Answer} → OnTable Committed (x .store) (x .table) p a (y .store) (y .table) → Lends x (turn (C.commit p) a []) y
   aborts : {x y : Lending} {p : ℕ} {a : Answer} → OnTable Aborted (x .store) (x .table) p a (y .store) (y .table) → Lends x (turn (C.abort p) a []) y
+  asks : {x y : Lending} {p : ℕ} {a : Answer} → OnTable Asked (x .store) (x .table) p a (y .store) (y .table) → Lends x (turn (C.ask p) a []) y
+  recovers : {x y : Lending} {a : Answer} → OnTable Recovered (x .store) (x .table) tt a (y .store) (y .table) → Lends x (turn C.recover a []) y
 
 -- On a table of 17 records it is a turn of the machine of words (promises, specs/Demands).
 pub lends-return : {x y : Lending} {k : Turn} → length (x .table) ≡ parties → Lends x k y → Returns x k y
@@ -52,6 +54,8 @@ lends-return n (puts {x} {y} {k} {a} h) = calls-return (C.put (k .party) (k .cod
 lends-return n (steps {x} {y} {p} {l} {l′} {a} h) = calls-return (C.step p l) (x .store) (x .table) (said a) l′ (y .store) (y .table) (h .0 n)
 lends-return n (commits {x} {y} {p} {a} h) = calls-return (C.commit p) (x .store) (x .table) (said a) [] (y .store) (y .table) (h .0 n)
 lends-return n (aborts {x} {y} {p} {a} h) = calls-return (C.abort p) (x .store) (x .table) (said a) [] (y .store) (y .table) (h .0 n)
+lends-return n (asks {x} {y} {p} {a} h) = calls-return (C.ask p) (x .store) (x .table) (said a) [] (y .store) (y .table) (h .0 n)
+lends-return n (recovers {x} {y} {a} h) = calls-return C.recover (x .store) (x .table) (said a) [] (y .store) (y .table) (h .0 n)
 
 abbrev pub Sound-lent : Lending → Type 0
 Sound-lent x = Sound (x .store) (x .table)
@@ -73,10 +77,12 @@ refused-1 (puts {x} {y} {k} {a} h) =
 refused-1 (steps {x} {y} {p} {l} {l′} {a} h) = ((λ e n. calls-not-1 (C.step p l) (x .store) (x .table) (said a) l′ (y .store) (y .table) (h .0 n) 0 e), λ z. ap said (h .1 z .0))
 refused-1 (commits {x} {y} {p} {a} h) = ((λ e n. calls-not-1 (C.commit p) (x .store) (x .table) (said a) [] (y .store) (y .table) (h .0 n) 0 e), λ z. ap said (h .1 z .0))
 refused-1 (aborts {x} {y} {p} {a} h) = ((λ e n. calls-not-1 (C.abort p) (x .store) (x .table) (said a) [] (y .store) (y .table) (h .0 n) 0 e), λ z. ap said (h .1 z .0))
+refused-1 (asks {x} {y} {p} {a} h) = ((λ e n. calls-not-1 (C.ask p) (x .store) (x .table) (said a) [] (y .store) (y .table) (h .0 n) 0 e), λ z. ap said (h .1 z .0))
+refused-1 (recovers {x} {y} {a} h) = ((λ e n. calls-not-1 C.recover (x .store) (x .table) (said a) [] (y .store) (y .table) (h .0 n) 0 e), λ z. ap said (h .1 z .0))
 
--- The six functions as a machine, each as its contract says.
+-- The eight functions as a machine, each as its contract says.
 abbrev pub functions : Machine
-functions = record { X = Lending; Sound = Sound-lent; meaning = words .meaning; hand = words .hand; Does = Lends }
+functions = record { X = Lending; Sound = Sound-lent; meaning = words .meaning; hand = words .hand; marked = words .marked; Does = Lends }
 
 pub functions-sound : {x z : Lending} {ks : List Turn} → Sound-lent x → Run functions x ks z → Sound-lent z
 functions-sound S stop = S
@@ -142,6 +148,8 @@ quiet (C.put p c i f g) n e t = refl
 quiet (C.step p l) n e t = ap (λ b. cond b (C.take-in-hand p none t) t) e
 quiet (C.commit p) n e t = refl
 quiet (C.abort p) n e t = refl
+quiet (C.ask p) n e t = refl
+quiet C.recover n e t = refl
 
 pub away-quiet : (c : C.Call) (a : C.Answer) (l : List ℕ) → TurnedAway a → (t : Told) → C.tell-answer c a l t ≡ t
 away-quiet c C.ok l v t = absurd v
@@ -158,10 +166,10 @@ away-unwritten c (C.wait p) l v t d = absurd v
 away-unwritten c (C.done ns) l v t d = absurd v
 away-unwritten c (C.refused n k) l v t d = refl
 
-pub away-line : (k : Turn) → TurnedAway (k .answer) → (l : List ℕ) → in-line l k ≡ l
-away-line k v l = go (k .answer) v
+pub away-line : (k : Turn) → TurnedAway (k .answer) → (t : Told) (l : List ℕ) → in-line t l k ≡ l
+away-line k v t l = go (k .answer) v
   where
-    go : (a : C.Answer) → TurnedAway a → line-answer (k .call) a l ≡ l
+    go : (a : C.Answer) → TurnedAway a → line-answer t (k .call) a l ≡ l
     go C.ok w = absurd w
     go C.more w = absurd w
     go (C.wait p) w = absurd w
@@ -180,7 +188,7 @@ abbrev pub Same : Lending → Lending → Type 0
 Same x y = (y .store ≡ x .store) × (y .table ≡ x .table)
 
 numbers-of : Session → List ℕ
-numbers-of s = s .begun ∷ s .code ∷ s .entry ∷ s .first ∷ s .second ∷ s .stage ∷ s .target ∷ s .at ∷ s .level ∷ s .low ∷ s .high ∷ s .last ∷ s .undo ∷ s .order ∷ []
+numbers-of s = s .begun ∷ s .code ∷ s .entry ∷ s .first ∷ s .second ∷ s .stage ∷ s .target ∷ s .at ∷ s .level ∷ s .low ∷ s .high ∷ s .last ∷ s .undo ∷ s .order ∷ s .asked ∷ []
 
 same-session : (s u : Session) → Dec (s ≡ u)
 unfolding numbers-of
@@ -203,6 +211,7 @@ same-session s u = go (List-discrete ℕ-discrete (numbers-of s) (numbers-of u))
           last = getD l 11 0;
           undo = getD l 12 0;
           order = getD l 13 0;
+          asked = getD l 14 0;
         }
 
     go : Dec (numbers-of s ≡ numbers-of u) → Dec (s ≡ u)
@@ -231,6 +240,8 @@ away-same v (puts {x} {y} {k} {a} h) =
 away-same v (steps {x} {y} {p} {l} {l′} {a} h) = same-either {D = length (x .table) ≡ parties} (λ n. calls-stay (C.step p l) x (said a) l′ y v (h .0 n)) (λ z. (h .1 z .1, h .1 z .2))
 away-same v (commits {x} {y} {p} {a} h) = same-either {D = length (x .table) ≡ parties} (λ n. calls-stay (C.commit p) x (said a) [] y v (h .0 n)) (λ z. (h .1 z .1, h .1 z .2))
 away-same v (aborts {x} {y} {p} {a} h) = same-either {D = length (x .table) ≡ parties} (λ n. calls-stay (C.abort p) x (said a) [] y v (h .0 n)) (λ z. (h .1 z .1, h .1 z .2))
+away-same v (asks {x} {y} {p} {a} h) = same-either {D = length (x .table) ≡ parties} (λ n. calls-stay (C.ask p) x (said a) [] y v (h .0 n)) (λ z. (h .1 z .1, h .1 z .2))
+away-same v (recovers {x} {y} {a} h) = same-either {D = length (x .table) ≡ parties} (λ n. calls-stay C.recover x (said a) [] y v (h .0 n)) (λ z. (h .1 z .1, h .1 z .2))
 
 -- ---- lists of calls
 
@@ -257,7 +268,7 @@ own over = []
 own (then {k = k} d r) = k ∷ own r
 own (wrong v d a b r) = own r
 
--- They are a run of the six functions, and tell what all the calls tell.
+-- They are a run of the eight functions, and tell what all the calls tell.
 pub own-run : {x z : Lending} {ks : List Turn} (r : Lendings x ks z) → Run functions x (own r) z
 own-run over = stop
 own-run (then d r) = next d (own-run r)
@@ -268,15 +279,16 @@ own-told over t = refl
 own-told (then {k = k} d r) t = own-told r (tell k t)
 own-told (wrong {k = k} {ks = ks} v d a b r) t = own-told r t ∙ sym (ap (λ w. told w ks) (away-quiet (k .call) (k .answer) (k .list) v t))
 
-pub own-line : {x z : Lending} {ks : List Turn} (r : Lendings x ks z) (l : List ℕ) → line l (own r) ≡ line l ks
-own-line over l = refl
-own-line (then {k = k} d r) l = own-line r (in-line l k)
-own-line (wrong {k = k} {ks = ks} v d a b r) l = own-line r l ∙ sym (ap (λ w. line w ks) (away-line k v l))
+pub own-line : {x z : Lending} {ks : List Turn} (r : Lendings x ks z) (t : Told) (l : List ℕ) → line t l (own r) ≡ line t l ks
+own-line over t l = refl
+own-line (then {k = k} d r) t l = own-line r (tell k t) (in-line t l k)
+own-line (wrong {k = k} {ks = ks} v d a b r) t l =
+    own-line r t l ∙ sym (ap (λ w. line w (in-line t l k) ks) (away-quiet (k .call) (k .answer) (k .list) v t) ∙ ap (λ w. line t w ks) (away-line k v t l))
 
 pub lendings-sound : {x z : Lending} {ks : List Turn} → Sound-lent x → Lendings x ks z → Sound-lent z
 lendings-sound S r = functions-sound S (own-run r)
 
--- A run of the six functions is such a list.
+-- A run of the eight functions is such a list.
 pub run-lendings : {x z : Lending} {ks : List Turn} → Run functions x ks z → Lendings x ks z
 run-lendings stop = over
 run-lendings (next d r) = then d (run-lendings r)
@@ -291,6 +303,8 @@ Looks (C.put p c e f g) = Unit {0}
 Looks (C.step p l) = Unit {0}
 Looks (C.commit p) = Unit {0}
 Looks (C.abort p) = Unit {0}
+Looks (C.ask p) = Unit {0}
+Looks C.recover = Unit {0}
 
 module _ (u : Lending) (n : ¬ Sound-lent u) where
   unsound-call : (c : C.Call) → Calls c (u .store) (u .table) (C.refused 2 0) (list-of c) (u .store) (u .table)
@@ -304,6 +318,8 @@ module _ (u : Lending) (n : ¬ Sound-lent u) where
   unsound-lends (C.step p l) w e = steps {a = Refused 2 0} (λ _. unsound-call (C.step p l), λ z. absurd (z e))
   unsound-lends (C.commit p) w e = commits {a = Refused 2 0} (λ _. unsound-call (C.commit p), λ z. absurd (z e))
   unsound-lends (C.abort p) w e = aborts {a = Refused 2 0} (λ _. unsound-call (C.abort p), λ z. absurd (z e))
+  unsound-lends (C.ask p) w e = asks {a = Refused 2 0} (λ _. unsound-call (C.ask p), λ z. absurd (z e))
+  unsound-lends C.recover w e = recovers {a = Refused 2 0} (λ _. unsound-call C.recover, λ z. absurd (z e))
 
 -- Between any two calls a slice of the store, not sound by itself, can be lent with the table: it is refused 2, and the list goes on.
 pub slice-refused : (c : C.Call) → Looks c → {x z : Lending} {ks : List Turn} (before part behind : List ℕ) → x .store ≡ before ++ part ++ behind → ¬ Sound part (x .table)
@@ -320,6 +336,8 @@ misfit-lends u n (C.put p c i f g) = puts {k = record { party = p; code = c; ent
 misfit-lends u n (C.step p l) = steps {a = Refused 1 0} ((λ e. absurd (n e)), λ _. (refl, refl, refl, refl))
 misfit-lends u n (C.commit p) = commits {a = Refused 1 0} ((λ e. absurd (n e)), λ _. (refl, refl, refl))
 misfit-lends u n (C.abort p) = aborts {a = Refused 1 0} ((λ e. absurd (n e)), λ _. (refl, refl, refl))
+misfit-lends u n (C.ask p) = asks {a = Refused 1 0} ((λ e. absurd (n e)), λ _. (refl, refl, refl))
+misfit-lends u n C.recover = recovers {a = Refused 1 0} ((λ e. absurd (n e)), λ _. (refl, refl, refl))
 
 pub table-refused : (c : C.Call) {x z : Lending} {ks : List Turn} (t : List Session) → ¬ (length t ≡ parties) → Lendings x ks z → Lendings x (turn c (Refused 1 0) (list-of c) ∷ ks) z
 table-refused c {x} t n r =

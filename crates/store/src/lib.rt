@@ -1,15 +1,15 @@
-// Store: the six calls over a lent store, a lent session table and, for step, a lent list; a run, a request and a batch, which are several calls at once; and
+// Store: the eight calls over a lent store, a lent session table and, for step, a lent list; a run, a request and a batch, which are several calls at once; and
 // a call of a card's day, whose bytes are lent too.
 //
 // Each refuses a table that is not of 17 records (refusal 1), and then changes nothing. Else it loads the records, as the test of soundness reads them all,
-// and makes the call on them by value. Of the table that the call gives back put, step, commit and abort store ONE record, their party's: the call leaves
-// the others as they were (specs/OneRecord), and so do a run and a request (specs/Stints) and a day call (specs/Days). Format, begin and a batch store all
-// 17. Each promises what the call by value promises, over words, table and list at entry and at exit (specs/Lent, specs/Listed, specs/Batched, specs/Days);
+// and makes the call on them by value. Of the table that the call gives back put, step, commit, abort and ask store ONE record, their party's: the call
+// leaves the others as they were (specs/OneRecord), and so do a run and a request (specs/Stints) and a day call (specs/Days). Format, begin, recover and a
+// batch store all 17. Each promises what the call by value promises, over words, table and list at entry and at exit (specs/Lent, specs/Listed, specs/Batched, specs/Days);
 // so any list of calls after an accepted format keeps demand 3 (specs/Turns, specs/Demand3, specs/Servings), has the holders that its calls were granted and
 // the order of their begins (specs/Holding), its journal is accepted (specs/Journal), and every list of calls has a run. Nothing is asked of the caller. It
 // rests on tables for the lent table, on calls for the calls by value, on seats for what is kept of them.
 ghost use mathlib.Core.Path.{_≡_};
-ghost use Rattle.store.specs.Lent.{Formatted, Begun, Put, Stepped, Committed, Aborted, OnTable, SteppedOnTable};
+ghost use Rattle.store.specs.Lent.{Formatted, Begun, Put, Stepped, Committed, Aborted, Asked, Recovered, OnTable, SteppedOnTable};
 ghost use Rattle.store.specs.Listed.{RanBy, AskedBy, ListedOnTable};
 ghost use Rattle.store.specs.Batched.{Batched, BatchedOnTable};
 ghost use Rattle.store.specs.Days.{DayBy, DayOnTable, day-seated};
@@ -26,7 +26,7 @@ use sessions::PARTIES;
 use sessions::Session;
 
 // The arguments of a put.
-pub struct Ask {
+pub struct PutArgs {
     pub party: u32,
     pub code: u32,
     pub entry: u32,
@@ -70,7 +70,7 @@ fn begin_by_value(store: &mut [u32], t: [Session; PARTIES], p: u32) -> Served
 
 // ---- the calls by value, of whose table only the record of the call's party is kept
 
-fn put_by_value(store: &mut [u32], t: [Session; PARTIES], k: Ask) -> Seat
+fn put_by_value(store: &mut [u32], t: [Session; PARTIES], k: PutArgs) -> Seat
     ensures { λ r. ⌜ Put (now (store .entry)) t k (r .answer) (now (store .exit)) (seated t r) ⌝ }
 {
     let served = calls::put(store, t, k.party, k.code, k.entry, k.first, k.second);
@@ -95,6 +95,13 @@ fn abort_by_value(store: &mut [u32], t: [Session; PARTIES], p: u32) -> Seat
     ensures { λ r. ⌜ Aborted (now (store .entry)) t p (r .answer) (now (store .exit)) (seated t r) ⌝ }
 {
     let served = calls::abort(store, t, p);
+    seats::seat_of(served, p)
+}
+
+fn ask_by_value(store: &mut [u32], t: [Session; PARTIES], p: u32) -> Seat
+    ensures { λ r. ⌜ Asked (now (store .entry)) t p (r .answer) (now (store .exit)) (seated t r) ⌝ }
+{
+    let served = calls::ask(store, t, p);
     seats::seat_of(served, p)
 }
 
@@ -138,7 +145,7 @@ fn day_by_value(store: &mut [u32], bytes: &[u8], t: [Session; PARTIES], k: DayAs
     seats::day_seat_of(served, k.party)
 }
 
-// ---- the six calls
+// ---- the eight calls
 
 // An empty store with m entries, and a table with no session begun.
 pub fn format(store: &mut [u32], table: &mut [Session], m: u32) -> Answer
@@ -169,7 +176,7 @@ pub fn begin(store: &mut [u32], table: &mut [Session], p: u32) -> Answer
 }
 
 // A party's request: it is in hand until a step answers done.
-pub fn put(store: &mut [u32], table: &mut [Session], k: Ask) -> Answer
+pub fn put(store: &mut [u32], table: &mut [Session], k: PutArgs) -> Answer
     ensures { λ r. ⌜ OnTable Put (now (store .entry)) (now (table .entry)) k r (now (store .exit)) (now (table .exit)) ⌝ }
 {
     if table.len() != PARTIES {
@@ -222,6 +229,34 @@ pub fn abort(store: &mut [u32], table: &mut [Session], p: u32) -> Answer
     let x = seat.session;
     tables::store_session(table, seat.party, x);
     seat.answer
+}
+
+// A session is asked: only commit and abort remain to it.
+pub fn ask(store: &mut [u32], table: &mut [Session], p: u32) -> Answer
+    ensures { λ r. ⌜ OnTable Asked (now (store .entry)) (now (table .entry)) p r (now (store .exit)) (now (table .exit)) ⌝ }
+{
+    if table.len() != PARTIES {
+        return seats::wrong_table();
+    }
+    let t = tables::load_all(table);
+    let seat = ask_by_value(store, t, p);
+    let x = seat.session;
+    tables::store_session(table, seat.party, x);
+    seat.answer
+}
+
+// Housekeeping ends, and every begun session that is not asked aborts.
+pub fn recover(store: &mut [u32], table: &mut [Session]) -> Answer
+    ensures { λ r. ⌜ OnTable Recovered (now (store .entry)) (now (table .entry)) tt r (now (store .exit)) (now (table .exit)) ⌝ }
+{
+    if table.len() != PARTIES {
+        return seats::wrong_table();
+    }
+    let t = tables::load_all(table);
+    let served = calls::recover(store, t);
+    let after = served.table;
+    tables::save_all(table, after);
+    served.answer
 }
 
 // ---- several calls at once

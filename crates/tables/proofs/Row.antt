@@ -106,7 +106,7 @@ homes (local τ h ∷ ls) (l ∷ bs) = (τ, l) ∷ homes ls bs
 
 -- a record's size in bytes: the one line to change with the struct's fields
 abbrev pub recordSize : ℕ
-recordSize = 56
+recordSize = 60
 
 pub index-fits : (i n : ℕ) → i < n → Room R n → Fits w64 (i * recordSize)
 index-fits i n l room = record { fits = omega (arith, l, room .1) }

@@ -30,6 +30,7 @@ fn no_table() -> [Session; PARTIES]
         last: 0,
         undo: 0,
         order: 0,
+        asked: 0,
     };
     [x; PARTIES]
 }

@@ -48,6 +48,7 @@ tookKey x k =
       last = k;
       undo = x .undo;
       order = x .order;
+      asked = x .asked;
     }
 
 -- A locate's first key is not 0.

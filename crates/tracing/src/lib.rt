@@ -1,11 +1,11 @@
 // Tracing: scripts of calls as text. A script is read byte by byte; each line that ends is played on a store and told as a line of text.
 //
 // A line is a letter and numbers in base ten: b begin, r w i d l t the six requests in the order of their codes, s one step, g steps until the answer is
-// not more, c commit, a abort; then the party and the arguments that its code uses, in the order entry, first, second. From a # on the rest of a line is a
-// comment. A line that is blank or only a comment is counted and tells nothing; any other line that is not of this form is told as malformed and makes no
-// call. docs/TRACE.md has all of it for whoever writes scripts. What is promised here is that every function is safe and ends; what a call does is promised
-// by `calls`. It rests on `calls`, on `endings` for the table at the start, on `scripts` for the text of a line and of an answer, on `words` for the words
-// of an entry.
+// not more, c commit, a abort, k ask; then the party and the arguments that its code uses, in the order entry, first, second; or v, recover, with no
+// number. From a # on the rest of a line is a comment. A line that is blank or only a comment is counted and tells nothing; any other line that is not of
+// this form is told as malformed and makes no call. docs/TRACE.md has all of it for whoever writes scripts. What is promised here is that every function is
+// safe and ends; what a call does is promised by `calls`. It rests on `calls`, on `endings` for the table at the start, on `scripts` for the text of a line
+// and of an answer, on `words` for the words of an entry.
 pub mod play;
 
 use endings::fresh_session;

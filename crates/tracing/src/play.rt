@@ -31,7 +31,7 @@ fn put(store: &[u32], t: [Session; PARTIES], p: u32, code: u32, n: [u32; NUMBERS
     calls::put(store, t, p, code, n[1], n[2], 0)
 }
 
-// The call of a command. A letter that is none of the others is a request's.
+// The call of a command. A letter that is none of the others is a request's. A recover has no party.
 pub fn served(store: &mut [u32], list: &mut [u32], t: [Session; PARTIES], x: Line) -> Served {
     let n = x.numbers;
     let p = n[0];
@@ -52,13 +52,19 @@ pub fn served(store: &mut [u32], list: &mut [u32], t: [Session; PARTIES], x: Lin
         b'a' => {
             return calls::abort(store, t, p);
         }
+        b'k' => {
+            return calls::ask(store, t, p);
+        }
+        b'v' => {
+            return calls::recover(store, t);
+        }
         _ => {
             return put(store, t, p, code_of(letter), n);
         }
     }
 }
 
-// The line's party has a locate in hand, if it has a request in hand.
+// The line's party has a locate in hand, if it has a request in hand; of a recover party 0's record is looked at, which has none.
 pub fn is_locate(t: [Session; PARTIES], x: Line) -> bool {
     let p = x.numbers[0] as usize;
     if p < PARTIES {

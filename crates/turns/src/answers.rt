@@ -5,6 +5,7 @@ use books::book::BESIDE;
 use books::book::BEYOND;
 use books::book::CALL;
 use books::book::COPIES_ABORTED;
+use books::book::COPIES_RECOVERED;
 use books::book::ENTRIES;
 use books::book::LINES;
 use books::book::LISTED;
@@ -12,13 +13,17 @@ use books::book::MADE;
 use books::book::NAMED;
 use books::book::NUMBER;
 use books::book::RECORDS;
+use books::book::RECOVER;
 use books::book::REFUSED;
+use books::book::REFUSED_ASKED;
 use books::book::TOUCHED;
 use books::book::UNCHANGED;
 use books::book::WORD;
 use books::book::differ;
 use books::book::same;
 use books::call;
+use books::call::Call;
+use books::seats::mark_place;
 use naive_steps::party::Said;
 use schedules::book::Book;
 use schedules::book::LISTS;
@@ -29,8 +34,19 @@ use schedules::side::HEADER_WORDS;
 use schedules::side::RECORD_WORDS;
 use schedules::side::Side;
 use schedules::side::TABLE;
+use schedules::side::are_asked_kept;
 use schedules::side::is_kept;
+use schedules::side::is_kept_but;
 use schedules::words::wide;
+
+// Where refusals by this number are counted.
+fn refused_at(n: u32) -> usize {
+    if n == 21 {
+        REFUSED_ASKED
+    } else {
+        REFUSED + wide(n)
+    }
+}
 
 fn count_answer(b: &mut Book, kind: u32, word: u32, first: u32) {
     count(b, LINES);
@@ -38,7 +54,7 @@ fn count_answer(b: &mut Book, kind: u32, word: u32, first: u32) {
     count(b, ANSWERED + wide(word));
     if word == call::REFUSED {
         if 2 < first {
-            count(b, REFUSED + wide(first));
+            count(b, refused_at(first));
         }
     }
 }
@@ -103,6 +119,29 @@ pub fn see_call(s: &Side, b: &mut Book, kind: u32, x: Said, y: Said) {
     count_answer(b, kind, x.word, x.first);
     see_answer(b, x, y);
     see_words(s, b, x.word, x.first);
+}
+
+// Which words an accepted call kept: an ask changes its session's mark alone, a recover no record of a session that is asked.
+fn is_rest_kept(s: &Side, c: Call) -> bool {
+    let kind = c.kind;
+    match kind {
+        call::ASK => is_kept_but(s, mark_place(c.party)),
+        call::RECOVER => are_asked_kept(s),
+        _ => true,
+    }
+}
+
+// The side has a copy from before a call that was answered by this word.
+pub fn see_rest(s: &Side, b: &mut Book, c: Call, word: u32) {
+    if word == call::OK && !is_rest_kept(s, c) {
+        differ(b, TOUCHED, c.kind, c.party);
+    }
+}
+
+// The recover of a copy said x.
+pub fn see_recover(b: &mut Book, x: Said) {
+    count(b, COPIES_RECOVERED);
+    same(b, RECOVER, x.word, call::OK);
 }
 
 // The abort of a session on a copy said x.

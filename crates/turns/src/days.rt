@@ -117,6 +117,9 @@ fn refusal(a: &Model, b: &Book, c: Call) -> u32 {
     if !naive::begun(a, p) {
         return 5;
     }
+    if naive::asked(a, p) {
+        return 21;
+    }
     if p == 0 {
         return 6;
     }

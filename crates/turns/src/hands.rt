@@ -19,11 +19,14 @@ use schedules::book::put;
 use schedules::book::put_five;
 use schedules::content::WORDS;
 use schedules::content::with_pair;
+use schedules::logs::ASKED;
+use schedules::logs::BEGUN;
 use schedules::logs::FINISHED;
 use schedules::logs::WAITED;
 use schedules::logs::add;
 use schedules::logs::hand;
 use schedules::logs::replay;
+use schedules::side::PARTIES;
 use schedules::words::wide;
 
 // The first pairs of the store's list, so many, as one number. They have to rise.
@@ -82,6 +85,8 @@ fn after_end(b: &mut Book, p: u32, counter: usize, what: u32) {
     same(b, what, wrong, 0);
     put(b, hand(p) + WAITED, 0);
     put(b, hand(p) + FINISHED, 0);
+    put(b, hand(p) + BEGUN, 0);
+    put(b, hand(p) + ASKED, 0);
 }
 
 // Session p is aborted: the content is as it was.
@@ -91,11 +96,29 @@ fn after_abort(b: &mut Book, p: u32) {
     copy(b, SPARE, CONTENT, WORDS);
 }
 
+// A recover aborts session p if it is begun and not asked.
+fn recover_one(b: &mut Book, p: u32) {
+    if get(b, hand(p) + BEGUN) != 0 && get(b, hand(p) + ASKED) == 0 {
+        after_abort(b, p);
+    }
+}
+
+fn after_recover(b: &mut Book) {
+    let mut p = 1;
+    while p < PARTIES {
+        recover_one(b, p);
+        p += 1;
+    }
+}
+
 // A call that was answered by ok.
 fn after_ok(b: &mut Book, c: Call) {
     let kind = c.kind;
     let p = c.party;
     match kind {
+        call::BEGIN => put(b, hand(p) + BEGUN, 1),
+        call::ASK => put(b, hand(p) + ASKED, 1),
+        call::RECOVER => after_recover(b),
         call::PUT => put_five(b, hand(p), [c.code, c.entry, c.first, c.second, 0]),
         call::COMMIT => after_end(b, p, COMMITTED, COMMIT),
         call::ABORT => after_abort(b, p),

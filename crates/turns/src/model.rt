@@ -1,10 +1,12 @@
 // Model: a call made on the second model.
 use books::book::Model;
+use books::call::ASK;
 use books::call::BEGIN;
 use books::call::COMMIT;
 use books::call::Call;
 use books::call::FORMAT;
 use books::call::PUT;
+use books::call::RECOVER;
 use books::call::REFUSED;
 use books::call::STEP;
 use books::call::listed;
@@ -31,6 +33,8 @@ pub fn on_model(a: &mut Model, b: &mut Book, c: Call) -> Said {
         PUT => naive::put(a, p, c.code, c.entry, c.first, c.second),
         STEP => step_model(a, b, p, c.first),
         COMMIT => naive::commit(a, p),
+        ASK => naive::ask(a, p),
+        RECOVER => naive::recover(a),
         _ => naive::abort(a, p),
     }
 }

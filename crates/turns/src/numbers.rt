@@ -1,6 +1,9 @@
-// Numbers: other numbers in the order of begins, as a table that is lent may have them. Those of the begun sessions stay in order.
+// Numbers: other numbers in the order of begins, and other marks of asked sessions, as a table that is lent may have them. The numbers of the begun sessions
+// stay in order.
 use books::book::Model;
 use books::book::SPREAD;
+use books::seats::is_asked;
+use books::seats::mark_place;
 use books::seats::set_order;
 use schedules::book::Book;
 use schedules::book::count;
@@ -8,6 +11,7 @@ use schedules::random::below;
 use schedules::random::random;
 use schedules::side::PARTIES;
 use schedules::side::Side;
+use schedules::side::set_word;
 use std::num::wrapping_add_u32;
 use std::num::wrapping_sub_u32;
 
@@ -29,7 +33,15 @@ fn other_number(a: &Model, b: &mut Book, p: u32, how: u32) -> u32 {
     }
 }
 
-// Gives all parties other numbers, the same in the store's table and in the model.
+// The mark of a session that is asked becomes any word but 0.
+fn spread_mark(s: &mut Side, b: &mut Book, p: u32) {
+    let x = random(b);
+    if is_asked(s, p) && x != 0 {
+        set_word(s, mark_place(p), x);
+    }
+}
+
+// Gives all parties other numbers, the same in the store's table and in the model, and those that are asked another mark.
 pub fn spread(s: &mut Side, a: &mut Model, b: &mut Book) {
     count(b, SPREAD);
     let how = below(b, 4);
@@ -38,6 +50,7 @@ pub fn spread(s: &mut Side, a: &mut Model, b: &mut Book) {
         let x = other_number(a, b, p, how);
         naive::set_order(a, p, x);
         set_order(s, p, x);
+        spread_mark(s, b, p);
         p += 1;
     }
 }

@@ -116,13 +116,14 @@ module _ (n : ℕ) (s : List ℕ) (t : List Session) (L : Lay) (H : Holds s t L)
         last = x .last;
         undo = q z;
         order = x .order;
+        asked = x .asked;
       }
 
   same-table : set t p (with-undo (session-at t p) 0) ≡ t
   same-table = ap (set t p) (same-record (session-at t p) empty) ∙ set-same t p
 
   same-session : (y : M.Session) → y .undos ≡ [] → with-undos [] y ≡ y
-  same-session y e = let q = sym e in λ z. record { begun = y .begun; order = y .order; hand = y .hand; undos = q z }
+  same-session y e = let q = sym e in λ z. record { begun = y .begun; order = y .order; hand = y .hand; undos = q z; asked = y .asked }
 
   no-undos : getD (means L t .table) p idle .undos ≡ []
   unfolding sessionOf

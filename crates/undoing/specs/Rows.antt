@@ -48,6 +48,7 @@ with-undo x v = record {
   last = x .last;
   undo = v;
   order = x .order;
+  asked = x .asked;
 }
 
 -- What a layout names, it names with another undo chain.
@@ -109,7 +110,7 @@ pub record Onward (s : List ℕ) (t : List Session) (L : Lay) (p : ℕ) (u : Und
 module _ (u : ℕ → List Undone) (us : List Undone) where
   session-as : (n p : ℕ) (x : Session) → ¬ (p ≡ n) → session-in (put-at n us u) p x ≡ session-in u p x
   session-as n zero x e = refl
-  session-as n (suc p) x e = ap (λ l. record { begun = not (eqb (x .begun) 0); order = x .order; hand = hand-of x; undos = map (λ y. y .undo) l }) (put-there n us u (suc p) e)
+  session-as n (suc p) x e = ap (λ l. record { begun = not (eqb (x .begun) 0); order = x .order; hand = hand-of x; undos = map (λ y. y .undo) l; asked = not (eqb (x .asked) 0) }) (put-there n us u (suc p) e)
 
   sessions-later : (n q : ℕ) (t : List Session) → n < q → sessions-in (put-at n us u) q t ≡ sessions-in u q t
   sessions-later n q [] l = refl
@@ -126,7 +127,7 @@ module _ (u : ℕ → List Undone) (us : List Undone) where
 
   session-own : (p : ℕ) (x : Session) (v : ℕ) → 1 ≤ p → session-in (put-at p us u) p (with-undo x v) ≡ with-undos (map (λ y. y .undo) us) (session-in u p x)
   session-own zero x v l = absurd (omega (arith, l))
-  session-own (suc p) x v l = ap (λ l. record { begun = not (eqb (x .begun) 0); order = x .order; hand = hand-of x; undos = map (λ y. y .undo) l }) (put-here (suc p) us u)
+  session-own (suc p) x v l = ap (λ l. record { begun = not (eqb (x .begun) 0); order = x .order; hand = hand-of x; undos = map (λ y. y .undo) l; asked = not (eqb (x .asked) 0) }) (put-here (suc p) us u)
 
 pub table-undone : (L : Lay) (t : List Session) (p : ℕ) (us : List Undone) (v : ℕ) → 1 ≤ p → p < length t
     → sessions-in (put-at p us (L .undos)) 0 (set t p (with-undo (session-at t p) v))

@@ -50,6 +50,7 @@ standing-at x i l = record {
   last = x .last;
   undo = x .undo;
   order = x .order;
+  asked = x .asked;
 }
 
 pins-same : (x : Session) (i l : ℕ) → (x .stage ≡ 2) ⊎ (x .stage ≡ 3) → pins-first (standing-at x i l) ≡ true → pins-first x ≡ true

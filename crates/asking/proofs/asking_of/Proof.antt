@@ -1,4 +1,4 @@
-use Rattle.asking.specs.Asks.{kind-1, kind-2, kind-3, kind-4, kind-5, kind-6, kind-7, kind-0, kind-other}
+use Rattle.asking.specs.Asks.{kind-1, kind-2, kind-3, kind-4, kind-5, kind-6, kind-7, kind-8, kind-0, kind-other}
 use borrow.Author.Needs.{needs}
 use Rattle.asking.proofs.asking_of.Statement.{statement}
 use Rattle.asking.proofs.asking_of.Tie as tie
@@ -25,10 +25,13 @@ returns-7 : tie.Need-returns-7
 returns-7 c = kind-7 _ _ _ _ _ _ _ (c .match .keys7)
 
 returns-8 : tie.Need-returns-8
-returns-8 c = kind-0 _ _ _ _ _ _ _ (c .match .keys8)
+returns-8 c = kind-8 _ _ _ _ _ _ _ (c .match .keys8)
 
 returns-9 : tie.Need-returns-9
-returns-9 c = kind-other _ _ _ _ _ _ _ (λ e. c .match .rest .0 .0 .0 .0 .0 .0 .0 .1 e) (λ e. c .match .rest .0 .0 .0 .0 .0 .0 .1 e) (λ e. c .match .rest .0 .0 .0 .0 .0 .1 e) (λ e. c .match .rest .0 .0 .0 .0 .1 e) (λ e. c .match .rest .0 .0 .0 .1 e) (λ e. c .match .rest .0 .0 .1 e) (λ e. c .match .rest .0 .1 e)
+returns-9 c = kind-0 _ _ _ _ _ _ _ (c .match .keys9)
+
+returns-10 : tie.Need-returns-10
+returns-10 c = kind-other _ _ _ _ _ _ _ (λ e. c .match .rest .0 .0 .0 .0 .0 .0 .0 .0 .1 e) (λ e. c .match .rest .0 .0 .0 .0 .0 .0 .0 .1 e) (λ e. c .match .rest .0 .0 .0 .0 .0 .0 .1 e) (λ e. c .match .rest .0 .0 .0 .0 .0 .1 e) (λ e. c .match .rest .0 .0 .0 .0 .1 e) (λ e. c .match .rest .0 .0 .0 .1 e) (λ e. c .match .rest .0 .0 .1 e) (λ e. c .match .rest .0 .1 e)
 
 pub asking-of-spec : {M : Type 1} → statement M
 asking-of-spec =
@@ -42,4 +45,5 @@ asking-of-spec =
     returns-6
     returns-7
     returns-8
-    returns-9)
+    returns-9
+    returns-10)

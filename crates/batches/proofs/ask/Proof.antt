@@ -114,14 +114,29 @@ same-length-10 c = search needs
 returns-7 : tie.Need-returns-7
 returns-7 c = asked-by _ _ _ _ _ _ _ _ (c .before .before .before .before .before .before .before .before .k7 .given .1) (c .before .before .before .before .request .ensures)
 
+enum-known-k-8 : tie.Need-enum-known-k-8
+enum-known-k-8 c = search needs
+
+ask-requires : tie.Need-ask-requires
+ask-requires c κs = search needs
+
+counted-requires-6 : tie.Need-counted-requires-6
+counted-requires-6 c κs = search needs
+
+same-length-11 : tie.Need-same-length-11
+same-length-11 c = search needs
+
+returns-8 : tie.Need-returns-8
+returns-8 c = asked-by _ _ _ _ _ _ _ _ (c .before .before .before .before .k8 .given .1) (once-made (C.ask _) (c .before .ask .result .answer) (c .before .before .before .before .before .before .before .before .pre) (c .before .ask .ensures) (c .counted6 .ensures))
+
 enum-told : tie.Need-enum-told
 enum-told c = search needs
 
 no-ask-requires : tie.Need-no-ask-requires
 no-ask-requires c κs = search needs
 
-returns-8 : tie.Need-returns-8
-returns-8 c = let e : c .before .before .before .before .before .args .k ≡ K.Other = search needs in asked-by _ _ _ _ _ _ _ _ e (none-made (c .no-ask .ensures))
+returns-9 : tie.Need-returns-9
+returns-9 c = let e : c .before .before .before .before .before .args .k ≡ K.Other = search needs in asked-by _ _ _ _ _ _ _ _ e (none-made (c .no-ask .ensures))
 
 pub ask-spec : {M : Type 1} → statement M
 ask-spec =
@@ -163,6 +178,11 @@ ask-spec =
     same-length-9
     same-length-10
     returns-7
+    enum-known-k-8
+    ask-requires
+    counted-requires-6
+    same-length-11
+    returns-8
     enum-told
     no-ask-requires
-    returns-8)
+    returns-9)

@@ -34,6 +34,9 @@ enum-known-k-3 c = search needs
 enum-told-5 : tie.Need-enum-told-5
 enum-told-5 c = search needs
 
+enum-told-6 : tie.Need-enum-told-6
+enum-told-6 c = search needs
+
 returns : tie.Need-returns
 returns c = search needs
 
@@ -58,6 +61,9 @@ returns-7 c = ap (λ z. code-of z (c .before .before .before .args .t)) (sym (c 
 returns-8 : tie.Need-returns-8
 returns-8 c = search needs
 
+returns-9 : tie.Need-returns-9
+returns-9 c = search needs
+
 pub code-in-spec : {M : Type 1} → statement M
 code-in-spec =
     tie.close
@@ -72,6 +78,7 @@ code-in-spec =
     party-code-requires-2
     enum-known-k-3
     enum-told-5
+    enum-told-6
     returns
     returns-2
     returns-3
@@ -79,4 +86,5 @@ code-in-spec =
     returns-5
     returns-6
     returns-7
-    returns-8)
+    returns-8
+    returns-9)

@@ -1,4 +1,4 @@
--- `entry_store_put` meets its contract: `Wrap.antt`'s walk, where the five numbers are first made an `Ask`.
+-- `entry_store_put` meets its contract: `Wrap.antt`'s walk, where the five numbers are first made a `PutArgs`.
 use mathlib.Core.Path.{_≡_, refl}
 use Prim.Native.Nat.{ℕ, _<_, _^_}
 use mathlib.Core.List.{List, [], _∷_}
@@ -33,10 +33,10 @@ use denote.Triple.Statement.{Triple}
 use denote.Triple.Table.{entered, cited}
 use denote.Triple.Walked.{says, Stays, gave-slice, stay-none, walkOf, goes-gave-slice, goes-none, Walks, ends-at, walked, walk-meets}
 use Rattle.sessions.specs.declared.Session.{Session}
-use Rattle.store.specs.declared.Ask.{Ask}
+use Rattle.store.specs.declared.PutArgs.{PutArgs}
 use Rattle.store.specs.Lent.{Put}
-use Rattle.store.proofs.Ask as Ak
-use Rattle.store.proofs.Ask.Laws as Ak′
+use Rattle.store.proofs.PutArgs as Ak
+use Rattle.store.proofs.PutArgs.Laws as Ak′
 use Rattle.tables.proofs.Row.{R}
 use Rattle.store.proofs.Answers.{answer-typed}
 use Rattle.store.proofs.Plains.{AskR, askTy, askLaws}
@@ -68,7 +68,7 @@ module _ {M : Type 1} (𝓤 : URA M) (H : Heap 𝓤) (A : Atoms 𝓤) (W : Given
   abbrev passed : List Val
   passed = sliceVal (b₀, o₀) (length st) ∷ sliceVal (b, o) (length ys) ∷ vint w32 party ∷ vint w32 num ∷ vint w32 entry ∷ vint w32 first ∷ vint w32 second ∷ []
 
-  abbrev k : Ask
+  abbrev k : PutArgs
   k = record { party = party; code = num; entry = entry; first = first; second = second }
 
   abbrev bound : walkOf 𝓤 H A fn.ended five (fn.clauses 𝓤 H A mem run) .Ghost

@@ -33,12 +33,23 @@ cast-r c = search needs
 fault-in-requires : tie.Need-fault-in-requires
 fault-in-requires c κs = rw (c .before .entries .ensures, c .records .ensures) (sizes-has _ (sym (c .before .before .before .sizes-ok .ensures) ∙ not-false _ (c .before .before .if1 .left)))
 
-orders-then-requires : tie.Need-orders-then-requires
-orders-then-requires c κs = search needs
+distinct-requires : tie.Need-distinct-requires
+distinct-requires c κs = search needs
+
+marks-ok-requires : tie.Need-marks-ok-requires
+marks-ok-requires c κs = search needs
+
+next-part-requires : tie.Need-next-part-requires
+next-part-requires c κs = search needs
+
+next-part-requires-2 : tie.Need-next-part-requires-2
+next-part-requires-2 c κs = search needs
 
 returns-2 : tie.Need-returns-2
 unfolding firstFault
-returns-2 c = c .orders-then .ensures ∙ rw (c .before .fault-in .ensures, c .before .before .before .entries .ensures, c .before .before .records .ensures, sym (c .before .before .before .before .before .sizes-ok .ensures) ∙ not-false _ (c .before .before .before .before .if1 .left)) refl
+returns-2 c =
+    c .next-part2 .ensures
+    ∙ rw (c .before .next-part .ensures, c .before .before .marks-ok .ensures, c .before .before .before .distinct .ensures, c .before .before .before .before .fault-in .ensures, c .before .before .before .before .before .before .entries .ensures, c .before .before .before .before .before .records .ensures, sym (c .before .before .before .before .before .before .before .before .sizes-ok .ensures) ∙ not-false _ (c .before .before .before .before .before .before .before .if1 .left)) refl
 
 pub first-fault-spec : {M : Type 1} → statement M
 first-fault-spec =
@@ -52,5 +63,8 @@ first-fault-spec =
     records-requires
     cast-r
     fault-in-requires
-    orders-then-requires
+    distinct-requires
+    marks-ok-requires
+    next-part-requires
+    next-part-requires-2
     returns-2)

@@ -28,6 +28,9 @@ set-order-requires c κs = search needs
 set-order-requires-2 : tie.Need-set-order-requires-2 Inv-loop μ-loop
 set-order-requires-2 c κs = search needs
 
+spread-mark-requires : tie.Need-spread-mark-requires Inv-loop μ-loop
+spread-mark-requires c κs = search needs
+
 add-p : tie.Need-add-p Inv-loop μ-loop
 add-p c = search needs
 
@@ -52,6 +55,7 @@ spread-spec =
     other-number-requires
     set-order-requires
     set-order-requires-2
+    spread-mark-requires
     add-p
     loop-less
     loop-again
