@@ -9,7 +9,7 @@ ghost use Rattle.asking.specs.Asks.{asking, asking_at};
 // The words of an ask.
 const WORDS: usize = 7;
 
-#[derive(Drop)]
+#[derive(Clone, Copy)]
 pub enum Asking {
     Begin(u32),
     // Party, code, entry, first, second.

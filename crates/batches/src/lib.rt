@@ -227,7 +227,7 @@ fn may_go_on(k: Asking, a: Answer) -> bool
 // ---- a batch
 
 // The table, the place in the list, how many asks are made, and whether the batch goes on.
-#[derive(Drop)]
+#[derive(Clone, Copy)]
 struct Place {
     table: [Session; PARTIES],
     from: usize,

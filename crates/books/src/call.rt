@@ -26,7 +26,7 @@ pub const RECOVER: u32 = 8;
 
 // A call. A recover has no party and no numbers. Of a format, entry is M and first the number of words; of a step, first is the number of words of the
 // list; of a day call, code is the place, first the driver and second the start, and the bytes are those that the party keeps.
-#[derive(Drop)]
+#[derive(Clone, Copy)]
 pub struct Call {
     pub kind: u32,
     pub party: u32,
@@ -87,7 +87,7 @@ pub fn say(word: u32, first: u32, second: u32) -> Said {
 }
 
 // What is said of a day call: its answer, and the place, 0 at a refusal.
-#[derive(Drop)]
+#[derive(Clone, Copy)]
 pub struct Told {
     pub said: Said,
     pub place: u32,

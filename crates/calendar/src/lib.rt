@@ -7,13 +7,13 @@ ghost use Rattle.calendar.specs.Near.{Near};
 ghost use Rattle.calendar.specs.Calendar.{leap, year_days, thirty, month_days, first_day, days_before, day_number, year_of, date_in, date_of, IsDate, last_sunday};
 
 // A span of a row of spans, and how far into it.
-#[derive(Drop)]
+#[derive(Clone, Copy)]
 pub struct Place {
     pub at: u32,
     pub rest: u32,
 }
 
-#[derive(Drop)]
+#[derive(Clone, Copy)]
 pub struct Date {
     pub year: u32,
     pub month: u32,

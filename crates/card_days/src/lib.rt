@@ -7,7 +7,7 @@ ghost use Rattle.std.specs.Prelude.{◌≡◌, ◌++◌, ◌+◌, ◌*◌, ◌�
 ghost use Rattle.card_days.specs.Day.{words, proper, stretch, stretches, no_stretch, day_key, word_out, written_out, valued, of_day, all_of_day, writable, WritesDay};
 ghost use Rattle.card_days.specs.Loops.{WordAt, RequestFrom, still, ended, started, passed};
 
-#[derive(Drop)]
+#[derive(Clone, Copy)]
 pub struct Stretch {
     // The minute of the day that it starts at.
     pub minute: u32,
@@ -16,7 +16,7 @@ pub struct Stretch {
 }
 
 // A request as its code and the arguments that the code uses, as numbers that nothing bounds yet.
-#[derive(Drop)]
+#[derive(Clone, Copy)]
 pub struct DayRequest {
     pub code: u32,
     pub entry: u64,
@@ -24,7 +24,7 @@ pub struct DayRequest {
 }
 
 // What one walk of the bytes tells.
-#[derive(Drop)]
+#[derive(Clone, Copy)]
 pub struct Surveyed {
     pub is_proper: bool,
     // How many stretches there are.
@@ -34,7 +34,7 @@ pub struct Surveyed {
 }
 
 // The walk of the bytes at one of their words: what the words before it tell.
-#[derive(Drop)]
+#[derive(Clone, Copy)]
 struct Walk {
     word: u32,
     told: Surveyed,

@@ -20,7 +20,7 @@ fn empty() -> [u8; 65537]
 }
 
 // How many bytes of the input were read, and whether that is all of it, as far as it matters.
-#[derive(Drop)]
+#[derive(Clone, Copy)]
 struct Input {
     length: usize,
     is_read: bool,

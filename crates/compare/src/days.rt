@@ -20,7 +20,7 @@ fn told(a: DayAnswer) -> Told {
 }
 
 // What a day call leaves of the table, and what it says.
-#[derive(Drop)]
+#[derive(Clone, Copy)]
 struct Reply {
     table: [Session; PARTIES],
     told: Told,

@@ -29,7 +29,7 @@ fn served(store: &mut [u32], list: &mut [u32], t: [Session; PARTIES], c: Call) -
 }
 
 // What a call leaves of the table, and its answer.
-#[derive(Drop)]
+#[derive(Clone, Copy)]
 struct Reply {
     table: [Session; PARTIES],
     said: Said,

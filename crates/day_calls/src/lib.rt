@@ -23,7 +23,7 @@ const DRIVERS: u32 = 4094;
 const LATEST: u32 = 1047136;
 
 // What a call reads of its bytes: whether they are a proper day, how many stretches it has, and the request that the place names.
-#[derive(Drop)]
+#[derive(Clone, Copy)]
 struct Reading {
     good: bool,
     count: usize,

@@ -13,7 +13,7 @@ ghost use Rattle.groups.specs.Descriptor.{encode_descriptor, decode_descriptor, 
 ghost use Rattle.groups.specs.Membership.{encode_membership, decode_membership, membership_at, put_membership, with_next_member, with_member_before};
 
 // A group descriptor; pins is document 01's seize count.
-#[derive(Drop)]
+#[derive(Clone, Copy)]
 pub struct Descriptor {
     pub next: u32,
     pub key: u32,
@@ -25,7 +25,7 @@ pub struct Descriptor {
 }
 
 // An entry's membership in a group.
-#[derive(Drop)]
+#[derive(Clone, Copy)]
 pub struct Membership {
     pub next: u32,
     pub before: u32,

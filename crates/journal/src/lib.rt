@@ -17,7 +17,7 @@ use journal_reader::Record;
 // ---- a locate's list
 
 // Where the walk of a list stands.
-#[derive(Drop)]
+#[derive(Clone, Copy)]
 struct Place {
     // Whether the list is still the model's.
     is_same: bool,
@@ -113,7 +113,7 @@ fn is_located(bytes: &[u8], r: Record, keys: &[u32], entries: &[u32], count: usi
 // ---- a run
 
 // Whether all answers so far are the model's, and how many memberships there are.
-#[derive(Drop)]
+#[derive(Clone, Copy)]
 struct Stand {
     is_same: bool,
     count: usize,

@@ -6,7 +6,7 @@ ghost use Rattle.std.specs.Prelude.{◌≡◌, ◌+◌, ◌≤◌, ◌<◌, leng
 ghost use Rattle.journal_reader.specs.Record.{word_at, record_from, no_record, record_at};
 
 // A record: eight words. In a list record `run` is the key and `code` the entry.
-#[derive(Drop)]
+#[derive(Clone, Copy)]
 pub struct Record {
     // The index of the next record of the chain; 0 at its end.
     pub next: u32,
@@ -90,7 +90,7 @@ fn next_at(bytes: &[u8], at: usize) -> usize
 }
 
 // The bytes of a journal and a place in them: the index of a record, 0 at the end of a chain.
-#[derive(Drop)]
+#[derive(Clone, Copy)]
 pub struct Reader<'a> {
     pub bytes: &'a [u8],
     pub at: usize,

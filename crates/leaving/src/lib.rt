@@ -11,7 +11,7 @@ ghost use Rattle.leaving.specs.Words.{choice, ChoiceReady, tidy_aim, aim_of, ask
 use sessions::Session;
 
 // The first stage of a request, and the key that its descent goes to.
-#[derive(Drop)]
+#[derive(Clone, Copy)]
 pub struct Aim {
     pub stage: u32,
     pub target: u32,

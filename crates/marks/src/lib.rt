@@ -19,7 +19,7 @@ pub const UNDO: u8 = 4;
 pub const FREE: u8 = 5;
 
 // A walk along a chain: whether all is in order so far, and how many records may still be met.
-#[derive(Drop)]
+#[derive(Clone, Copy)]
 pub struct Chain {
     pub ok: bool,
     pub left: usize,

@@ -50,7 +50,7 @@ pub const REFUSED: u32 = 4;
 
 // What is told of a call. Beside wait stands the party that it names; beside done the answer and, of a tidy, 1 if it removed; beside refused its number and
 // the one beside it.
-#[derive(Drop)]
+#[derive(Clone, Copy)]
 pub struct Said {
     pub word: u32,
     pub first: u32,
@@ -67,7 +67,7 @@ pub fn say(word: u32, first: u32, second: u32) -> Said {
 
 // What a step takes: the party that a wait names, or nobody, the set of all that are in the way, party q as bit q, and the event that counts a wait for them;
 // the number with which it is refused, 0 for none, and the one beside it; the word of holders that the party enters.
-#[derive(Drop)]
+#[derive(Clone, Copy)]
 pub struct Plan {
     pub named: u32,
     pub parties: u32,

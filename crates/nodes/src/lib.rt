@@ -14,7 +14,7 @@ ghost use Rattle.nodes.specs.Node.{encode_node, decode_node, node_at, put_node};
 ghost use Rattle.nodes.specs.Ops.{son_for, lone_node, with_latch, latch_at};
 
 // A node; latch is document 01's short lock.
-#[derive(Drop)]
+#[derive(Clone, Copy)]
 pub struct Node {
     pub latch: u32,
     pub count: u32,

@@ -4,7 +4,7 @@
 // for answers as they are told, on `sessions` for the record and the table.
 use sessions::{PARTIES, Session};
 
-#[derive(Drop)]
+#[derive(Clone, Copy)]
 pub enum Answer {
     Ok,
     More,
@@ -18,21 +18,21 @@ pub enum Answer {
     Refused(u32, u32),
 }
 
-#[derive(Drop)]
+#[derive(Clone, Copy)]
 pub struct Moved {
     pub answer: Answer,
     pub session: Session,
 }
 
 // What a call leaves of the table, and its answer.
-#[derive(Drop)]
+#[derive(Clone, Copy)]
 pub struct Served {
     pub table: [Session; PARTIES],
     pub answer: Answer,
 }
 
 // What a run of calls leaves of the table, the answer of the last one, and how many steps were made.
-#[derive(Drop)]
+#[derive(Clone, Copy)]
 pub struct Ran {
     pub table: [Session; PARTIES],
     pub answer: Answer,
@@ -40,14 +40,14 @@ pub struct Ran {
 }
 
 // An answer, and how many steps were made for it.
-#[derive(Drop)]
+#[derive(Clone, Copy)]
 pub struct Made {
     pub answer: Answer,
     pub steps: u32,
 }
 
 // What a day call answers, with the place that the next call is to be handed; a refusal has none.
-#[derive(Drop)]
+#[derive(Clone, Copy)]
 pub enum DayAnswer {
     Ok(u32),
     More(u32),
@@ -60,7 +60,7 @@ pub enum DayAnswer {
 }
 
 // What a day call leaves of the table, and its answer.
-#[derive(Drop)]
+#[derive(Clone, Copy)]
 pub struct DayServed {
     pub table: [Session; PARTIES],
     pub answer: DayAnswer,

@@ -82,7 +82,7 @@ fn changes_at(s: Session, key: u32) -> usize
 // ---- all sessions
 
 // Which locates have passed the keys from `from` on and below `until`: the same for all of them.
-#[derive(Drop)]
+#[derive(Clone, Copy)]
 pub struct Passed {
     pub mask: u32,
     pub from: usize,
@@ -161,7 +161,7 @@ fn gap_mask(t: [Session; PARTIES], key: u32, next: u32, so: Passed) -> u32
 }
 
 // Whose locates must hold a stored key, and the gap behind it.
-#[derive(Drop)]
+#[derive(Clone, Copy)]
 pub struct Asked {
     pub locate: u32,
     pub gap: u32,

@@ -8,7 +8,7 @@ ghost use Rattle.replay.specs.Held.{Ready, Feeds};
 ghost use Rattle.replay.specs.Members.{Tells, Sorted, place-in, Finds, Inserts, Removes};
 
 // The answer to a request, and how many memberships there are after it.
-#[derive(Drop)]
+#[derive(Clone, Copy)]
 pub struct Fed {
     pub answer: u32,
     pub count: usize,

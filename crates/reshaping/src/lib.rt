@@ -13,7 +13,7 @@ ghost use Rattle.reshaping.specs.Ops.{insert_in, remove_in, insert_son, insert_b
 use nodes::Node;
 
 // Two neighbours, and the boundary between them, which goes up to their parent.
-#[derive(Drop)]
+#[derive(Clone, Copy)]
 pub struct Neighbours {
     pub left: Node,
     pub up: u32,

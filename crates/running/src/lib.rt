@@ -55,7 +55,7 @@ pub fn is_ok(a: Answer) -> bool
 // ---- one step of a party whose record is x
 
 // What a step leaves of its party's record, its answer, and the record of the descriptor that the next step of a scan takes, 0 where that is not known.
-#[derive(Drop)]
+#[derive(Clone, Copy)]
 struct Sat {
     session: Session,
     answer: Answer,
@@ -152,7 +152,7 @@ fn limit_of(bound: u32) -> u32
 }
 
 // What the last step of a run leaves, and how many steps there were.
-#[derive(Drop)]
+#[derive(Clone, Copy)]
 struct Went {
     sat: Sat,
     steps: u32,

@@ -5,7 +5,7 @@
 
 pub const NUMBERS: usize = 3;
 
-#[derive(Drop)]
+#[derive(Clone, Copy)]
 pub struct Line {
     // How many words have begun: the letter and the numbers.
     pub words: usize,

@@ -2,7 +2,7 @@
 use crate::text::within;
 
 // How much of the wanted text was met, and whether all that was told was it.
-#[derive(Drop)]
+#[derive(Clone, Copy)]
 pub struct Place {
     pub at: usize,
     pub is_same: bool,

@@ -10,7 +10,7 @@ use outcomes::{Answer, DayAnswer, DayServed, Made, Ran, Served};
 use sessions::Session;
 
 // What a call leaves: its party, the party's record, and the answer.
-#[derive(Drop)]
+#[derive(Clone, Copy)]
 pub struct Seat {
     pub party: u32,
     pub session: Session,
@@ -32,7 +32,7 @@ pub fn seat_of(served: Served, p: u32) -> Seat
 }
 
 // What a run leaves: its party, the party's record, the last answer and how many steps were made.
-#[derive(Drop)]
+#[derive(Clone, Copy)]
 pub struct Stint {
     pub party: u32,
     pub session: Session,
@@ -58,7 +58,7 @@ pub fn stint_of(ran: Ran, p: u32) -> Stint
 }
 
 // What a day call leaves: its party, the party's record, and the answer with the next place.
-#[derive(Drop)]
+#[derive(Clone, Copy)]
 pub struct DaySeat {
     pub party: u32,
     pub session: Session,

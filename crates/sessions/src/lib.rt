@@ -8,7 +8,7 @@ pub const PARTIES: usize = 17;
 
 // In memory: its 15 words in this order, as a C program lends them.
 #[repr(C)]
-#[derive(Drop)]
+#[derive(Clone, Copy)]
 pub struct Session {
     // Not 0: the session is begun. Unused for party 0.
     pub begun: u32,

@@ -58,7 +58,7 @@ pub const ORDERS: u32 = 12;
 pub const ASKED: u32 = 13;
 
 // The test's answer: the first part that is broken, 0 for none, and, where it is none, how many records are free.
-#[derive(Drop)]
+#[derive(Clone, Copy)]
 pub struct Checked {
     pub fault: u32,
     pub free: usize,

@@ -8,7 +8,7 @@ ghost use Rattle.stamps.specs.Stamps.{covered, year, summer, stamp_at, stamp, wi
 
 use switches::Switches;
 
-#[derive(Drop)]
+#[derive(Clone, Copy)]
 pub struct Stamp {
     pub year: u32,
     pub month: u32,
@@ -19,7 +19,7 @@ pub struct Stamp {
 }
 
 // What a stamp reads as: a UTC minute, or why it is refused.
-#[derive(Drop)]
+#[derive(Clone, Copy)]
 pub enum Reading {
     Minute(u32),
     Outside,

@@ -21,7 +21,7 @@ use seats::{DaySeat, Seat, Stint};
 use sessions::{PARTIES, Session};
 
 // The arguments of a put.
-#[derive(Drop)]
+#[derive(Clone, Copy)]
 pub struct PutArgs {
     pub party: u32,
     pub code: u32,
@@ -31,14 +31,14 @@ pub struct PutArgs {
 }
 
 // Whose request goes on, and how many steps at most.
-#[derive(Drop)]
+#[derive(Clone, Copy)]
 pub struct Go {
     pub party: u32,
     pub most: u32,
 }
 
 // The arguments of a put, and how many steps at most.
-#[derive(Drop)]
+#[derive(Clone, Copy)]
 pub struct Wish {
     pub party: u32,
     pub code: u32,
@@ -50,7 +50,7 @@ pub struct Wish {
 
 // The arguments of a day call beside its bytes: the card's driver, the minute that the day starts at, the entry that its first stretch gets, and the place
 // that the call before returned, 0 for the first.
-#[derive(Drop)]
+#[derive(Clone, Copy)]
 pub struct DayAsk {
     pub party: u32,
     pub driver: u32,

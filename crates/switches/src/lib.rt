@@ -6,7 +6,7 @@ ghost use Rattle.std.specs.Prelude.{◌≡◌, ◌≤◌};
 ghost use Rattle.switches.specs.Switches.{sunday_minute, spring, autumn};
 ghost use Rattle.switches.specs.LongMonths.{LongMonth};
 
-#[derive(Drop)]
+#[derive(Clone, Copy)]
 pub struct Switches {
     pub spring: u32,
     pub autumn: u32,

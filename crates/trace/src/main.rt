@@ -7,7 +7,7 @@ use scripts::text::{TEXT, Text, within};
 use tracing::{LIST, STORE, Script};
 
 // A script after some input: whether to go on with it, and if not, whether that is for a failure.
-#[derive(Drop)]
+#[derive(Clone, Copy)]
 struct Part {
     script: Script,
     is_more: bool,

@@ -24,7 +24,7 @@ pub const LIST: usize = 1024;
 pub const ENTRIES: u32 = 16;
 
 // A script so far: the session table, the line in hand, and how many lines have ended.
-#[derive(Drop)]
+#[derive(Clone, Copy)]
 pub struct Script {
     pub table: [Session; PARTIES],
     pub line: Line,
@@ -32,7 +32,7 @@ pub struct Script {
 }
 
 // A script, and how many bytes of text its last byte gave.
-#[derive(Drop)]
+#[derive(Clone, Copy)]
 pub struct Read {
     pub script: Script,
     pub length: usize,

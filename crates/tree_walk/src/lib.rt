@@ -14,7 +14,7 @@ use nodes::Node;
 
 // A walk: whether all is in order so far, how many records may still be met, how many nodes are latched, the record of the descriptor
 // that the chain names next, how many descriptors were met, and the lowest key that the next may have.
-#[derive(Drop)]
+#[derive(Clone, Copy)]
 pub struct Walk {
     pub ok: bool,
     pub left: usize,

@@ -16,7 +16,7 @@ use schedules::words::wide;
 use std::num::wrapping_add_u32;
 
 // A request of a day: code, entry, and value or key, which may be no words.
-#[derive(Drop)]
+#[derive(Clone, Copy)]
 struct Request {
     code: u32,
     entry: usize,

@@ -19,7 +19,7 @@ pub const TAKEN: u32 = 3;
 
 // One change to undo: the next older one (0 for none), its kind, its entry, what the kind saves (VALUE: the old value, ADDED: the
 // membership's record, TAKEN: nothing, 0), and the descriptor's record (VALUE: 0).
-#[derive(Drop)]
+#[derive(Clone, Copy)]
 pub struct Undo {
     pub next: u32,
     pub kind: u32,

@@ -10,7 +10,7 @@ use scripts::texts::{Place, is_whole, met};
 use tracing::{LIST, STORE, Script};
 
 // A script so far, and how much of the wanted text it has told.
-#[derive(Drop)]
+#[derive(Clone, Copy)]
 struct Stand {
     script: Script,
     place: Place,
@@ -76,7 +76,7 @@ fn is_right(script: &[u8], wanted: &[u8]) -> bool {
 }
 
 // How much of a file was read, and whether that is all of it.
-#[derive(Drop)]
+#[derive(Clone, Copy)]
 struct Loaded {
     length: usize,
     is_all: bool,
