@@ -4,6 +4,8 @@
 // descriptor. It promises that the words left EQUAL a definition of specs/Words, and (specs/Abort) that from words which hold a layout of a
 // sound state they hold one that means the machine's `aborts`, and that what the code asks is there. It rests on finishing for the request,
 // on undo_log and undoing for the undo records, on leaving for the rest, on layout for what words hold.
+#![tactic(auto)]
+
 ghost use Rattle.std.specs.Prelude.{◌≡◌};
 ghost use Rattle.aborting.specs.Words.{hand_ended, HandReady, abort_words, AbortReady};
 

@@ -4,6 +4,8 @@
 // what the crate promises says of a call on sound words (Serves): the answer is the machine's, and store and table mean the machine's next state; of
 // format, that it leaves a fresh store (Formats). A step stands in the crate stepping. It rests on refusals for a party's record, on leaving, aborting and
 // recovering for the rows, on endings for session records by value and for the fresh store, on seniority for the order of begins.
+#![tactic(auto)]
+
 ghost use Rattle.std.specs.Prelude.{◌≡◌, [], length};
 ghost use Rattle.serial.specs.Calls as C;
 ghost use Rattle.outcomes.specs.Said.{said};

@@ -204,4 +204,4 @@ tidied-becomes s t A P key least n goes =
     let bare = gather_none (L.members P.leaf.num) ((site-group s t A 0 P).gathered ∙ G.no_members) in
     subst (λ z. Becomes s z (set t 0 (idled x)) (ended 0 (at_request x) (tidied_state 0 x.target (means L t))))
     (λ i. tidy_at s m (P.num i) x.target (sym Q.found i) (sym (site_son s t L A.holds 0 P) i))
-    (tidy-becomes s t A 0 P Q key B two bare G.not-Pinned G.no_update (omega arith) n)
+    (tidy-becomes s t A 0 P Q key B two bare G.not_pinned G.no_update (omega arith) n)

@@ -5,6 +5,8 @@
 // EQUAL a definition of specs/Arriving; specs/Moving says that this is the machine's step, where the words hold a layout of a sound state.
 // It rests on scans for the descriptor before a key, on descents for nodes, on members and groups for descriptors, on chain for free
 // records, on finishing for requests that end.
+#![tactic(auto)]
+
 ghost use Rattle.std.specs.Prelude.{◌≡◌};
 ghost use Rattle.words.specs.Store.{HasRecord};
 ghost use Rattle.words.specs.Header.{header_word, free_place};

@@ -3,6 +3,8 @@
 // An ask is seven words: its kind, the party, code, entry, first, second, and how many steps at most. Which of them count is the kind's matter. It promises the
 // ask that a definition reads (specs/Asks); words that are no ask, by their kind or because there are fewer than seven left, are one case of their own. It
 // rests on nothing.
+#![tactic(auto)]
+
 ghost use Rattle.std.specs.Prelude.{◌≡◌, ◌*◌, ◌<◌, length};
 ghost use Rattle.asking.specs.Asks.{asking, asking_at};
 

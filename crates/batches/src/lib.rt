@@ -4,6 +4,8 @@
 // packs each answer into its place. By its contract each is a list of ordinary calls, each related by the ordinary contract (specs/Batches); the tests of soundness
 // between them are not made, since each call is proved to leave store and table sound. It rests on asking for the asks as words, on serving for the calls, on
 // running for runs, on packing for the answers.
+#![tactic(auto)]
+
 ghost use Rattle.std.specs.Prelude.{◌≡◌, true, ◌↔◌, [], ◌*◌, ◌≤◌, ◌<◌, length, take, drop};
 ghost use Rattle.sessions.specs.Sessions.{session_at};
 ghost use Rattle.outcomes.specs.Said.{said};

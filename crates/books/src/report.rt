@@ -1,8 +1,8 @@
 // Report: what was counted, a line each: the number and its label. Where something differs, the first difference too.
 use crate::book::{DIFFERENCES, LINES, Model, WHAT};
-use libc::STDOUT_FILENO;
 use schedules::book::{Book, get};
 use schedules::words::wide;
+use std::io;
 use std::num::wrapping_add_u32;
 
 // Where line n of a text begins, from 0.
@@ -21,17 +21,19 @@ fn line_start(text: &[u8], n: u32) -> usize {
     i
 }
 
-fn tell_line(text: &[u8], n: u32) {
+fn tell_line(rt: &impl Print, text: &[u8], n: u32) -> io::Result<()> {
     let from = line_start(text, n);
     let end = line_start(text, wrapping_add_u32(n, 1));
     if from <= end && end <= text.len() {
-        io::write_all(STDOUT_FILENO, &text[from..end]);
+        rt.write_all(&text[from..end])?;
     }
+    Ok(())
 }
 
 // The label of line n.
-fn tell_label(n: u32) {
+fn tell_label(rt: &impl Print, n: u32) -> io::Result<()> {
     tell_line(
+        rt,
         b" calls on both, of these\n   format\n   begin\n   put\n   step\n   commit\n   abort\n   day\n   ask
    recover\n answered ok\n answered more\n answered wait\n answered done\n refused, of these\n   by 3
    by 4\n   by 5\n   by 6\n   by 7\n   by 8\n   by 9\n   by 10\n   by 11\n   by 12\n   by 13\n   by 14\n   by 21
@@ -62,12 +64,13 @@ fn tell_label(n: u32) {
  round of the first difference\n call in it\n number of the store\n number of the model\n differences
 ",
         n,
-    );
+    )
 }
 
 // What differs, by its number in book.
-fn tell_what(what: u32) {
+fn tell_what(rt: &impl Print, what: u32) -> io::Result<()> {
     tell_line(
+        rt,
         b"nothing
 the word of an answer
 the number of an answer
@@ -100,7 +103,7 @@ whether a party is asked
 the recover of a copy
 ",
         what,
-    );
+    )
 }
 
 // The number of line n: from 28 to 77 an event of the model; 80 is how often the lists were compared, which is at each call.
@@ -114,24 +117,25 @@ fn number(a: &Model, b: &Book, n: u32) -> u32 {
     get(b, LINES + wide(n))
 }
 
-fn tell_row(a: &Model, b: &Book, n: u32) {
-    io::print_decimal(STDOUT_FILENO, number(a, b, n) as u64);
-    tell_label(n);
+fn tell_row(rt: &impl Print, a: &Model, b: &Book, n: u32) -> io::Result<()> {
+    rt.print(number(a, b, n))?;
+    tell_label(rt, n)
 }
 
-fn tell_rows(a: &Model, b: &Book, from: u32, end: u32) {
+fn tell_rows(rt: &impl Print, a: &Model, b: &Book, from: u32, end: u32) -> io::Result<()> {
     let mut n = from;
     while n < end {
-        tell_row(a, b, n);
+        tell_row(rt, a, b, n)?;
         n += 1;
     }
+    Ok(())
 }
 
-pub fn report(a: &Model, b: &Book) {
-    tell_rows(a, b, 0, 98);
+pub fn report(rt: &impl Print, a: &Model, b: &Book) -> io::Result<()> {
+    tell_rows(rt, a, b, 0, 98)?;
     if get(b, DIFFERENCES) != 0 {
-        tell_rows(a, b, 98, 102);
-        tell_what(get(b, WHAT));
+        tell_rows(rt, a, b, 98, 102)?;
+        tell_what(rt, get(b, WHAT))?;
     }
-    tell_row(a, b, 102);
+    tell_row(rt, a, b, 102)
 }

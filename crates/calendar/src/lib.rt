@@ -2,6 +2,8 @@
 //
 // Each function's result equals a definition of specs/Calendar; specs/Dates has the laws: dates and day numbers are inverse. specs/Days: each day has
 // the date and the weekday after those of the day before. It rests on no other crate.
+#![tactic(auto)]
+
 ghost use Rattle.std.specs.Prelude.{◌≡◌, ◌≤◌, ◌<◌};
 ghost use Rattle.calendar.specs.Near.{Near};
 ghost use Rattle.calendar.specs.Calendar.{leap, year_days, thirty, month_days, first_day, days_before, day_number, year_of, date_in, date_of, IsDate, last_sunday};

@@ -5,6 +5,8 @@
 // accepted one leaves a fresh store (Formats). A run, a request and a batch promise to be lists of ordinary calls (promises, specs/Runs; batches, specs/Batches),
 // a day call to be one put or step with its answer renamed (day_calls, specs/Calling). Demands 1 to 3 over these promises stand there too. It rests on soundness
 // for the test, on refusals and accepted for format, on accepted for recover, on serving, running, batches and day_calls for the rest.
+#![tactic(auto)]
+
 ghost use Rattle.std.specs.Prelude.{[]};
 ghost use Rattle.serial.specs.Calls as C;
 ghost use Rattle.outcomes.specs.Said.{said};

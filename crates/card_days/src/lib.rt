@@ -3,6 +3,8 @@
 // Each function promises that its result is that of the definition (specs/Day): `survey` walks the bytes once and says whether they are a proper day, how
 // many stretches it has and which is the one asked for; `request_from` makes a request of that stretch; `write_day` writes a day's keys and values out as
 // bytes, or leaves the bytes as they were. It rests on no other crate: no store is named here.
+#![tactic(auto)]
+
 ghost use Rattle.std.specs.Prelude.{◌≡◌, ◌++◌, ◌+◌, ◌*◌, ◌≤◌, ◌<◌, ◌%◌, length, get_or, drop};
 ghost use Rattle.card_days.specs.Day.{words, proper, stretch, stretches, no_stretch, day_key, word_out, written_out, valued, of_day, all_of_day, writable, WritesDay};
 ghost use Rattle.card_days.specs.Loops.{WordAt, RequestFrom, still, ended, started, passed};

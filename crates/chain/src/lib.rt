@@ -3,6 +3,8 @@
 // It promises that taking a record and giving one back leave exactly the words that specs/Free says, that an empty chain answers 0
 // and keeps every word, and that of a freed record only the next word is written. specs/Walk says when a chain can
 // be walked. It rests on `words` for where the words lie.
+#![tactic(auto)]
+
 ghost use Rattle.std.specs.Prelude.{◌≡◌, length, set};
 ghost use Rattle.words.specs.Store.{HasRecord};
 ghost use Rattle.words.specs.Header.{header_word, free_place};

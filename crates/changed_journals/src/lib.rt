@@ -2,6 +2,8 @@
 //
 // It promises that every function is safe and ends. line_changes and list_changes have the changes, picks says where and to what, edits has what they are
 // made of.
+#![tactic(auto)]
+
 mod edits;
 mod line_changes;
 mod list_changes;

@@ -7,6 +7,8 @@
 // specs/Adding and specs/TakingOut), and specs/Ready that such words have what the code asks for. It rests on members for groups, on
 // undo_log for undo records, on scans for the search of a member, on locks for who is in the way, on endings and outcomes for session records and
 // answers, on layout and machine for what the words mean.
+#![tactic(auto)]
+
 ghost use Rattle.std.specs.Prelude.{◌≡◌};
 ghost use Rattle.words.specs.Header.{header_word, free_place};
 ghost use Rattle.chain.specs.Free.{Poppable, pop_free};

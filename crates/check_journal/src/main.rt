@@ -4,6 +4,8 @@
 // follows. If the input cannot be read or the verdict not written, it says so on standard error, with the system's reason, and prints nothing else.
 //
 // The stack: 65,537 bytes for the input and some 21,000 for the replay, less than 100 KiB in all.
+#![tactic(auto)]
+
 ghost use Rattle.std.specs.Prelude.{◌≡◌, length};
 ghost use Rattle.io.specs.Counts.{IsPrefixLen};
 ghost use Rattle.journal_lines.specs.Journal.{verdict_of};

@@ -4,6 +4,8 @@
 // It is slow on purpose: it lists every record as it is reached and then looks through that list again and again. It has no definition and
 // shares no code with the store's own test, so that the two can be held against each other. It takes any words and any session records, and
 // its contracts say only that it is safe and ends. It rests on sessions for the session record.
+#![tactic(auto)]
+
 mod asks;
 pub mod clauses;
 mod holders;

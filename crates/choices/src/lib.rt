@@ -3,6 +3,8 @@
 // keys picks keys and entries, choose the call, days a day call, kinds what a round is like, shares how often what is done. It promises that every function
 // is safe and ends. It rests on books for the book of the run and for what a call is, on naive for the second model, on schedules for random numbers, words
 // and days.
+#![tactic(auto)]
+
 pub mod choose;
 pub mod days;
 pub mod keys;

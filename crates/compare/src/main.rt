@@ -11,6 +11,8 @@
 //
 // serve makes a call on the store, days a day call, make either on both; content compares a copy with all sessions aborted with the logical model; judge
 // asks the checker about the store and about a copy with one word changed, and the store about that copy; rounds has the schedules.
+#![tactic(auto)]
+
 mod content;
 mod days;
 mod judge;

@@ -3,6 +3,8 @@
 // Crate made_journals makes journals that are to be accepted. Both checkers judge each of them, and then each with every change that crate changed_journals
 // has, most of them one thing at a time: what is changed is near to what is right. The verdicts are counted for each change, and must agree. Random and
 // fixed: each run is the same.
+#![tactic(auto)]
+
 mod report;
 
 use changed_journals::{CHANGES, change};

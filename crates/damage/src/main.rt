@@ -4,6 +4,8 @@
 // In the input (crate samples) "Base m r junk" begins a base, "Sample words" a sound sample over the last base, and "Case words clause" one over
 // the last sample that this clause alone refuses; its store has so many words or, for 0, those of its header. The lines up to the next of
 // these say what it is made of. Each sample is judged; then each of its words is changed in turn, judged and put back.
+#![tactic(auto)]
+
 mod judge;
 mod tally;
 mod values;

@@ -5,6 +5,8 @@
 // refusal that changes nothing (specs/Calling). So lists of calls with day calls in them are lists of ordinary calls and keep demand 3 (Lists); a session that
 // hands in each place that it was returned finishes exactly the day's requests (Threads); and the day can be written out again (Stored). It rests on card_days
 // for the day, on refusals for what the table says, on accepted and stepping for the put and the step, on day_model for what the requests do.
+#![tactic(auto)]
+
 ghost use Rattle.std.specs.Prelude.{◌≡◌, not, ◌||◌, [], ◌*◌, ◌≤◌, ◌<◌, leb};
 ghost use Rattle.serial.specs.Calls as C;
 ghost use Rattle.outcomes.specs.Said.{said};

@@ -6,6 +6,8 @@
 //
 // Each function promises that the words it leaves, and what it answers, EQUAL a definition of specs/Descents, where also stands what it
 // asks for. It rests on the crates words, nodes, reshaping and chain, and on locks for how many sessions there are.
+#![tactic(auto)]
+
 ghost use Rattle.std.specs.Prelude.{◌≡◌, ◌≤◌, ◌<◌};
 ghost use Rattle.words.specs.Store.{HasRecord};
 ghost use Rattle.nodes.specs.Paths.{son_toward};

@@ -4,6 +4,8 @@
 // descriptors. A fresh store has one node, the descriptor of key 0, and every other record free. Each function promises that its result, or
 // the store it leaves, EQUALS a definition of specs/: Leave, Fresh, Table. specs/LeaveLaws says what a session that leaves a descriptor keeps.
 // It rests on the crates words, kinds, nodes, groups, chain, locks and sessions.
+#![tactic(auto)]
+
 ghost use Rattle.std.specs.Prelude.{◌≡◌, ◌+◌, ◌-◌, ◌≤◌, length};
 ghost use Rattle.words.specs.Store.{HasRecord};
 ghost use Rattle.words.specs.Entries.{HasEntry};

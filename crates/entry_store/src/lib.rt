@@ -7,6 +7,8 @@
 // keeps demand 3 and the order of begins (specs/Turns, specs/Servings), its journal is accepted (specs/Journal), and every list of the eight has such numbers
 // (specs/Made). Nothing is asked of the caller but what C's types leave to it. It rests on store for the calls, on packing for the answers, on card_days for
 // the day written out, on locks for the count, on tables and sound for the test, on looking for free records and holders.
+#![tactic(auto)]
+
 ghost use Rattle.std.specs.Prelude.{◌≡◌, length};
 ghost use Rattle.locks.specs.Holders.{holders, word_bits};
 ghost use Rattle.store.specs.Lent.{Formatted, Begun, Put, Committed, Aborted, Asked, Recovered};

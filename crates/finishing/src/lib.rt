@@ -3,6 +3,8 @@
 // It promises that the words left EQUAL a definition of specs/Finishing, and (specs/Ended) that from words which hold a layout of a sound state they hold
 // one that means the machine's `ended`: so a step that is refused 11 or 12, and one that is done, end the request as the machine does. It rests on the crates
 // that write nodes and descriptors, on `layout` for what words hold.
+#![tactic(auto)]
+
 ghost use Rattle.std.specs.Prelude.{◌≡◌};
 ghost use Rattle.endings.specs.Table.{idled};
 ghost use Rattle.finishing.specs.Finishing.{has_pinned, LatchEnds, LowEnds, HighEnds, Endable, end_latch, end_low, end_high, end_request};

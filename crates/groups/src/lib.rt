@@ -7,6 +7,8 @@
 // Each function promises that its result, or the store it leaves, EQUALS a definition of specs/: Descriptor and Membership (the
 // record's words, what a descriptor that is written reads as, the operations). Words of holders are handed in as numbers; nothing here looks
 // at a bit, walks a chain or says what a lock is. It rests on the crates words and kinds.
+#![tactic(auto)]
+
 ghost use Rattle.std.specs.Prelude.{◌≡◌, length, set};
 ghost use Rattle.words.specs.Store.{HasRecord};
 ghost use Rattle.groups.specs.Descriptor.{encode_descriptor, decode_descriptor, descriptor_at, put_descriptor, made_in, with_next_descriptor, with_first_member, put_pins, with_holders, grant_locate, grant_update, grant_gap, removable};

@@ -3,6 +3,8 @@
 // The test of a weak and a strong holders word, for entries and for groups; the begun sessions, as a holders word; and the holders of every
 // entry. Conflicts come from the lock table only. Each function's result EQUALS a definition of specs/Holders. It rests on the crates words,
 // locks, sessions and marks.
+#![tactic(auto)]
+
 ghost use Rattle.std.specs.Prelude.{◌≡◌, cond, ◌&&◌, ◌||◌, ◌≤◌, ◌<◌};
 ghost use Rattle.locks.specs.Rule.{agrees_of};
 ghost use Rattle.locks.specs.Holders.{held_by};

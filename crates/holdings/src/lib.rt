@@ -5,6 +5,8 @@
 // crate holders has the test of holders words, the crate passing whose locates must hold a key and its gap. Each function's result, and what
 // it leaves, EQUAL a definition of specs/Holdings, which looks at each key by itself. It rests on the crates groups, sessions, marks,
 // lists, holders and passing.
+#![tactic(auto)]
+
 ghost use Rattle.std.specs.Prelude.{◌≡◌, ◌≤◌, ◌<◌, length};
 ghost use Rattle.marks.specs.Marks.{HasRecords};
 ghost use Rattle.marks.specs.Trail.{Ends};

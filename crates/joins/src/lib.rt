@@ -6,6 +6,8 @@
 //
 // Each function promises that the words it leaves, and what it answers, EQUAL a definition of specs/Joins, where also stands what it
 // asks for. It rests on the crates words, kinds, nodes, reshaping and chain.
+#![tactic(auto)]
+
 ghost use Rattle.std.specs.Prelude.{◌≡◌, ◌+◌, ◌≤◌};
 ghost use Rattle.nodes.specs.Node.{node_at};
 ghost use Rattle.nodes.specs.Paths.{son_at};

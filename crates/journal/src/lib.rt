@@ -3,6 +3,8 @@
 // Whether a journal can be read and is orderly is journal_lines' to say. The third test is made here: the committed runs are replayed in lent arrays, in
 // order of commit, and every stored answer and list is held to the logical model's (specs/Fits). Each run is one walk of the main chain (specs/Loops). A run
 // commits once, so the committed runs have no more requests than there are lines (specs/Room), and there is room for every membership.
+#![tactic(auto)]
+
 ghost use Rattle.std.specs.Prelude.{◌≡◌, true, ◌<◌};
 ghost use Rattle.serial.specs.Model.{empty};
 ghost use Rattle.journal_lines.specs.Journal.{said, of_run, committed, feeds, verdict_of};

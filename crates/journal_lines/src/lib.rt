@@ -3,6 +3,8 @@
 // specs/Journal has the definitions of the whole verdict: chains, lines, codes and numbers, committed runs, answers. The code here answers whether the file
 // can be read (15) and whether its codes and numbers are document 01's and no run goes on after its commit (16). specs/Walks says what stands at each place
 // of a chain that ends, specs/Loops and specs/Ways what the loops and tests keep.
+#![tactic(auto)]
+
 ghost use Rattle.std.specs.Prelude.{◌≡◌, true, not, ◌&&◌, []};
 ghost use Rattle.journal_lines.specs.Journal.{chain_from, line_of, list_of, whole, lines_after, lines, said, is_some, proper_entry, proper_key, proper, all_proper, none_of, all_end};
 ghost use Rattle.journal_lines.specs.Loops.{lines_from, ahead, in_order};

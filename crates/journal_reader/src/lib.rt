@@ -2,6 +2,8 @@
 //
 // The work is done by `record_at` and `next_at`, covered functions of a slice and a number. The functions over a Reader are thin, and proved by hand; whoever
 // walks a journal calls `read` and `follow`, which have plain parameters.
+#![tactic(auto)]
+
 ghost use Rattle.std.specs.Prelude.{◌≡◌, ◌+◌, ◌≤◌, ◌<◌, length};
 ghost use Rattle.journal_reader.specs.Record.{word_at, record_from, no_record, record_at};
 

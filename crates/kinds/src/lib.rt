@@ -3,3 +3,5 @@
 // specs/Kind.antt promises, for any such pair: a record that is written reads back as what was written, every other record
 // reads as before in whatever kind, and the store keeps its length. There is no code here.
 // It rests on the crate words.
+#![tactic(auto)]
+

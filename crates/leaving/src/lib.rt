@@ -5,6 +5,8 @@
 // numbered. Each function promises that its result, or the store it leaves, EQUALS a definition of specs/Words. The theorems over
 // layouts: FreshRow (format), Begun (begin), Asking (put), LeaveRow and FreedRow (the two parts of commit; abort ends with the first),
 // Commit. It rests on the crates words, scans, undo_log and endings, and for the theorems on seniority, layout and what lies below it.
+#![tactic(auto)]
+
 ghost use Rattle.std.specs.Prelude.{◌≡◌};
 ghost use Rattle.leaving.specs.Words.{choice, ChoiceReady, tidy_aim, aim_of, asked, PutReady, leave_all, LeaveReady, commit_words, CommitReady};
 

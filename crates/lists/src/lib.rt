@@ -5,6 +5,8 @@
 // that list. An entry has one exclusive holder, so the order between the records of different sessions does not matter. Nothing is filed
 // past the end of what was filed, so files may be as short as there is need. Each function's result, and what it leaves, EQUAL a definition
 // of specs/Lists. It rests on the crates words, groups, undos, marks and undo_chains.
+#![tactic(auto)]
+
 ghost use Rattle.std.specs.Prelude.{◌≡◌, ◌≤◌, ◌<◌, length, get_or};
 ghost use Rattle.words.specs.Store.{HasRecord};
 ghost use Rattle.marks.specs.Marks.{HasRecords};

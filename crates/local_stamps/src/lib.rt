@@ -1,6 +1,8 @@
 // Local stamps: the two conversions for the planner, a C program, on plain numbers (M-103).
 //
 // Nothing is asked of the caller; each answer, and what the lent bytes hold then, equal definitions of specs/Exported. It rests on stamps.
+#![tactic(auto)]
+
 ghost use Rattle.std.specs.Prelude.{◌≡◌, length};
 ghost use Rattle.stamps.specs.Laws.{Proper};
 ghost use Rattle.local_stamps.specs.Exported.{served, to_utc, bytes_of, Filled};

@@ -4,6 +4,8 @@
 // specs/Holders; specs/Blockers says what they mean: the word of conflicts has exactly the sessions of the list `blockers`,
 // and the lock count is the length of the list of holders. All facts are over a number of sessions, of which a word has room
 // for 32. It rests on no other crate.
+#![tactic(auto)]
+
 ghost use Rattle.std.specs.Prelude.{◌≡◌, cond, ◌≤◌, ◌<◌, length};
 ghost use Rattle.locks.specs.Rule.{agrees_of};
 ghost use Rattle.locks.specs.Holders.{word_bits, holds, held_by, left_by, holders, conflicts, blockers, first_of, padded};

@@ -4,6 +4,8 @@
 // machine's count of free records, or the holders of demand 2, of stored and of empty keys, and 9 for a key that is an infinity. specs/Looking has what the code
 // reads of the words, specs/Halves how two words of holders fit in one, specs/Read that what is read is what the words mean. It rests on soundness for the test,
 // on scans and groups for the walks, on marks for the test of a key, on promises for the holders.
+#![tactic(auto)]
+
 ghost use Rattle.std.specs.Prelude.{◌≡◌};
 ghost use Rattle.words.specs.Store.{HasRecord};
 ghost use Rattle.meaning.specs.Sound.{Sound};

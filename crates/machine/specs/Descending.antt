@@ -371,7 +371,7 @@ module _ (p x : ℕ) (s : State) (u : Tree 1) (o : Ordered s) (F : StoodAt p x s
     where
       go : Dec (x ≡ k) → pins_in k (lvs (pruned p x s)) ≡ pins_in k (lvs s)
       go (yes z) = subst (λ j. pins_in j (lvs (pruned p x s)) ≡ pins_in j (lvs s)) z
-          (placed-none x (suc top) gone (lvs (pruned p x s)) (lvs s) e pruned-placed ∙ sym (placed-here x (suc top) gone (lvs (pruned p x s)) (lvs s) e pruned-placed ∙ T.not-Pinned))
+          (placed-none x (suc top) gone (lvs (pruned p x s)) (lvs s) e pruned-placed ∙ sym (placed-here x (suc top) gone (lvs (pruned p x s)) (lvs s) e pruned-placed ∙ T.not_pinned))
       go (no n) = sym (placed-other x (suc top) gone (lvs (pruned p x s)) (lvs s) e pruned-placed k n)
 
   pruned-other : (z : ℕ) → ¬ (x ≡ z) → stored_in z (lvs (pruned p x s)) ≡ stored_in z (lvs s)

@@ -164,7 +164,7 @@ kept k s o le e =
       d = C.d;
       B = C.B;
       key = sym (ap (λ d. d.key) q) ∙ e;
-      low = in-wide 0 C.lo 0 k C.A C.low (omega arith) C.at_least_lem;
+      low = in-wide 0 C.lo 0 k C.A C.low (omega arith) C.at_least;
       high = in-wide (suc C.hi) (suc top) (suc k) (suc top) C.B C.high (let z = C.at_most in omega arith) (omega arith);
       was = C.was;
       desc = q;

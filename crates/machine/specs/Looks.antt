@@ -165,7 +165,7 @@ kept_at k s o h =
     key C = ap (λ o. (or_none o).key) C.leaf ∙ go (stored-parts k C.A C.d C.B (subst (λ l. stored_in k l ≡ true) C.was h))
       where
         go : (stored_in k C.A ≡ true) ⊎ ((C.d.key ≡ k) ⊎ (stored_in k C.B ≡ true)) → C.d.key ≡ k
-        go (inl q) = absurd (omega (arith, (stored-range k 0 C.lo C.A C.low q).1, C.at_least_lem))
+        go (inl q) = absurd (omega (arith, (stored-range k 0 C.lo C.A C.low q).1, C.at_least))
         go (inr (inl q)) = q
         go (inr (inr q)) = absurd (omega (arith, (stored-range k (suc C.hi) (suc top) C.B C.high q).0, C.at_most))
 

@@ -36,7 +36,7 @@ module _ (w x h : ℕ) (t : Tree h) (u : Tree 1) (from upto : ℕ) (F : Found w 
 
   pub the-hit : Hit (Ord 0) x F.lo (suc F.hi) u.sons
   unfolding Ord
-  the-hit = hit (Ord 0) x F.lo (suc F.hi) u.sons F.ord F.at_least_lem (let z = F.at_most in omega arith)
+  the-hit = hit (Ord 0) x F.lo (suc F.hi) u.sons F.ord F.at_least (let z = F.at_most in omega arith)
 
   module _ (H : Hit (Ord 0) x F.lo (suc F.hi) u.sons) where
     pub key_is : pick x no_desc same u.sons ≡ H.a

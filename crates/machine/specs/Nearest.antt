@@ -123,6 +123,7 @@ next x s o k h q = subst (Next x s) (sym (ap or_none N.is)) (record { K = K; sam
     same = ap or_none (sym (lowest-here N.d.key 0 K.d K.key K.A K.B K.low) ∙ sym (ap (lowest_from N.d.key) K.was) ∙ N.again)
 
 words-stored : (y : ℕ) (l : List Desc) → Stored y (words l) → stored_in y l ≡ true
+words-stored y [] x' = elim x' [ ]
 words-stored y (d ∷ l) (inl e) = stored_here y d (sym e) [] l
 words-stored y (d ∷ l) (inr h) = stored-behind y d l (words-stored y l h)
 
@@ -157,7 +158,7 @@ takes_of {s} S p r x e g = record { passing = P; next = N; to-second = N.least r
     within : (z : ℕ) → x ≤ z → z < (or_none (lowest_from x (stored s))).key → Dec (r.first ≡ x) → holders s L.group weak p z ≡ true
     within z a b (yes q) = absurd (omega (arith, N.least r.first ends.0 (omega (arith, q)), a, b, q))
     within z a b (no q) =
-        let f : r.first < x = let y = P.from_First in omega arith in
+        let f : r.first < x = let y = P.from_first in omega arith in
         ap (λ w. holds w p) (gap-holds (x - 1) z s (sound-ordered S) (omega (arith, a, f)) (λ y i c d. omega (arith, N.least y i (omega (arith, c)), b, d))) ∙ P.ahead f
 
     below : (z : ℕ) → r.first ≤ z → z < (or_none (lowest_from x (stored s))).key → holders s L.group weak p z ≡ true

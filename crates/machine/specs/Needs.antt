@@ -2,7 +2,7 @@
 -- nobody is in its way and the lent list is shorter than twice the number of memberships in the range, which comes back.
 use Rattle.std.specs.Prelude.{◌≡◌, refl, Bool, true, false, cond, not, ◌&&◌, List, [], ◌∷◌, ◌↔◌, zero, suc, ◌-◌, ◌*◌, ◌<◌, ℕ, leb, ltb, eqb, length}
 use Rattle.std.proofs.Common.{sym, ◌∙◌, subst, ap, arith}
-use Rattle.std.proofs.Math.Logic.{Iff·trans}
+use Rattle.std.proofs.Math.Logic.Iff.{trans as iff_trans}
 use Rattle.std.proofs.Math.Option.{some}
 use Rattle.serial.specs.Serial.{true≢false}
 use Rattle.serial.specs.Locks.{weak, strong}
@@ -181,7 +181,7 @@ in_words f h = ((λ x. let z = h.0 x in (z.0, f.0 z.1, z.2)), λ z. h.1 (z.0, f.
 -- Every step of every party, from every sound state.
 pub step-11 : (n p : ℕ) (r : Request) (s : State) → Sound s → (session_of p s).hand ≡ some r → (k : ℕ)
     → ((settled s r.stage (next_step n p r s r.stage)).answer ≡ refused 11 k) ↔ ((k ≡ 0) × ((q : ℕ) → ¬ InTheWay p r s r.stage q) × (s.free < step_needs p r s r.stage))
-step-11 n p r s S e k = Iff·trans (settled_says s r.stage (next_step n p r s r.stage) (refused 11 k) refl) (in_words (nobody-in-the-way S p r e) (step-lacks n p r s r.stage k))
+step-11 n p r s S e k = iff_trans (settled_says s r.stage (next_step n p r s r.stage) (refused 11 k) refl) (in_words (nobody-in-the-way S p r e) (step-lacks n p r s r.stage k))
 
 -- ---- 12
 
@@ -266,4 +266,4 @@ module _ (n p : ℕ) (r : Request) (s : State) (S : Sound s) (e : (session_of p 
   -- Every step of every party, from every sound state.
   pub step-12 : (k : ℕ)
       → ((settled s r.stage (next_step n p r s r.stage)).answer ≡ refused 12 k) ↔ (AtSecond r s r.stage × ((q : ℕ) → ¬ InTheWay p r s r.stage q) × TooShort r s n k)
-  step-12 k = Iff·trans (settled_says s r.stage (next_step n p r s r.stage) (refused 12 k) refl) (in_words (nobody-in-the-way S p r e) (step-12-at r.stage k refl))
+  step-12 k = iff_trans (settled_says s r.stage (next_step n p r s r.stage) (refused 12 k) refl) (in_words (nobody-in-the-way S p r e) (step-12-at r.stage k refl))

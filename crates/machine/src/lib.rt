@@ -7,3 +7,5 @@
 // if document 01 says so, and otherwise goes forward), Demand3 (demand 3 for every list of calls), Begins and Line (the order of begins: what an accepted begin
 // numbers, and over every list of calls the numbers stand in the order of begins). The crate `cases` has worked examples.
 // Rests on: `serial` for the logical model and the serial-run theorem, `locks` for the bits of holders words, `words` for how many records a store has.
+#![tactic(auto)]
+

@@ -6,6 +6,8 @@
 //
 // It promises that every function is safe and ends. choices chooses what a journal is made by, make makes it, answers has the store and the lists; book
 // has all numbers in one array, records the bytes.
+#![tactic(auto)]
+
 pub mod answers;
 pub mod book;
 pub mod choices;

@@ -4,6 +4,8 @@
 // as, refuses one that is marked already, and counts down how many may still be met. Each function's result, and the marks it
 // leaves, EQUAL a definition of specs/Marks; specs/Trail has the walk along a chain of records, defined once for every chain, with the
 // lemmas that a loop along a chain needs; specs/Steps has lemmas of the tests. It rests on the crate words.
+#![tactic(auto)]
+
 ghost use Rattle.std.specs.Prelude.{◌≡◌, ◌<◌, length};
 ghost use Rattle.marks.specs.Marks.{entry_ok, key_ok, Met, meet, is_new, start, is_met};
 

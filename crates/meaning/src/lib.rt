@@ -6,3 +6,5 @@
 // Writes), a tree with a hole (Around, Lens), the node where a session stands (Stand, Latched), sessions (Table), a group with one member more or less
 // (Grouping).
 // It rests on `machine` for states and on the crates of record kinds for what a record's words say.
+#![tactic(auto)]
+

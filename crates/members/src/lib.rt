@@ -3,6 +3,8 @@
 // A descriptor is pinned and held; a record becomes the first member of a group, or goes out of it by its neighbours. It promises that
 // the store each function leaves EQUALS a definition of specs/Members. What must hold before is one record. Nothing here says what a
 // lock or a group means. It rests on words for where words lie, on groups (and kinds) for the records, on locks for holders.
+#![tactic(auto)]
+
 ghost use Rattle.std.specs.Prelude.{◌≡◌};
 ghost use Rattle.members.specs.Members.{Pinnable, Pinned, Holdable, Linkable, Nextable, Puttable, Takeable, pin_at, unpin_at, locate_at, pass_at, update_at, member_or, put_before, put_next, put_member, take_member};
 

@@ -9,6 +9,8 @@
 //
 // It promises that every function is safe and ends, on any words. That it does what these documents say is tested and not proved. It rests on naive_tree
 // for its arrays, descriptors and tree, on naive_steps for the descent, the parties, the order of begins and the undo log.
+#![tactic(auto)]
+
 mod request;
 
 use crate::request::change;

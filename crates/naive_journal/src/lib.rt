@@ -6,6 +6,8 @@
 // list is right if each of its pairs is a membership in the range and comes behind the one before, and if there are as many as the bag has in the range.
 //
 // It promises that every function is safe and ends, on any bytes. That it does what these say is tested and not proved.
+#![tactic(auto)]
+
 mod chains;
 mod fields;
 mod held;

@@ -3,6 +3,8 @@
 // descent is the way from the root to the lowest node of a key, a step a level; line the begun sessions in the order in which they began; party the requests
 // in hand and what is told of a call; undo the log of what abort takes back, and the end of a session. It promises that every function is safe and ends, on
 // any words. It rests on naive_tree for the model's arrays, descriptors and tree.
+#![tactic(auto)]
+
 pub mod descent;
 pub mod line;
 pub mod party;

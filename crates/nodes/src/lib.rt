@@ -8,6 +8,8 @@
 // laws of a node written to a store), Ops (the son on the path to a key, a node of one son, another latch). For the layers above,
 // Live has the sons and boundaries in use, Entries the same as entries (son, upper bound), Paths the son of a node in a store.
 // Nothing here says what a tree is. It rests on the crates words and kinds.
+#![tactic(auto)]
+
 ghost use Rattle.std.specs.Prelude.{◌≡◌, ◌≤◌, ◌<◌, length, get_or, set};
 ghost use Rattle.words.specs.Store.{HasRecord};
 ghost use Rattle.nodes.specs.Node.{encode_node, decode_node, node_at, put_node};

@@ -2,6 +2,8 @@
 //
 // specs/Said.antt sets out document 01's word and numbers for each case of an answer; every promise uses it. There is no code here. It rests on `serial`
 // for answers as they are told, on `sessions` for the record and the table.
+#![tactic(auto)]
+
 use sessions::{PARTIES, Session};
 
 #[derive(Clone, Copy)]

@@ -2,6 +2,8 @@
 //
 // It promises that the number is the packing of the answer, and of how many steps were made for it or, of a day call, of its place, which loses nothing:
 // both are read back from it (specs/Packed). It rests on outcomes for answers, on serial for answers as they are told.
+#![tactic(auto)]
+
 ghost use Rattle.std.specs.Prelude.{◌≡◌, ◌<◌, ◌≤◌};
 ghost use Rattle.outcomes.specs.Said.{said, day_place};
 ghost use Rattle.packing.specs.Packed.{box, Packs, PacksMade, PacksDay};

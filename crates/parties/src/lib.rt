@@ -3,6 +3,8 @@
 //
 // These are the loops over the table's records. Each function's result, and what it leaves, EQUAL a definition of specs/Parties. It
 // rests on the crates sessions, marks, undo_chains and standing.
+#![tactic(auto)]
+
 ghost use Rattle.std.specs.Prelude.{◌≡◌, ◌<◌, length};
 ghost use Rattle.marks.specs.Marks.{HasRecords};
 ghost use Rattle.marks.specs.Trail.{Turned, Ends};

@@ -3,6 +3,8 @@
 // Which locates have passed a key changes at few keys, so it is found for a range of keys, and found anew only where it may change. Whose
 // locates are asked to hold a key and its gap EQUALS a definition of specs/Asked, which looks at each key by itself; specs/Passed says what
 // is kept from one key to the next. It rests on the crates locks, sessions, marks and holders.
+#![tactic(auto)]
+
 ghost use Rattle.std.specs.Prelude.{◌≡◌, ◌&&◌, ◌+◌, min, ltb, leb};
 ghost use Rattle.holders.specs.Holders.{sessions_with};
 ghost use Rattle.passing.specs.Asked.{has_passed, needs_gap, asked_at};

@@ -7,3 +7,5 @@
 // ordinary calls, and Making how such lists are made. There is no code here. It rests on `machine` for what a call does and for the demands on states, on
 // `meaning` and `layout` for what words mean, on `soundness` for the test, on `refusals` for the numbers, on `seniority` for who began first, and on the rows:
 // leaving, aborting, starting, root_entry, walking, arriving, changing and taking.
+#![tactic(auto)]
+

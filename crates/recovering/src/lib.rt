@@ -2,6 +2,8 @@
 //
 // The housekeeper's request ends, and then each begun session that is not asked aborts, one after another. It promises that words and table EQUAL
 // aborting's definition (RecoverRow.recover_words), from words that stand for a sound state. It rests on aborting and endings.
+#![tactic(auto)]
+
 ghost use Rattle.std.specs.Prelude.{◌≡◌, true};
 ghost use Rattle.aborting.specs.Words.{AbortReady};
 ghost use Rattle.aborting.specs.RecoverRow.{lapsing, kept, recover_words};

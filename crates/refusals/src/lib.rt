@@ -5,6 +5,8 @@
 // list whose test is true (Refusing.first_of), the lists being document 01's order. Refusing proves that these lists are the machine's, on sound words;
 // Coded that the checks of a request are those of its code. It rests on the crates sessions, endings for an idle record, words for how many records a
 // store has, meaning and machine.
+#![tactic(auto)]
+
 ghost use Rattle.std.specs.Prelude.{◌≡◌, ◌||◌, ◌≤◌, eqb, ltb, set};
 ghost use Rattle.sessions.specs.Sessions.{session_at};
 ghost use Rattle.machine.specs.Holders.{width};

@@ -3,6 +3,8 @@
 // The arrays hold a value for each entry, and the memberships as keys and entries side by side, rising by key and then by entry. `feed` promises that its
 // answer and the arrays after it are those of the model (specs/Held). What the place of a membership is, and that the arrays rise when one is put in or
 // taken out there, say Places for any order and Members for keys and entries. It rests on serial for the model and on reshaping for the arrays.
+#![tactic(auto)]
+
 ghost use Rattle.std.specs.Prelude.{◌≡◌, ◌≤◌, ◌<◌, length, get_or, set};
 ghost use Rattle.replay.specs.Held.{Ready, Feeds};
 ghost use Rattle.replay.specs.Members.{Tells, Sorted, place-in, Finds, Inserts, Removes};

@@ -2,6 +2,8 @@
 //
 // Each function's result EQUALS a definition of specs/Requests. Of the store only the number of its entries is looked at: whether what
 // the stage says is true of the tree and the locks is the crate standing's matter. It rests on the crates sessions and marks.
+#![tactic(auto)]
+
 ghost use Rattle.std.specs.Prelude.{◌≡◌};
 ghost use Rattle.requests.specs.Requests.{value_ok, change_ok, locate_stage, locate_ok, tidy_ok, code_ok, request_ok};
 

@@ -6,6 +6,8 @@
 // Each function promises that its result EQUALS a definition of specs/Ops. For the layers above, Live says what each operation does
 // to the sons and boundaries in use, and Entries what it does to entries (son, upper bound): split is take and drop, join is append.
 // Nothing here reads a store, or says what a tree is. It rests on the crates words, kinds and nodes.
+#![tactic(auto)]
+
 ghost use Rattle.std.specs.Prelude.{◌≡◌, ◌+◌, ◌≤◌, ◌<◌, length};
 ghost use Rattle.std.proofs.Math.Seq.{paste};
 ghost use Rattle.reshaping.specs.Ops.{insert_in, remove_in, insert_son, insert_before, insert_behind, drop_son, remove_before, remove_behind, remove_son, set_bound, split_node, join_nodes, move_from_left, move_from_right};

@@ -7,6 +7,8 @@
 // It promises that the words left, the party's session record and the answer EQUAL a definition of specs/RootEntry, and (specs/Enter)
 // that from words which hold a layout of a sound state this is the machine's step; specs/Ready says that such words have what the code
 // asks for. It rests on the crates that read and write nodes, on `finishing` for the end of a request, on `walking` for the effects.
+#![tactic(auto)]
+
 ghost use Rattle.std.specs.Prelude.{◌≡◌, ◌≤◌};
 ghost use Rattle.machine.specs.Holders.{width};
 ghost use Rattle.words.specs.Store.{HasRecord};

@@ -6,6 +6,8 @@
 // (specs/Seats). Whom a wait names is asked of the table, once, after the loop. A scan goes on from the descriptor that its last step took (specs/Scans); the
 // place is handed on inside a run and stored nowhere. It rests on refusals for the numbers and the party's record, on stepping and taking for the steps, on
 // groups for the descriptor that is next.
+#![tactic(auto)]
+
 ghost use Rattle.std.specs.Prelude.{◌≡◌};
 ghost use Rattle.words.specs.Store.{HasRecord};
 ghost use Rattle.outcomes.specs.Said.{said};

@@ -3,6 +3,8 @@
 // A line is a word, of which only the first letter counts, and numbers. Base, Sample and Case begin a store and are for the reader of the
 // lines; any other line adds a part, or changes a word. What is not a number ends a line. It shares no code with the store and rests on
 // nothing.
+#![tactic(auto)]
+
 mod build;
 pub mod lines;
 pub mod words;

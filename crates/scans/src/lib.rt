@@ -3,6 +3,8 @@
 // It promises that each walk's result EQUALS a definition of specs/Scans, and that of the lent list exactly the words of the range are
 // written: the keys as the chain has them, under each key the entries in rising order, and every later word as it was. specs/Rising says that
 // this order does not depend on the order of the members. Nothing here writes the store. It rests on the crates words, kinds, groups and chain.
+#![tactic(auto)]
+
 ghost use Rattle.std.specs.Prelude.{◌≡◌, ◌++◌, ◌+◌, ◌*◌, ◌≤◌, ◌<◌, length, drop};
 ghost use Rattle.chain.specs.Walk.{Walk};
 ghost use Rattle.scans.specs.Scans.{last_upto, CanFollow, memberOf, entries_in, range_words, range_count, CanCount, CanWrite, Settled, insert_pair, GroupFits, GroupWritten};

@@ -5,6 +5,8 @@
 // alone and shares no code with the store. The logical model is document 01's: a value for each entry, a set of memberships, sessions run whole. days
 // has the day that a party keeps and reads it on its own, without the crates that the store reads it with. What is promised is that every function is
 // safe and ends. It rests on no other crate.
+#![tactic(auto)]
+
 pub mod book;
 pub mod content;
 pub mod days;

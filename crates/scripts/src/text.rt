@@ -1,5 +1,6 @@
 // Text: answers as lines of text, written at the start of a text. What has no room is left out; no line of the trace is so long.
-ghost use Rattle.io.specs.Counts.{IsPrefixLen};
+ghost use Rattle.std.specs.Prelude.{◌≤◌};
+ghost use Rattle.scripts.specs.Counts.{IsPrefixLen};
 
 use outcomes::Answer;
 
@@ -36,10 +37,27 @@ fn push_all(out: &mut Text, from: usize, bytes: &[u8]) -> usize {
     at
 }
 
+// Where the number begins whose digits are put at the end of these.
+fn decimal(n: u64, digits: &mut [u8; 20]) -> usize
+    ensures { result ≤ 20 }
+{
+    let mut at = 20;
+    let mut rest = n;
+    while at > 0 {
+        at -= 1;
+        digits[at] = b'0' + (rest % 10) as u8;
+        rest /= 10;
+        if rest == 0 {
+            return at;
+        }
+    }
+    at
+}
+
 fn push_number(out: &mut Text, at: usize, n: u64) -> usize {
     let mut digits = [0u8; 20];
-    let k = io::decimal(n, &mut digits);
-    push_all(out, at, &digits[..k])
+    let from = decimal(n, &mut digits);
+    push_all(out, at, &digits[from..])
 }
 
 fn push_spaced(out: &mut Text, from: usize, n: u32) -> usize {

@@ -3,6 +3,8 @@
 //
 // It promises the record as the table has it, an idle one for a number that is no party's. It rests on sessions for the record, on outcomes for
 // answers, on refusals for a party's record.
+#![tactic(auto)]
+
 ghost use Rattle.std.specs.Prelude.{◌≡◌};
 ghost use Rattle.sessions.specs.Sessions.{session_at};
 

@@ -4,6 +4,8 @@
 // index. Each function's result EQUALS a definition of specs/Seniority, over the sessions 1 to 16; specs/Laws says what these mean: the table
 // renumbered, record by record; that no two begun sessions share a number; who of a holders word began first. It rests on the crates locks and
 // sessions.
+#![tactic(auto)]
+
 ghost use Rattle.std.specs.Prelude.{◌≡◌, cond, suc, ◌-◌, ◌≤◌};
 ghost use Rattle.locks.specs.Holders.{width};
 ghost use Rattle.sessions.specs.Sessions.{parties, is_begun};

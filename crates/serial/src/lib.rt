@@ -5,3 +5,5 @@
 // as `Laws` says, keeps all three sentences of demand 3 for every list of calls. Line has the begun sessions in the order of their begins, read off calls and
 // answers alone.
 // Rests on: nothing but the language's library.
+#![tactic(auto)]
+

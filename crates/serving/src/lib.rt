@@ -3,6 +3,8 @@
 // Each asks for the refusals in the order of the rules, then does its row. Each promises what the crate promises says of a call on sound words (Serves): the
 // answer is the machine's, store and table mean the machine's next state, and they are sound again; so whoever makes several calls tests once. It rests on
 // refusals for the numbers, on accepted and, for a step, stepping for what a call does that nothing refuses.
+#![tactic(auto)]
+
 ghost use Rattle.std.specs.Prelude.{[]};
 ghost use Rattle.serial.specs.Calls as C;
 ghost use Rattle.outcomes.specs.Said.{said};

@@ -2,6 +2,7 @@
 //
 // Party 0 is the housekeeper, 1 to 16 are sessions; record p is party p's. A field that is not in use for the request and stage in hand
 // may have any value. Nothing here says which records are sound. It rests on `locks` for how many sessions there are.
+#![tactic(auto)]
 
 // How many parties there are: the sessions and the housekeeper.
 pub const PARTIES: usize = 17;

@@ -5,6 +5,8 @@
 // of specs/Sound (`firstFault`, `isSound`); specs/Sizes has the sizes that format gives, specs/Faults the numbers of the parts. The time is
 // linear in the words of the store. It rests on the crates words, groups, sessions, seniority, marks, undo_chains, parties, tree_walk, holders
 // and holdings.
+#![tactic(auto)]
+
 ghost use Rattle.std.specs.Prelude.{◌≡◌, ◌+◌, ◌*◌, ◌≤◌, ◌<◌, length};
 ghost use Rattle.marks.specs.Marks.{HasRecords};
 ghost use Rattle.marks.specs.Trail.{Ends};

@@ -133,14 +133,14 @@ module _ (s seen : List ℕ) (K : TreeKnown s seen) where
     path-stored : stored_in key (descs (leaves_of s)) ≡ true → on-path.l.desc.key ≡ key
     path-stored e =
         let S = on-path in
-        stored-split key S.A S.l S.B 0 S.lo S.hi (suc top) S.low S.high S.at_least_lem S.at_most
+        stored-split key S.A S.l S.B 0 S.lo S.hi (suc top) S.low S.high S.at_least S.at_most
         (subst (λ (x : List Leaf). stored_in key (descs x) ≡ true) S.was e)
 
     stored-path : on-path.l.desc.key ≡ key → stored_in key (descs (leaves_of s)) ≡ true
     stored-path e =
         let S = on-path in
         ap (λ (x : List Leaf). stored_in key (descs x)) S.was
-        ∙ split-stored key S.A S.l S.B 0 S.lo S.hi (suc top) S.low S.high S.at_least_lem S.at_most e
+        ∙ split-stored key S.A S.l S.B 0 S.lo S.hi (suc top) S.low S.high S.at_least S.at_most e
 
     path-in : In on-path.l.num (nums (leaves_of s))
     path-in = let S = on-path in subst (λ (x : List Leaf). In S.l.num (nums x)) (sym S.was) (in-mid S.A S.l S.B)
@@ -149,7 +149,7 @@ module _ (s seen : List ℕ) (K : TreeKnown s seen) where
     path-says = let S = on-path in (all_right (λ (x : Leaf). x.desc.key ≡ key_word s x.num) S.A (S.l ∷ S.B) (subst (Says (key_word s)) S.was says)).0
 
     path-record : on-path.l.desc.key ≡ key → record_of key (leaves_of s) ≡ on-path.l.num
-    path-record e = let S = on-path in ap (record_of key) S.was ∙ record_at key 0 S.lo S.A S.l S.B S.low S.at_least_lem e
+    path-record e = let S = on-path in ap (record_of key) S.was ∙ record_at key 0 S.lo S.A S.l S.B S.low S.at_least e
 
     pub record-in : stored_in key (descs (leaves_of s)) ≡ true → In (record_of key (leaves_of s)) (nums (leaves_of s))
     record-in e = subst (λ (i : ℕ). In i (nums (leaves_of s))) (sym (path-record (path-stored e))) path-in
@@ -161,7 +161,7 @@ module _ (s seen : List ℕ) (K : TreeKnown s seen) where
     pub record-only : (i : ℕ) → In i (nums (leaves_of s)) → key_word s i ≡ key → (stored_in key (descs (leaves_of s)) ≡ true) × (i ≡ record_of key (leaves_of s))
     record-only i n e =
         let S = on-path in
-        let q = number-split (key_word s) key i S.A S.l S.B 0 S.lo S.hi (suc top) S.low S.high S.at_least_lem S.at_most
+        let q = number-split (key_word s) key i S.A S.l S.B 0 S.lo S.hi (suc top) S.low S.high S.at_least S.at_most
         (subst (Says (key_word s)) S.was says) (subst (λ (x : List Leaf). In i (nums x)) S.was n) e in
         (stored-path q.1, q.0 ∙ sym (path-record q.1))
 
@@ -179,7 +179,7 @@ module _ (s seen : List ℕ) (K : TreeKnown s seen) where
     path-pins e =
         let S = on-path in
         ap (λ (x : List Leaf). pins_in key (descs x)) S.was ∙ ap (pins_in key) (map-append (λ (x : Leaf). x.desc) S.A (S.l ∷ S.B))
-        ∙ pins-at key 0 S.l.desc e (descs S.A) (descs S.B) (in-wide 0 S.lo 0 key (descs S.A) S.low (omega arith) S.at_least_lem)
+        ∙ pins-at key 0 S.l.desc e (descs S.A) (descs S.B) (in-wide 0 S.lo 0 key (descs S.A) S.low (omega arith) S.at_least)
 
     pub pins_stored : (P : ℕ → Type 0) → All (λ (l : Leaf). l.desc.key ≡ key → P l.desc.pins) (leaves_of s) → stored_in key (descs (leaves_of s)) ≡ true
         → P (pins_in key (descs (leaves_of s)))

@@ -4,6 +4,8 @@
 // leaves for the next), a file for each pass, Walked (each pass goes well exactly if its part holds), Named (the number that the test answers names the first
 // part that is broken), Sounds and Exactly (Sound is all parts; the two directions, `test-sound` and `sound-test`). It rests on the crates of the test for
 // its definition, on `meaning` for what is sound.
+#![tactic(auto)]
+
 ghost use Rattle.std.specs.Prelude.{◌≡◌, true, ◌↔◌};
 ghost use Rattle.meaning.specs.Sound.{Sound};
 ghost use Rattle.soundness.specs.Parts.{Table};

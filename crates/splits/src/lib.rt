@@ -6,6 +6,8 @@
 //
 // Each function promises that the words it leaves, and what it answers, EQUAL a definition of specs/Splits, where also stands what it
 // asks for. It rests on the crates words, kinds, nodes, reshaping and chain.
+#![tactic(auto)]
+
 ghost use Rattle.std.specs.Prelude.{◌≡◌, ◌≤◌, length};
 ghost use Rattle.words.specs.Store.{HasRecord};
 ghost use Rattle.nodes.specs.Node.{node_at};

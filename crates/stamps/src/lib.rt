@@ -2,6 +2,8 @@
 //
 // Each function's result equals a definition of specs/Stamps. Laws for every base offset up to 180: specs/Laws (each minute's stamp reads back), Occurs (a date
 // and time occurs once, twice or never), Refused (each refusal as it is listed), Counts. It rests on calendar for dates and on switches for the switches.
+#![tactic(auto)]
+
 ghost use Rattle.std.specs.Prelude.{◌≡◌, true, ◌≤◌, ◌<◌};
 ghost use Rattle.switches.specs.Switches.{spring, autumn};
 ghost use Rattle.stamps.specs.Stamps.{covered, year, summer, stamp_at, stamp, within, proper_date, proper, local, as_summer, as_winter, unmarked, settle, reading, number};

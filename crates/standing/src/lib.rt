@@ -4,6 +4,8 @@
 // for what its next step may do. An insert or remove past its start holds its entry. What a request pins (document 01: seizes) are
 // the descriptors of its keys; each pin is counted, so that the crate holdings can compare the counts. Each function's result, and the
 // counts it leaves, EQUAL a definition of specs/Standing. It rests on the crates words, nodes, groups, locks, sessions, marks and requests.
+#![tactic(auto)]
+
 ghost use Rattle.std.specs.Prelude.{◌≡◌, ◌<◌, length};
 ghost use Rattle.sessions.specs.Sessions.{parties};
 ghost use Rattle.marks.specs.Marks.{HasRecords};

@@ -6,6 +6,8 @@
 // specs/Starting. specs/First says that this is the machine's step, where the words hold a layout of a sound state (rows: specs/Rows
 // and specs/Writing). It rests on words for where words lie, on locks for who is in the way and on long_locks for what that means, on
 // undo_log for undo records, on endings and outcomes for session records and answers, on layout for what the words mean.
+#![tactic(auto)]
+
 ghost use Rattle.std.specs.Prelude.{◌≡◌, ◌<◌};
 ghost use Rattle.outcomes.specs.Said.{moved};
 ghost use Rattle.starting.specs.Starting.{entry_blocker, shared_words, read_done_of, read_step, excluded_words, write_done_of, write_free, write_step_of, to_first, entry_done_of, entry_step, none_chosen, first_step_of, EntryReady, LogReady, WriteReady, FirstReady};

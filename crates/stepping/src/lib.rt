@@ -7,6 +7,8 @@
 // first. early_step and name_wait are public for a run, which has its party's record in hand and makes the steps of a scan itself (running). It rests on
 // refusals for the party's record, on starting, root_entry, walking, arriving, changing and taking for the rows, on words, groups, locks and seniority for
 // whom a wait names.
+#![tactic(auto)]
+
 ghost use Rattle.std.specs.Prelude.{◌≡◌, ◌≤◌, ◌<◌, length};
 ghost use Rattle.serial.specs.Calls as C;
 ghost use Rattle.outcomes.specs.Said.{said};

@@ -8,6 +8,8 @@
 // so any list of calls after an accepted format keeps demand 3 (specs/Turns, specs/Demand3, specs/Servings), has the holders that its calls were granted and
 // the order of their begins (specs/Holding), its journal is accepted (specs/Journal), and every list of calls has a run. Nothing is asked of the caller. It
 // rests on tables for the lent table, on calls for the calls by value, on seats for what is kept of them.
+#![tactic(auto)]
+
 ghost use Rattle.std.specs.Prelude.{◌≡◌};
 ghost use Rattle.store.specs.Lent.{Formatted, Begun, Put, Stepped, Committed, Aborted, Asked, Recovered, OnTable, SteppedOnTable};
 ghost use Rattle.store.specs.Listed.{RanBy, AskedBy, ListedOnTable};

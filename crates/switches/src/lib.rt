@@ -2,6 +2,8 @@
 //
 // What it finds equals the rule of specs/Switches; specs/Years has where in its year each lies, specs/Sundays that it is 01:00 UTC of the last Sunday
 // of its month. It rests on calendar.
+#![tactic(auto)]
+
 ghost use Rattle.std.specs.Prelude.{◌≡◌, ◌≤◌};
 ghost use Rattle.switches.specs.Switches.{sunday_minute, spring, autumn};
 ghost use Rattle.switches.specs.LongMonths.{LongMonth};

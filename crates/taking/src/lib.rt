@@ -9,6 +9,8 @@
 // such words have what the code asks for; specs/On that after a step below second the descriptor behind the one taken is next, so that whoever makes
 // the next step too need not walk there (next_taken, take_at). It rests on scans for the walks, on members for the locks, on finishing for the
 // request's end.
+#![tactic(auto)]
+
 ghost use Rattle.std.specs.Prelude.{◌≡◌, length};
 ghost use Rattle.members.specs.Members.{Holdable};
 ghost use Rattle.finishing.specs.Finishing.{Endable};

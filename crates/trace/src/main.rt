@@ -2,6 +2,8 @@
 //
 // The store has 16 entries and 700 records, the lent list 1,024 words. Crate tracing says what a script is. If the input cannot be read or what was told
 // cannot be written, it says so on standard error, with the system's reason, and stops.
+#![tactic(auto)]
+
 use libc::{STDIN_FILENO, STDOUT_FILENO};
 use scripts::text::{TEXT, Text, within};
 use tracing::{LIST, STORE, Script};

@@ -6,6 +6,8 @@
 // this form is told as malformed and makes no call. docs/TRACE.md has all of it for whoever writes scripts. What is promised here is that every function is
 // safe and ends; what a call does is promised by `calls`. It rests on `calls`, on `endings` for the table at the start, on `scripts` for the text of a line
 // and of an answer, on `words` for the words of an entry.
+#![tactic(auto)]
+
 pub mod play;
 
 use endings::fresh_session;

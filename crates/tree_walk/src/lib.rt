@@ -5,6 +5,8 @@
 // the descriptors in the order of their keys, for the walk of the groups. The depth of a node says whether its sons are nodes or
 // descriptors. Each function's result, and what it leaves, EQUAL a definition of specs/TreeWalk. It rests on the crates words, nodes,
 // groups and marks.
+#![tactic(auto)]
+
 ghost use Rattle.std.specs.Prelude.{◌≡◌, ◌≤◌, ◌<◌, length};
 ghost use Rattle.words.specs.Store.{HasRecord};
 ghost use Rattle.marks.specs.Marks.{HasRecords};

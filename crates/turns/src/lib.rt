@@ -5,6 +5,8 @@
 // word; numbers gives the parties other numbers in the order of begins and those that are asked other marks. It promises that every function is safe and
 // ends. It rests on books for the book of the run and for what a call is, on naive for the second model, on schedules for random numbers, words, the reading
 // of a day and the logical model.
+#![tactic(auto)]
+
 pub mod answers;
 pub mod damage;
 pub mod days;

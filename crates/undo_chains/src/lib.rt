@@ -5,6 +5,8 @@
 // list once its members are known. Here each record is met once, and its session holds what undoing it needs: the entry's
 // exclusive lock and, for a membership, the update lock of the group of a proper key. Each function's result, and what it leaves, EQUAL
 // a definition of specs/UndoChains. It rests on the crates words, groups, undos, locks and marks.
+#![tactic(auto)]
+
 ghost use Rattle.std.specs.Prelude.{◌≡◌, ◌≤◌, ◌<◌, length};
 ghost use Rattle.words.specs.Store.{HasRecord};
 ghost use Rattle.marks.specs.Marks.{HasRecords};

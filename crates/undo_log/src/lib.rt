@@ -4,6 +4,8 @@
 // definition of specs/: Undoing (undo records and their chain), Freeing (a chain that is given back). What must hold before is one
 // record, or one predicate along the chain. Nothing here says what a lock or a group means. It rests on words for where words lie, on
 // undos (and kinds) for the records, on chain for the free chain, on members (with groups and locks) for members put in and taken out.
+#![tactic(auto)]
+
 ghost use Rattle.std.specs.Prelude.{◌≡◌};
 ghost use Rattle.words.specs.Store.{HasRecord};
 ghost use Rattle.words.specs.Header.{header_word, free_place};

@@ -7,6 +7,8 @@
 //
 // Each function promises that its result, or the store it leaves, EQUALS a definition of specs/Undo.antt (the record's words, and
 // one record for each kind). Nothing here undoes anything. It rests on the crates words and kinds.
+#![tactic(auto)]
+
 ghost use Rattle.std.specs.Prelude.{◌≡◌, length};
 ghost use Rattle.words.specs.Store.{HasRecord};
 ghost use Rattle.undos.specs.Undo.{encode_undo, decode_undo, undo_at, put_undo, undo_value, undo_added, undo_taken};

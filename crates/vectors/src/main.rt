@@ -2,6 +2,8 @@
 //
 // The arguments name files two by two: a script, and the text that it must give. Each script has a store of its own, as in crate trace. A file that cannot
 // be read, or not whole, counts as a difference, and it says so on standard error.
+#![tactic(auto)]
+
 ghost use Rattle.io.specs.Counts.{IsPrefixLen};
 
 use libc::{STDERR_FILENO, STDOUT_FILENO};

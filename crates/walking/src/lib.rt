@@ -6,6 +6,8 @@
 // machine's step, where the words hold a layout of a sound state, and specs/Readies that such words meet what the functions ask for (specs/Ready). The rest of
 // specs is the proof of that: Traces (runs of writes), Holes (a part of the tree replaced), Levels and Pairs (what each way down leaves),
 // Roots and Enters (the same for the root), Sites (where a party stands). It rests on descents, splits and joins for nodes, on finishing for requests that end.
+#![tactic(auto)]
+
 ghost use Rattle.std.specs.Prelude.{◌≡◌, cond, not, ◌&&◌, ◌-◌, ◌≤◌, eqb};
 ghost use Rattle.machine.specs.Holders.{width};
 ghost use Rattle.nodes.specs.Ops.{son_for};

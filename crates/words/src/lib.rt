@@ -5,6 +5,8 @@
 // definition of specs/: Sizes (how many records there are), Window (a run of words of a list, read and replaced), Store (the
 // records), Header, Entries. Frames says what a write of one part leaves of every other part. Nothing here says what the words
 // mean. It rests on no other crate.
+#![tactic(auto)]
+
 ghost use Rattle.std.specs.Prelude.{◌≡◌, ◌≤◌, ◌<◌, length};
 ghost use Rattle.words.specs.Sizes.{records_for};
 ghost use Rattle.words.specs.Store.{entry_words, base_of, HasRecord, word_of};

@@ -1,0 +1,7 @@
+use borrow.Author.Rules.{rules}
+use Rattle.groups.specs.Descriptor.{decode_descriptor}
+use Rattle.groups.proofs.descriptor_locate.Goals as goal
+
+pub returns : goal.returns
+unfolding decode_descriptor
+returns c = c.word.ensures

@@ -1,0 +1,8 @@
+use mathlib.Core.Path.{refl}
+use Rattle.sessions.specs.Sessions.{is_begun}
+use Rattle.holders.proofs.is_begun.Goals as goal
+
+-- The proof of `is_begun`.
+pub returns : goal.returns
+unfolding is_begun
+returns c = refl

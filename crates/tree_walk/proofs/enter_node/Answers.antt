@@ -1,0 +1,6 @@
+use borrow.Author.Rules.{rules}
+use Rattle.tree_walk.proofs.Turns.{entered}
+use Rattle.tree_walk.proofs.enter_node.Goals as goal
+
+pub returns : goal.returns
+returns c = entered _ _ _ _ c.meet-c.ensures
