@@ -22,7 +22,7 @@ export CC
 help: ## this list
 	@sed -n 's/^\([a-z]*\):[^#]*## \(.*\)/\1|\2/p' Makefile | while IFS='|' read -r name what; do \
 	    printf '  make %-10s %s\n' "$$name" "$$what"; done
-	@echo 'Times are of two processors. CRATE, SCRIPT, PREFIX, DESTDIR, FUZZ_SECONDS and CC may be set.'
+	@echo 'Times are of an older kit, on two processors. CRATE, SCRIPT, PREFIX, DESTDIR, FUZZ_SECONDS and CC may be set.'
 
 try: need-rt ## a look: plays SCRIPT (an example) with nothing proved, in seconds
 	@examples/look '$(SCRIPT)'
@@ -32,7 +32,7 @@ prove: need-rt ## proves CRATE (the trace program) and what it rests on, 8 minut
 	@.ci/prove $(CRATE)
 	@if [ '$(CRATE)' = trace ]; then echo 'target/bin/trace < $(SCRIPT)'; target/bin/trace < '$(SCRIPT)'; fi
 
-check: need-rt need-cc ## everything from nothing, 24 minutes: proofs, must-fail edits, programs, the examples in C
+check: need-rt need-cc ## the gate, 24 minutes: proofs, must-fail edits, programs, the examples in C
 	@.ci/run
 
 journals: need-rt ## proves the checker of journals and what it rests on, 2 minutes, and holds it to stored verdicts
@@ -44,7 +44,7 @@ stamps: need-cc $(STAMPS) ## proves and builds local stamps for C, 1 minute, and
 
 archive: $(STAMPS) $(STORE) ## proves and builds both libraries for C, 9 minutes
 
-$(STAMPS) $(STORE): target/staticlib/lib%.a: crates.txt $(shell find crates -path '*/src/*.rt' -o -path '*/specs/*.antt' -o -path '*/proofs/*.antt')
+$(STAMPS) $(STORE): target/staticlib/lib%.a: crates.txt $(shell find crates -path 'crates/*/out' -prune -o \( -name '*.rt' -o -name '*.antt' \) -print)
 	@.ci/archive $*
 
 host: need-cc $(STORE) ## builds the example host, its dump and the fuzz harness, and checks what they print
@@ -74,8 +74,8 @@ bench: ## measures calls, and the same work in SQLite, half a minute; tables and
 fuzz: need-cc $(STORE) ## random calls on random and damaged words for FUZZ_SECONDS (60), under the address sanitizer
 	@$(MAKE) --no-print-directory -C examples/host fuzz CC='$(CC)' FUZZ_SECONDS='$(FUZZ_SECONDS)' FUZZ_SEED='$(FUZZ_SEED)'
 
-clean: ## removes target/, with all that was proved and built
-	rm -rf target
+clean: ## removes target/ and each crate's out/, with all that was proved and built
+	rm -rf target crates/*/out
 
 # ---- what is missing is said before anything is proved
 

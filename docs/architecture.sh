@@ -170,7 +170,8 @@ draw() {
 
     BEGIN { table() }
     /^[a-z]/ {
-        name = substr($1, 1, length($1) - 1)
+        name = $1
+        sub(/:.*/, "", name)
         known[name] = 1
         crates++
         if (!(name in home)) fail("in no box: " name)
@@ -183,7 +184,7 @@ draw() {
 }
 
 names() {
-    sed -n 's/^\([a-z_]*\):.*/\1/p' crates.txt | LC_ALL=C sort
+    sed -n 's/^\([a-z_]*\)[ :].*/\1/p' crates.txt | LC_ALL=C sort
 }
 
 cited() {

@@ -32,6 +32,7 @@ in-mid [] l B = inl refl
 in-mid (a ∷ A) l B = inr (in-mid A l B)
 
 pub has-in-records : (k d : ℕ) (ls : List Leaf) → Has k d ls → Nums.In d (leaf_records ls)
+has-in-records k d [] x' = elim x' [ ]
 has-in-records k d (l ∷ ls) (inl h) = inl (sym h.1)
 has-in-records k d (l ∷ ls) (inr h) = inr (has-in-records k d ls h)
 

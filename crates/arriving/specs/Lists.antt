@@ -55,6 +55,7 @@ has-less k d (a ∷ A) n B ne (inl h) = inl h
 has-less k d (a ∷ A) n B ne (inr h) = inr (has-less k d A n B ne h)
 
 pub in-front : (j : ℕ) (A B : List Leaf) → Nums.In j (leaf_records A) → Nums.In j (leaf_records (A ++ B))
+in-front j [] B x' = elim x' [ ]
 in-front j (a ∷ A) B (inl e) = inl e
 in-front j (a ∷ A) B (inr i) = inr (in-front j A B i)
 

@@ -166,6 +166,7 @@ has-mid k [] l B e = inl (e, refl)
 has-mid k (x ∷ A) l B e = inr (has-mid k A l B e)
 
 pub in_left : (j : ℕ) (a b : List ℕ) → In j a → In j (a ++ b)
+in_left j [] b x' = elim x' [ ]
 in_left j (i ∷ a) b (inl e) = inl e
 in_left j (i ∷ a) b (inr h) = inr (in_left j a b h)
 

@@ -7,12 +7,13 @@
 #![tactic(auto)]
 
 ghost use Rattle.std.specs.Prelude.{◌≡◌, length};
-ghost use Rattle.io.specs.Counts.{IsPrefixLen};
+ghost use Rattle.check_journal.specs.Counts.{IsPrefixLen};
 ghost use Rattle.journal_lines.specs.Journal.{verdict_of};
 ghost use Rattle.check_journal.specs.Text.{text_of};
 ghost use Rattle.check_journal.specs.Cut.{room};
 
-use libc::{STDIN_FILENO, STDOUT_FILENO};
+use std::io;
+use std::io::Read;
 
 // Room for the input.
 fn empty() -> [u8; 65537]
@@ -28,28 +29,47 @@ struct Input {
     is_read: bool,
 }
 
+// The system's reason, without its number.
+fn reason(text: &str) -> &str {
+    match text.split_once(" (os error ") {
+        Some((reason, _)) => reason,
+        None => text,
+    }
+}
+
+// Says on standard error what failed, with the system's reason, as far as that can be written.
+fn fail(rt: &(impl Eprint + Alloc), what: &str, error: io::Error) {
+    if let Ok(text) = format!(in rt.alloc(); "{error}") {
+        let reason = reason(text.as_str());
+        let _ = eprintln!(rt; "{what}: {reason}");
+    }
+}
+
 // Reads until buf is full or the input ends.
-fn read_input(buf: &mut [u8]) -> Input
+fn read_input(rt: &(impl io::Input + Eprint + Alloc), buf: &mut [u8]) -> Input
     ensures { IsPrefixLen result.length buf.new }
 {
+    let mut reader = rt.reader();
     let mut done = 0;
     while done < buf.len() {
-        let got = libc::read(STDIN_FILENO, &mut buf[done..]);
-        if got < 0 {
-            os::fail(b"check_journal: standard input cannot be read");
-            return Input {
-                length: done,
-                is_read: false,
-            };
+        match reader.read(&mut buf[done..]) {
+            Ok(n) => {
+                if n == 0 {
+                    return Input {
+                        length: done,
+                        is_read: true,
+                    };
+                }
+                done += n;
+            }
+            Err(error) => {
+                fail(rt, "check_journal: standard input cannot be read", error);
+                return Input {
+                    length: done,
+                    is_read: false,
+                };
+            }
         }
-        let n = io::count(got, &buf[done..]);
-        if n == 0 {
-            return Input {
-                length: done,
-                is_read: true,
-            };
-        }
-        done += n;
     }
     Input {
         length: done,
@@ -76,15 +96,19 @@ fn judge(bytes: &[u8]) -> [u8; 3]
     text(journal::verdict(bytes))
 }
 
-fn main() {
+fn main(rt: HostRuntime) {
     let mut buf = empty();
-    let input = read_input(&mut buf);
+    let input = read_input(&rt, &mut buf);
     if !input.is_read {
         return;
     }
     let n = input.length;
     let line = judge(&buf[..n]);
-    if !io::write_all(STDOUT_FILENO, &line) {
-        os::fail(b"check_journal: standard output cannot be written");
+    if let Err(error) = rt.write_all(&line) {
+        fail(
+            &rt,
+            "check_journal: standard output cannot be written",
+            error,
+        );
     }
 }

@@ -13,6 +13,7 @@ use made_journals::choices::{choose, is_full};
 use made_journals::make::make;
 use made_journals::records::{BYTES, Journal, copy};
 use report::{note, report};
+use std::io;
 
 const JOURNALS: u32 = 12000;
 
@@ -67,12 +68,12 @@ fn round(b: &mut Book, j: &mut Journal, other: &mut Journal) {
     raise(b, NUMBER);
 }
 
-fn main() {
+fn main(rt: HostRuntime) -> io::Result<()> {
     let mut b = [0u32; BOOK];
     let mut j = [0u8; BYTES];
     let mut other = [0u8; BYTES];
     for number in 0..JOURNALS {
         round(&mut b, &mut j, &mut other);
     }
-    report(&b);
+    report(&rt, &b)
 }

@@ -1,10 +1,10 @@
 // Report: what was counted, and the first difference.
 use changed_journals::CHANGES;
-use libc::STDOUT_FILENO;
 use made_journals::book::{
     AT_CHANGE, AT_FIRST, AT_NUMBER, AT_SECOND, Book, COUNTS, CROSSED, DIFFERENCES, DONE, FULL,
     MADE, NUMBER, RUNS, SHARED, UNDONE, get, plus, put, raise,
 };
+use std::io;
 
 // Where a verdict is counted, among the four of its change.
 fn column(verdict: u32) -> u32 {
@@ -32,42 +32,42 @@ pub fn note(b: &mut Book, change: u32, first: u32, second: u32) {
     }
 }
 
-fn say(text: &[u8]) {
-    io::write_all(STDOUT_FILENO, text);
+fn say(rt: &impl Print, text: &[u8]) -> io::Result<()> {
+    rt.write_all(text)
 }
 
-fn tell(n: u32, label: &[u8]) {
-    io::print_decimal(STDOUT_FILENO, n as u64);
-    say(label);
+fn tell(rt: &impl Print, n: u32, label: &[u8]) -> io::Result<()> {
+    rt.print(n)?;
+    say(rt, label)
 }
 
-fn label(change: u32) {
+fn label(rt: &impl Print, change: u32) -> io::Result<()> {
     match change {
-        0 => say(b"as made"),
-        1 => say(b"a word changed"),
-        2 => say(b"a word one more or less"),
-        3 => say(b"a byte changed"),
-        4 => say(b"the length changed"),
-        5 => say(b"an answer changed"),
-        6 => say(b"a code changed"),
-        7 => say(b"a number changed"),
-        8 => say(b"a record given to another run"),
-        9 => say(b"two commits exchanged"),
-        10 => say(b"two records of the main chain exchanged"),
-        11 => say(b"the main chain changed"),
-        12 => say(b"a list without its first pair"),
-        13 => say(b"a list without its first pair, the answer one less"),
-        14 => say(b"a list without another pair"),
-        15 => say(b"a list with a pair before it"),
-        16 => say(b"a list with a pair before it, the answer one more"),
-        17 => say(b"a list with a pair behind it"),
-        18 => say(b"a list with a pair behind it, the answer one more"),
-        19 => say(b"a pair changed"),
-        20 => say(b"two pairs exchanged"),
-        21 => say(b"a pair twice"),
-        22 => say(b"another list"),
-        23 => say(b"a list that goes on elsewhere"),
-        _ => say(b"two of these"),
+        0 => say(rt, b"as made"),
+        1 => say(rt, b"a word changed"),
+        2 => say(rt, b"a word one more or less"),
+        3 => say(rt, b"a byte changed"),
+        4 => say(rt, b"the length changed"),
+        5 => say(rt, b"an answer changed"),
+        6 => say(rt, b"a code changed"),
+        7 => say(rt, b"a number changed"),
+        8 => say(rt, b"a record given to another run"),
+        9 => say(rt, b"two commits exchanged"),
+        10 => say(rt, b"two records of the main chain exchanged"),
+        11 => say(rt, b"the main chain changed"),
+        12 => say(rt, b"a list without its first pair"),
+        13 => say(rt, b"a list without its first pair, the answer one less"),
+        14 => say(rt, b"a list without another pair"),
+        15 => say(rt, b"a list with a pair before it"),
+        16 => say(rt, b"a list with a pair before it, the answer one more"),
+        17 => say(rt, b"a list with a pair behind it"),
+        18 => say(rt, b"a list with a pair behind it, the answer one more"),
+        19 => say(rt, b"a pair changed"),
+        20 => say(rt, b"two pairs exchanged"),
+        21 => say(rt, b"a pair twice"),
+        22 => say(rt, b"another list"),
+        23 => say(rt, b"a list that goes on elsewhere"),
+        _ => say(rt, b"two of these"),
     }
 }
 
@@ -75,19 +75,20 @@ fn count(b: &Book, change: u32, k: u32) -> u32 {
     get(b, plus(plus(COUNTS, change << 2), k))
 }
 
-fn tell_row(b: &Book, change: u32) {
-    label(change);
-    say(b": ");
-    tell(count(b, change, 0), b" accepted, ");
-    tell(count(b, change, 1), b" by 15, ");
-    tell(count(b, change, 2), b" by 16, ");
-    tell(count(b, change, 3), b" by 17\n");
+fn tell_row(rt: &impl Print, b: &Book, change: u32) -> io::Result<()> {
+    label(rt, change)?;
+    say(rt, b": ")?;
+    tell(rt, count(b, change, 0), b" accepted, ")?;
+    tell(rt, count(b, change, 1), b" by 15, ")?;
+    tell(rt, count(b, change, 2), b" by 16, ")?;
+    tell(rt, count(b, change, 3), b" by 17\n")
 }
 
-fn tell_rows(b: &Book) {
+fn tell_rows(rt: &impl Print, b: &Book) -> io::Result<()> {
     for change in 0..CHANGES {
-        tell_row(b, change);
+        tell_row(rt, b, change)?;
     }
+    Ok(())
 }
 
 // How many journals with a change have a verdict.
@@ -99,30 +100,30 @@ fn sum(b: &Book, k: u32) -> u32 {
     n
 }
 
-fn tell_difference(b: &Book) {
-    tell(get(b, AT_NUMBER), b". journal, ");
-    label(get(b, AT_CHANGE));
-    say(b": ");
-    tell(get(b, AT_FIRST), b" by the first checker, ");
-    tell(get(b, AT_SECOND), b" by the second\n");
+fn tell_difference(rt: &impl Print, b: &Book) -> io::Result<()> {
+    tell(rt, get(b, AT_NUMBER), b". journal, ")?;
+    label(rt, get(b, AT_CHANGE))?;
+    say(rt, b": ")?;
+    tell(rt, get(b, AT_FIRST), b" by the first checker, ")?;
+    tell(rt, get(b, AT_SECOND), b" by the second\n")
 }
 
-pub fn report(b: &Book) {
-    tell(get(b, NUMBER), b" journals made, of these\n");
-    tell(get(b, FULL), b"   of 2048 records\n");
-    tell(get(b, RUNS), b" committed runs\n");
-    tell(get(b, DONE), b" requests of these\n");
-    tell(get(b, UNDONE), b" requests of other runs\n");
-    tell(get(b, MADE), b" list records made\n");
-    tell(get(b, SHARED), b" list records shared, of these\n");
-    tell(get(b, CROSSED), b"   on the main chain\n");
-    tell_rows(b);
-    tell(sum(b, 0), b" changed journals accepted\n");
-    tell(sum(b, 1), b" refused by 15\n");
-    tell(sum(b, 2), b" refused by 16\n");
-    tell(sum(b, 3), b" refused by 17\n");
+pub fn report(rt: &impl Print, b: &Book) -> io::Result<()> {
+    tell(rt, get(b, NUMBER), b" journals made, of these\n")?;
+    tell(rt, get(b, FULL), b"   of 2048 records\n")?;
+    tell(rt, get(b, RUNS), b" committed runs\n")?;
+    tell(rt, get(b, DONE), b" requests of these\n")?;
+    tell(rt, get(b, UNDONE), b" requests of other runs\n")?;
+    tell(rt, get(b, MADE), b" list records made\n")?;
+    tell(rt, get(b, SHARED), b" list records shared, of these\n")?;
+    tell(rt, get(b, CROSSED), b"   on the main chain\n")?;
+    tell_rows(rt, b)?;
+    tell(rt, sum(b, 0), b" changed journals accepted\n")?;
+    tell(rt, sum(b, 1), b" refused by 15\n")?;
+    tell(rt, sum(b, 2), b" refused by 16\n")?;
+    tell(rt, sum(b, 3), b" refused by 17\n")?;
     if get(b, DIFFERENCES) != 0 {
-        tell_difference(b);
+        tell_difference(rt, b)?;
     }
-    tell(get(b, DIFFERENCES), b" differences\n");
+    tell(rt, get(b, DIFFERENCES), b" differences\n")
 }

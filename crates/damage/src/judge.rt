@@ -3,6 +3,7 @@ use super::tally::{ACCEPTED, PAPER_ALONE, REFUSED, TEST_ALONE, note};
 use super::values::{LENGTHS, VALUES, length, value};
 use samples::words::{PARTIES, STORE, Words, get, party_place, put, wide};
 use sessions::Session;
+use std::io;
 
 // How many parties the session table has, and how many words.
 const ALL: u32 = PARTIES as u32;
@@ -69,27 +70,26 @@ fn judge(w: &Words, words: u32) -> u32 {
 }
 
 // Judges the sample after change r: first as it is and at other lengths, then with each other value in each word of the table and of the store.
-fn judge_changed(w: &mut Words, words: u32, r: u32) {
+fn judge_changed(rt: &impl Print, w: &mut Words, words: u32, r: u32) -> io::Result<()> {
     if r < LENGTHS {
         let verdict = judge(w, length(words, r));
-        note(w, verdict, r);
-        return;
+        return note(rt, w, verdict, r);
     }
     let i = (r - LENGTHS) / VALUES;
     let at = wide(i);
     let x = get(w, at);
     let y = value(w, words, i, x, (r - LENGTHS) % VALUES);
     if y == x {
-        return;
+        return Ok(());
     }
     put(w, at, y);
     let verdict = judge(w, words);
     put(w, at, x);
-    note(w, verdict, r);
+    note(rt, w, verdict, r)
 }
 
 // All changes, the last first. The words are changed in small stores only.
-pub fn damage(w: &mut Words, words: u32) {
+pub fn damage(rt: &impl Print, w: &mut Words, words: u32) -> io::Result<()> {
     let mut r = if 1000 < words {
         LENGTHS
     } else {
@@ -97,6 +97,7 @@ pub fn damage(w: &mut Words, words: u32) {
     };
     while 0 < r {
         r -= 1;
-        judge_changed(w, words, r);
+        judge_changed(rt, w, words, r)?;
     }
+    Ok(())
 }

@@ -10,10 +10,14 @@ mod judge;
 mod tally;
 mod values;
 
+ghost use Rattle.std.specs.Io.{ReadsAtMost};
+
 use checker::clauses::CLAUSES;
 use judge::{damage, is_only_refused};
 use samples::lines::{next_line, number};
 use samples::words::{WORDS, Words, store_words};
+use std::io;
+use std::io::Read;
 use tally::{CASES, SAMPLES, count, report};
 
 // Writes what the lines from a heading up to the next say.
@@ -34,7 +38,15 @@ fn write(text: &[u8], from: usize, w: &mut Words) {
 }
 
 // The sample or case that begins at a line, over what other headings begin. No clause refuses a sample.
-fn sample(text: &[u8], base: usize, over: usize, at: usize, clause: u32, w: &mut Words) {
+fn sample(
+    rt: &impl Print,
+    text: &[u8],
+    base: usize,
+    over: usize,
+    at: usize,
+    clause: u32,
+    w: &mut Words,
+) -> io::Result<()> {
     write(text, base, w);
     write(text, over, w);
     write(text, at, w);
@@ -44,10 +56,10 @@ fn sample(text: &[u8], base: usize, over: usize, at: usize, clause: u32, w: &mut
     if is_only_refused(w, words, clause) {
         count(w, std::num::wrapping_add_u32(k, 1));
     }
-    damage(w, words);
+    damage(rt, w, words)
 }
 
-fn run(text: &[u8], w: &mut Words) {
+fn run(rt: &impl Print, text: &[u8], w: &mut Words) -> io::Result<()> {
     let mut base = 0;
     let mut over = 0;
     let mut at = 0;
@@ -57,19 +69,36 @@ fn run(text: &[u8], w: &mut Words) {
             b'B' => base = at,
             b'S' => {
                 over = at;
-                sample(text, base, base, at, CLAUSES, w);
+                sample(rt, text, base, base, at, CLAUSES, w)?;
             }
-            b'C' => sample(text, base, over, at, number(text, at, 2), w),
+            b'C' => sample(rt, text, base, over, at, number(text, at, 2), w)?,
             _ => {}
         }
         at = next_line(text, at);
     }
+    Ok(())
 }
 
-fn main() {
-    let mut text = io::large_buffer();
-    let n = io::read_full(0, &mut text);
+// Reads until buf is full or the input ends; how many bytes were read.
+fn read_full(rt: &impl Input, buf: &mut [u8]) -> io::Result<usize>
+    ensures { ReadsAtMost result buf.new }
+{
+    let mut reader = rt.reader();
+    let mut done = 0;
+    while done < buf.len() {
+        let n = reader.read(&mut buf[done..])?;
+        if n == 0 {
+            return Ok(done);
+        }
+        done += n;
+    }
+    Ok(done)
+}
+
+fn main(rt: HostRuntime) -> io::Result<()> {
+    let mut text = [0u8; 65536];
+    let n = read_full(&rt, &mut text)?;
     let mut w = [0u32; WORDS];
-    run(&text[..n], &mut w);
-    report(&w);
+    run(&rt, &text[..n], &mut w)?;
+    report(&rt, &w)
 }

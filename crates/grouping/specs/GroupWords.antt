@@ -321,6 +321,7 @@ last-in j [] = inl refl
 last-in j (q ∷ a) = inr (last-in q a)
 
 in_left : (j : ℕ) (a b : List ℕ) → In j a → In j (a ++ b)
+in_left j [] b x' = elim x' [ ]
 in_left j (i ∷ a) b (inl e) = inl e
 in_left j (i ∷ a) b (inr h) = inr (in_left j a b h)
 

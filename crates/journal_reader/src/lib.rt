@@ -1,7 +1,7 @@
 // A journal's reader: the bytes of a journal and a place in them, and the record that stands there.
 //
-// The work is done by `record_at` and `next_at`, covered functions of a slice and a number. The functions over a Reader are thin, and proved by hand; whoever
-// walks a journal calls `read` and `follow`, which have plain parameters.
+// The work is done by `record_at` and `next_at`, functions of a slice and a number. The functions over a Reader are thin; whoever walks a journal calls `read`
+// and `follow`, which have plain parameters.
 #![tactic(auto)]
 
 ghost use Rattle.std.specs.Prelude.{◌≡◌, ◌+◌, ◌≤◌, ◌<◌, length};

@@ -34,20 +34,24 @@ use Rattle.layout.specs.Placed.{marked-place}
 -- ---- the descriptor that is named
 
 pub has_in : (k d : ℕ) (ls : List Leaf) → Has k d ls → In d (leaf_records ls)
+has_in k d [] x' = elim x' [ ]
 has_in k d (l ∷ ls) (inl q) = inl (sym q.1)
 has_in k d (l ∷ ls) (inr h) = inr (has_in k d ls h)
 
 pub has_key : (s : List ℕ) (m k d : ℕ) (ls : List Leaf) → All (DescFits s m) ls → Has k d ls → word_of s m d 1 ≡ k
+has_key s m k d [] F x'' = elim x'' [ ]
 has_key s m k d (l ∷ ls) F (inl q) = ap (λ j. word_of s m j 1) (sym q.1) ∙ F.0.key ∙ q.0
 has_key s m k d (l ∷ ls) F (inr h) = has_key s m k d ls F.1 h
 
 has-from : (k d lo e : ℕ) (ls : List Leaf) → Rises lo e (descs ls) → Has k d ls → lo ≤ k
+has-from k d lo e [] r x'' = elim x'' [ ]
 has-from k d lo e (l ∷ ls) r (inl q) = let z = q.0 in omega (arith, z, r.0.0)
 has-from k d lo e (l ∷ ls) r (inr h) = omega (arith, r.0.0, has-from k d (suc l.desc.key) e ls r.1 h)
 
 -- Keys rise: it is the one that is found.
 pub has-record : (k d lo e : ℕ) (ls : List Leaf) → Rises lo e (descs ls) → Has k d ls → record_of k ls ≡ d
 unfolding record_of
+has-record k d lo e [] r x'' = elim x'' [ ]
 has-record k d lo e (l ∷ ls) r (inl q) = rw (eq-eqb l.desc.key k q.0) q.1
 has-record k d lo e (l ∷ ls) r (inr h) =
     let from = has-from k d (suc l.desc.key) e ls r.1 h in

@@ -22,6 +22,7 @@ each_all P f Q k (e ∷ es) p = all_append Q (f e.0) (flat f es) (k e.1 e.0 p.0)
 
 each-some : {A : Type 0} (P : ℕ → A → Type 0) (S : A → Type 0) (Z : Type 0) → ((u : ℕ) (a : A) → P u a → S a → Z) → (es : List (A × ℕ))
     → Each P es → SomeSon S es → Z
+each-some {A = A} P S Z k [] p x'' = elim x'' [ ]
 each-some P S Z k (e ∷ es) p (inl x) = k e.1 e.0 p.0 x
 each-some P S Z k (e ∷ es) p (inr x) = each-some P S Z k es p.1 x
 
@@ -48,6 +49,7 @@ module _ (s : List ℕ) (m : ℕ) where
   -- A marked node's latch word.
   pub marked-word : (k n w h hi : ℕ) (t : Numbered h) → TreeFits s m h hi t → Marked k n w h t → word_of s m n 0 ≡ w
   unfolding TreeFits Marked
+  marked-word k n w zero hi t F x'' = elim x'' [ ]
   marked-word k n w (suc h) hi t F (inl q) = ap (λ j. word_of s m j 0) (sym q.1) ∙ F.0.latch ∙ q.2
   marked-word k n w (suc h) hi t F (inr q) =
       each-some (TreeFits s m h) (Marked k n w h) (word_of s m n 0 ≡ w) (marked-word k n w h) t.sons F.1 q

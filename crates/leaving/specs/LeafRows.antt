@@ -85,6 +85,7 @@ module _ (f : Leaf → Leaf) (num : (l : Leaf) → (f l).num ≡ l.num) where
   members-map g (l ∷ ls) = ap₂ (λ a b. firsts (g a) ++ b) (num l) (members-map g ls)
 
   has-map : ((l : Leaf) → (f l).desc.key ≡ l.desc.key) → (k d : ℕ) (ls : List Leaf) → Has k d ls → Has k d (map f ls)
+  has-map key k d [] x' = elim x' [ ]
   has-map key k d (l ∷ ls) (inl x) = inl (key l ∙ x.0, num l ∙ x.1)
   has-map key k d (l ∷ ls) (inr x) = inr (has-map key k d ls x)
 

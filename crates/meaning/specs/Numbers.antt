@@ -49,6 +49,7 @@ in? j (i ∷ l) = go (ℕ_discrete j i) (in? j l)
     go (no n) (inr h) = inr (n, h)
 
 pub not_in : (j : ℕ) (l : List ℕ) → Apart j l → In j l → ⊥
+not_in j [] a x'' = elim x'' [ ]
 not_in j (i ∷ l) a (inl e) = a.0 e
 not_in j (i ∷ l) a (inr h) = not_in j l a.1 h
 
@@ -57,6 +58,7 @@ apart_from j [] n = tt
 apart_from j (i ∷ l) n = (λ e. n (inl e), apart_from j l (λ h. n (inr h)))
 
 pub all_in : (P : ℕ → Type 0) (l : List ℕ) → All P l → (j : ℕ) → In j l → P j
+all_in P [] p j x'' = elim x'' [ ]
 all_in P (i ∷ l) p j (inl e) = subst P (sym e) p.0
 all_in P (i ∷ l) p j (inr h) = all_in P l p.1 j h
 
@@ -84,6 +86,7 @@ apart-right j (i ∷ a) b p = apart-right j a b p.1
 
 -- What stands in two parts of a list in which none stands twice.
 pub once-apart : (a b : List ℕ) → Once (a ++ b) → (j : ℕ) → In j a → Apart j b
+once-apart [] b p j x'' = elim x'' [ ]
 once-apart (i ∷ a) b p j (inl e) = subst (λ x. Apart x b) (sym e) (apart-right i a b p.0)
 once-apart (i ∷ a) b p j (inr h) = once-apart a b p.1 j h
 
@@ -113,6 +116,7 @@ times-apart k [] a = refl
 times-apart k (i ∷ l) a = omega (arith, one-not i k (λ e. a.0 (sym e)), times-apart k l a.1)
 
 pub times-in : (k : ℕ) (l : List ℕ) → In k l → 1 ≤ times k l
+times-in k [] x' = elim x' [ ]
 times-in k (i ∷ l) (inl e) = omega (arith, one-is i k (sym e))
 times-in k (i ∷ l) (inr h) = omega (arith, times-in k l h)
 

@@ -30,6 +30,7 @@ Unmarked seen i = get_or seen i 0 ≡ 0
 -- ---- membership
 
 pub in_left : (j : ℕ) (a b : List ℕ) → In j a → In j (a ++ b)
+in_left j [] b x' = elim x' [ ]
 in_left j (i ∷ a) b (inl e) = inl e
 in_left j (i ∷ a) b (inr h) = inr (in_left j a b h)
 
@@ -121,6 +122,7 @@ mark-other seen [] kind j a = refl
 mark-other seen (i ∷ l) kind j a = mark-other (set seen i kind) l kind j a.1 ∙ get_or-set_other seen i j kind 0 a.0
 
 pub mark-in : (seen l : List ℕ) (kind j : ℕ) → j < length seen → In j l → get_or (mark_all seen l kind) j 0 ≡ kind
+mark-in seen [] kind j h m = elim m [ ]
 mark-in seen (i ∷ l) kind j h m = go (in? j l) m (mark-in (set seen i kind) l kind j long)
   where
     long : j < length (set seen i kind)

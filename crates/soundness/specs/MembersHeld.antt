@@ -159,6 +159,7 @@ upto-elem lo m e (f ∷ es) u h = go ((or-either (eqb e f) (elem e es)).0 h) (up
     go (inr q) ih = let w = ih q in (omega (arith, w.0, u.0), w.1)
 
 in-elem : (e : ℕ) (es : List ℕ) → In e es → elem e es ≡ true
+in-elem e [] x' = elim x' [ ]
 in-elem e (f ∷ es) (inl q) = (or-either (eqb e f) (elem e es)).1 (inl (eq-eqb e f q))
 in-elem e (f ∷ es) (inr h) = (or-either (eqb e f) (elem e es)).1 (inr (in-elem e es h))
 

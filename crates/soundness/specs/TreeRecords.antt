@@ -122,6 +122,7 @@ Has j k [] = ⊥
 Has j k (p ∷ l) = ((j ≡ p.0) × (k ≡ p.1)) ⊎ Has j k l
 
 has_left : (j k : ℕ) (a b : List (ℕ × ℕ)) → Has j k a → Has j k (a ++ b)
+has_left j k [] b x' = elim x' [ ]
 has_left j k (p ∷ a) b (inl e) = inl e
 has_left j k (p ∷ a) b (inr h) = inr (has_left j k a b h)
 
@@ -134,6 +135,7 @@ each-other seen [] j a = refl
 each-other seen (p ∷ l) j a = each-other (set seen p.0 p.1) l j a.1 ∙ get_or-set_other seen p.0 j p.1 0 a.0
 
 each-has : (seen : List ℕ) (l : List (ℕ × ℕ)) (j k : ℕ) → Once (nums l) → j < length seen → Has j k l → get_or (mark_each seen l) j 0 ≡ k
+each-has seen [] j k o h x3 = elim x3 [ ]
 each-has seen (p ∷ l) j k o h (inl e) =
     each-other (set seen p.0 p.1) l j (subst (λ x. Apart x (nums l)) (sym e.0) o.0)
     ∙ subst (λ x. get_or (set seen x p.1) j 0 ≡ p.1) e.0 (get_or-set_same seen j p.1 0 h) ∙ sym e.1
@@ -141,6 +143,7 @@ each-has seen (p ∷ l) j k o h (inr q) =
     each-has (set seen p.0 p.1) l j k o.1 (subst (λ n. j < n) (sym (length-set seen p.0 p.1)) h) q
 
 has_flat : (j k h : ℕ) (g : Numbered h → List ℕ) → ((t : Numbered h) → In j (g t) → Has j k (kinds h t)) → (es : List (Numbered h × ℕ)) → In j (flat g es) → Has j k (flat (kinds h) es)
+has_flat j k h g f [] i = elim i [ ]
 has_flat j k h g f (p ∷ es) i = go (in-append j (g p.0) (flat g es) i) (has_flat j k h g f es)
   where
     go : In j (g p.0) ⊎ In j (flat g es) → (In j (flat g es) → Has j k (flat (kinds h) es)) → Has j k (flat (kinds h) (p ∷ es))
@@ -169,6 +172,7 @@ has-leaf j (suc h) t i = inr (has_flat j descriptor_mark h (leaf_numbers h) (has
 
 -- A record of a tree is a node's or a descriptor's.
 in-flat : (j : ℕ) {A : Type 0} (f g k : A → List ℕ) → ((a : A) → In j (f a) → In j (g a) ⊎ In j (k a)) → (es : List (A × ℕ)) → In j (flat f es) → In j (flat g es) ⊎ In j (flat k es)
+in-flat j {A = A} f g k u [] i = elim i [ ]
 in-flat j f g k u (p ∷ es) i = go (in-append j (f p.0) (flat f es) i) (in-flat j f g k u es)
   where
     here : In j (g p.0) ⊎ In j (k p.0) → In j (flat g (p ∷ es)) ⊎ In j (flat k (p ∷ es))
@@ -201,6 +205,7 @@ pub record TreeMarks (h : ℕ) (t : Numbered h) (before now : List ℕ) : Type 0
   pub kept : length now ≡ length before
 
 has_in : (j k : ℕ) (l : List (ℕ × ℕ)) → Has j k l → In j (nums l)
+has_in j k [] x' = elim x' [ ]
 has_in j k (p ∷ l) (inl e) = inl e.0
 has_in j k (p ∷ l) (inr h) = inr (has_in j k l h)
 

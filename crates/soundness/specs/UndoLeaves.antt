@@ -81,6 +81,7 @@ module _ (s : List ℕ) (m r : ℕ) where
 
   pub leaf-found : (lo hi : ℕ) (ls : List Leaf) → All (Read s m r) ls → Rises lo hi (descs ls) → (d : ℕ) → In d (nums ls) → Found lo ls d
   unfolding record_of
+  leaf-found lo hi [] a q d x3 = elim x3 [ ]
   leaf-found lo hi (l ∷ ls) a q d (inl e) =
       let is : l.desc ≡ desc_at s m r d = a.0 ∙ ap (desc_at s m r) (sym e) in
       let k : l.desc.key ≡ key_at s m d = ap (λ (x : Desc). x.key) is in

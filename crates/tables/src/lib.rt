@@ -1,8 +1,7 @@
 // Tables: a lent session table. Its 17 records are loaded by value, one is stored back, or all are.
 //
 // A lent table is a slice of session records. Each function asks that there are 17, which its caller tests. What is loaded is the records as they stand; what
-// is stored is what was passed, and no other record changes. The three are proved by hand, step by step, and proofs/Callees has a call of each as one step of
-// a caller's proof. It rests on sessions alone.
+// is stored is what was passed, and no other record changes. It rests on sessions alone.
 #![tactic(auto)]
 
 ghost use Rattle.std.specs.Prelude.{◌≡◌, ◌<◌, length, set, replicate};

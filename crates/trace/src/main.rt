@@ -4,8 +4,9 @@
 // cannot be written, it says so on standard error, with the system's reason, and stops.
 #![tactic(auto)]
 
-use libc::{STDIN_FILENO, STDOUT_FILENO};
 use scripts::text::{TEXT, Text, within};
+use std::io;
+use std::io::Read;
 use tracing::{LIST, STORE, Script};
 
 // A script after some input: whether to go on with it, and if not, whether that is for a failure.
@@ -16,14 +17,32 @@ struct Part {
     is_failed: bool,
 }
 
-// Writes the bytes that were told; whether it did.
-fn show(out: &[u8], length: usize) -> bool {
-    let n = within(length, out);
-    let is_written = io::write_all(STDOUT_FILENO, &out[..n]);
-    if !is_written {
-        os::fail(b"trace: standard output cannot be written");
+// The system's reason, without its number.
+fn reason(text: &str) -> &str {
+    match text.split_once(" (os error ") {
+        Some((reason, _)) => reason,
+        None => text,
     }
-    is_written
+}
+
+// Says on standard error what failed, with the system's reason, as far as that can be written.
+fn fail(rt: &(impl Eprint + Alloc), what: &str, error: io::Error) {
+    if let Ok(text) = format!(in rt.alloc(); "{error}") {
+        let reason = reason(text.as_str());
+        let _ = eprintln!(rt; "{what}: {reason}");
+    }
+}
+
+// Writes the bytes that were told; whether it did.
+fn show(rt: &(impl Print + Eprint + Alloc), out: &[u8], length: usize) -> bool {
+    let n = within(length, out);
+    match rt.write_all(&out[..n]) {
+        Ok(()) => true,
+        Err(error) => {
+            fail(rt, "trace: standard output cannot be written", error);
+            false
+        }
+    }
 }
 
 fn after(script: Script, is_more: bool, is_failed: bool) -> Part {
@@ -34,66 +53,100 @@ fn after(script: Script, is_more: bool, is_failed: bool) -> Part {
     }
 }
 
-fn play_byte(store: &mut [u32], list: &mut [u32], out: &mut Text, x: Script, b: u8) -> Part {
+fn play_byte(
+    rt: &(impl Print + Eprint + Alloc),
+    store: &mut [u32],
+    list: &mut [u32],
+    out: &mut Text,
+    x: Script,
+    b: u8,
+) -> Part {
     let read = tracing::read_byte(store, list, x, b, out);
     let script = read.script;
-    let is_shown = show(out, read.length);
+    let is_shown = show(rt, out, read.length);
     after(script, is_shown, !is_shown)
 }
 
-fn play(store: &mut [u32], list: &mut [u32], out: &mut Text, x: Script, bytes: &[u8]) -> Part {
+fn play(
+    rt: &(impl Print + Eprint + Alloc),
+    store: &mut [u32],
+    list: &mut [u32],
+    out: &mut Text,
+    x: Script,
+    bytes: &[u8],
+) -> Part {
     let mut y = after(x, true, false);
     let mut i = 0;
     while i < bytes.len() && y.is_more {
         let b = bytes[i];
         i += 1;
         let script = y.script;
-        y = play_byte(store, list, out, script, b);
+        y = play_byte(rt, store, list, out, script, b);
     }
     y
 }
 
 // Reads once, and plays what came.
-fn play_some(store: &mut [u32], list: &mut [u32], out: &mut Text, x: Script) -> Part {
-    let mut buf = io::buffer();
-    let got = libc::read(STDIN_FILENO, &mut buf);
-    if got < 0 {
-        os::fail(b"trace: standard input cannot be read");
-        return after(x, false, true);
+fn play_some(
+    rt: &(impl Input + Print + Eprint + Alloc),
+    store: &mut [u32],
+    list: &mut [u32],
+    out: &mut Text,
+    x: Script,
+) -> Part {
+    let mut buf = [0u8; 4096];
+    let mut reader = rt.reader();
+    match reader.read(&mut buf) {
+        Ok(n) => {
+            if n == 0 {
+                return after(x, false, false);
+            }
+            play(rt, store, list, out, x, &buf[..n])
+        }
+        Err(error) => {
+            fail(rt, "trace: standard input cannot be read", error);
+            after(x, false, true)
+        }
     }
-    if got == 0 {
-        return after(x, false, false);
-    }
-    let n = io::count(got, &buf);
-    play(store, list, out, x, &buf[..n])
 }
 
 // Nothing says that the input ends, so the turns are counted down, from a number that no run uses up.
-fn play_all(store: &mut [u32], list: &mut [u32], out: &mut Text, x: Script) -> Part {
+fn play_all(
+    rt: &(impl Input + Print + Eprint + Alloc),
+    store: &mut [u32],
+    list: &mut [u32],
+    out: &mut Text,
+    x: Script,
+) -> Part {
     let mut y = after(x, true, false);
     let mut turns = u64::MAX;
     while turns > 0 && y.is_more {
         let script = y.script;
-        y = play_some(store, list, out, script);
+        y = play_some(rt, store, list, out, script);
         turns -= 1;
     }
     y
 }
 
-fn run(store: &mut [u32], list: &mut [u32], out: &mut Text) {
+fn run(
+    rt: &(impl Input + Print + Eprint + Alloc),
+    store: &mut [u32],
+    list: &mut [u32],
+    out: &mut Text,
+) {
     let start = tracing::start(store);
-    let end = play_all(store, list, out, start);
+    let end = play_all(rt, store, list, out, start);
     if end.is_failed {
         return;
     }
     let script = end.script;
     let last = tracing::read_end(store, list, script, out);
-    show(out, last.length);
+    show(rt, out, last.length);
 }
 
-fn main() {
+fn main(rt: HostRuntime) {
     let mut store = [0u32; STORE];
     let mut list = [0u32; LIST];
     let mut out = [0u8; TEXT];
-    run(&mut store, &mut list, &mut out);
+    run(&rt, &mut store, &mut list, &mut out);
 }

@@ -4,11 +4,14 @@
 // be read, or not whole, counts as a difference, and it says so on standard error.
 #![tactic(auto)]
 
-ghost use Rattle.io.specs.Counts.{IsPrefixLen};
+ghost use Rattle.scripts.specs.Counts.{IsPrefixLen};
 
-use libc::{STDERR_FILENO, STDOUT_FILENO};
 use scripts::text::{TEXT, Text};
 use scripts::texts::{Place, is_whole, met};
+use std::env::FillError;
+use std::io::Read;
+use std::rt::{Env, Files};
+use std::{fs, io, str};
 use tracing::{LIST, STORE, Script};
 
 // A script so far, and how much of the wanted text it has told.
@@ -84,77 +87,153 @@ struct Loaded {
     is_all: bool,
 }
 
+// The system's reason, without its number.
+fn reason(text: &str) -> &str {
+    match text.split_once(" (os error ") {
+        Some((reason, _)) => reason,
+        None => text,
+    }
+}
+
+// Says on standard error what failed, with the system's reason, as far as that can be written.
+fn fail(rt: &(impl Eprint + Alloc), what: &str, error: io::Error) {
+    if let Ok(text) = format!(in rt.alloc(); "{error}") {
+        let reason = reason(text.as_str());
+        let _ = eprintln!(rt; "{what}: {reason}");
+    }
+}
+
+// Puts argument i at the start of buf; how many bytes it has, 0 where it is missing or has more than buf.
+fn arg(rt: &impl Env, i: usize, buf: &mut [u8]) -> usize
+    ensures { IsPrefixLen result buf.new }
+{
+    match rt.arg(i, buf) {
+        Ok(n) => n,
+        Err(_) => 0,
+    }
+}
+
+// How many arguments there are, the program's own name among them.
+fn arg_count(rt: &impl Env) -> usize {
+    let mut buf = [0u8; 4096];
+    for i in 0..usize::MAX {
+        if let Err(FillError::NotPresent) = rt.arg(i, &mut buf) {
+            return i;
+        }
+    }
+    usize::MAX
+}
+
+// The text of a path. A name that is no text is that of no file.
+fn path_text(name: &[u8]) -> &str {
+    match str::from_utf8(name) {
+        Ok(text) => text,
+        Err(_) => "",
+    }
+}
+
+// Reads until buf is full, the input ends or a read fails; how many bytes were read.
+fn read_full(file: &mut impl Read, buf: &mut [u8]) -> usize
+    ensures { IsPrefixLen result buf.new }
+{
+    let mut done = 0;
+    while done < buf.len() {
+        match file.read(&mut buf[done..]) {
+            Ok(n) => {
+                if n == 0 {
+                    return done;
+                }
+                done += n;
+            }
+            Err(_) => return done,
+        }
+    }
+    done
+}
+
 // Whether nothing is left to read in the file at this path. If something is, or if reading fails, it says so on standard error.
-fn is_at_end(fd: i32, path: &[u8]) -> bool {
+fn is_at_end(rt: &(impl Eprint + Alloc), file: &mut impl Read, path: &str) -> bool {
     let mut rest = [0u8; 1];
-    let got = libc::read(fd, &mut rest);
-    if got < 0 {
-        os::fail(path);
+    match file.read(&mut rest) {
+        Ok(n) => {
+            if n > 0 {
+                let _ = eprintln!(rt; "{path}: more than 65536 bytes");
+            }
+            n == 0
+        }
+        Err(error) => {
+            fail(rt, path, error);
+            false
+        }
     }
-    if got > 0 {
-        io::write_all(STDERR_FILENO, path);
-        io::write_all(STDERR_FILENO, b": more than 65536 bytes\n");
-    }
-    got == 0
 }
 
 // Opens the file at this path; if it cannot, it says so on standard error.
-fn opened(path: &[u8]) -> i32 {
-    let fd = os::open_read(path);
-    if fd < 0 {
-        os::fail(path);
+fn opened<R: Files + Eprint + Alloc>(rt: &R, path: &str) -> Option<R::File> {
+    match fs::open(rt, path) {
+        Ok(file) => Some(file),
+        Err(error) => {
+            fail(rt, path, error);
+            None
+        }
     }
-    fd
 }
 
 // Reads the file that argument i names.
-fn load(i: usize, buf: &mut [u8; 65536]) -> Loaded
+fn load(rt: &(impl Env + Files + Eprint + Alloc), i: usize, buf: &mut [u8; 65536]) -> Loaded
     ensures { IsPrefixLen result.length buf.new }
 {
-    let mut path = io::buffer();
-    let length = os::arg(i, &mut path);
-    let fd = opened(&path[..length]);
-    let n = io::read_full(fd, buf);
-    let is_all = fd >= 0 && is_at_end(fd, &path[..length]);
-    libc::close(fd);
-    Loaded {
-        length: n,
-        is_all: is_all,
+    let mut name = [0u8; 4096];
+    let length = arg(rt, i, &mut name);
+    let path = path_text(&name[..length]);
+    match opened(rt, path) {
+        Some(mut file) => {
+            let n = read_full(&mut file, buf);
+            let is_all = is_at_end(rt, &mut file, path);
+            Loaded {
+                length: n,
+                is_all: is_all,
+            }
+        }
+        None => Loaded {
+            length: 0,
+            is_all: false,
+        },
     }
 }
 
 // Plays the script that argument i names; whether its text is that of argument j.
-fn is_same(i: usize, j: usize) -> bool {
-    let mut script = io::large_buffer();
-    let mut wanted = io::large_buffer();
-    let x = load(i, &mut script);
-    let y = load(j, &mut wanted);
+fn is_same(rt: &(impl Env + Files + Eprint + Alloc), i: usize, j: usize) -> bool {
+    let mut script = [0u8; 65536];
+    let mut wanted = [0u8; 65536];
+    let x = load(rt, i, &mut script);
+    let y = load(rt, j, &mut wanted);
     let n = x.length;
     let k = y.length;
     x.is_all && y.is_all && is_right(&script[..n], &wanted[..k])
 }
 
-fn tell(i: usize, text: &[u8]) {
-    let mut name = io::buffer();
-    let n = os::arg(i, &mut name);
-    io::write_all(STDOUT_FILENO, &name[..n]);
-    io::write_all(STDOUT_FILENO, text);
+fn tell(rt: &(impl Env + Print), i: usize, text: &[u8]) {
+    let mut name = [0u8; 4096];
+    let n = arg(rt, i, &mut name);
+    let _ = rt.write_all(&name[..n]);
+    let _ = rt.write_all(text);
 }
 
 // Plays the script that argument i names, and tells whether its text differs from that of argument j.
-fn differs(i: usize, j: usize) -> bool {
-    if is_same(i, j) {
-        tell(i, b" same\n");
+fn differs(rt: &(impl Env + Files + Print + Eprint + Alloc), i: usize, j: usize) -> bool {
+    if is_same(rt, i, j) {
+        tell(rt, i, b" same\n");
         return false;
     }
-    tell(i, b" differs\n");
+    tell(rt, i, b" differs\n");
     true
 }
 
 // Plays the script of pair k of the arguments, counted from 0.
-fn pair_differs(k: usize) -> bool {
+fn pair_differs(rt: &(impl Env + Files + Print + Eprint + Alloc), k: usize) -> bool {
     if k < 2147483648 {
-        return differs(2 * k + 1, 2 * k + 2);
+        return differs(rt, 2 * k + 1, 2 * k + 2);
     }
     true
 }
@@ -168,22 +247,19 @@ fn counted(x: u64, is_more: bool) -> u64 {
     x
 }
 
-fn report(scripts: usize, different: u64) {
-    io::print_decimal(STDOUT_FILENO, scripts as u64);
-    io::write_all(STDOUT_FILENO, b" scripts, ");
-    io::print_decimal(STDOUT_FILENO, different);
-    if !io::write_all(STDOUT_FILENO, b" differences\n") {
-        os::fail(b"vectors: standard output cannot be written");
+fn report(rt: &(impl Print + Eprint + Alloc), scripts: usize, different: u64) {
+    if let Err(error) = println!(rt; "{scripts} scripts, {different} differences") {
+        fail(rt, "vectors: standard output cannot be written", error);
     }
 }
 
-fn main() {
-    let pairs = os::arg_count() / 2;
+fn main(rt: HostRuntime) {
+    let pairs = arg_count(&rt) / 2;
     let mut different = 0u64;
     let mut k = 0;
     while k < pairs {
-        different = counted(different, pair_differs(k));
+        different = counted(different, pair_differs(&rt, k));
         k += 1;
     }
-    report(pairs, different);
+    report(&rt, pairs, different);
 }

@@ -68,6 +68,7 @@ own-hand L L' p x i l st e m f = record {
 -- ---- marks
 
 pub some_left : {A : Type 0} (P : A → Type 0) (es fs : List (A × ℕ)) → SomeSon P es → SomeSon P (es ++ fs)
+some_left {A = A} P [] fs x' = elim x' [ ]
 some_left P (e ∷ es) fs (inl x) = inl x
 some_left P (e ∷ es) fs (inr x) = inr (some_left P es fs x)
 

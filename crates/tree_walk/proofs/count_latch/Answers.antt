@@ -1,5 +1,4 @@
 use borrow.Author.Tests.{eq-eqb, le-ltb, lt-ltb, ne_eqb}
-use borrow.Author.Rules.{rules}
 use Rattle.tree_walk.specs.TreeWalk.{count_latch}
 use Rattle.tree_walk.proofs.count_latch.Goals as goal
 

@@ -1,4 +1,3 @@
-use borrow.Author.Rules.{rules}
 use Rattle.tree_walk.proofs.Turns.{entered}
 use Rattle.tree_walk.proofs.enter_node.Goals as goal
 

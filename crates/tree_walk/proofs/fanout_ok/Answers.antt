@@ -1,5 +1,4 @@
 use borrow.Author.Tests.{le-leb, lt-leb}
-use borrow.Author.Rules.{rules}
 use Rattle.tree_walk.specs.TreeWalk.{fanout_ok}
 use Rattle.tree_walk.proofs.fanout_ok.Goals as goal
 

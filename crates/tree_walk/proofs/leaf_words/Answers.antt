@@ -1,6 +1,5 @@
 use mathlib.Core.Path.{sym}
 use borrow.Author.Tests.{le-leb, lt-leb}
-use borrow.Author.Rules.{rules}
 use Rattle.tree_walk.specs.TreeWalk.{leaf_words}
 use Rattle.tree_walk.proofs.leaf_words.Goals as goal
 

@@ -1,5 +1,4 @@
 use mathlib.Core.Path.{refl}
-use borrow.Author.Rules.{rules}
 use Rattle.tree_walk.specs.TreeWalk.{raise}
 use Rattle.tree_walk.proofs.raised.Goals as goal
 

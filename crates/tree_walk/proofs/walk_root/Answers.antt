@@ -1,4 +1,3 @@
-use borrow.Author.Rules.{rules}
 use Rattle.tree_walk.proofs.Turns.{root_none, root-high, root-open, root-done}
 use Rattle.tree_walk.proofs.walk_root.Goals as goal
 

@@ -1,4 +1,3 @@
-use Rattle.std.proofs.Common.{rules}
 use Rattle.books.proofs.contents.see_stored.Given as goal
 
 abbrev pub invariant-loop-left : goal.invariant-loop-left

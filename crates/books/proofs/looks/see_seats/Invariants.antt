@@ -1,4 +1,4 @@
-use Rattle.std.proofs.Common.{◌-◌, rules}
+use Rattle.std.proofs.Common.{◌-◌}
 use Rattle.books.proofs.looks.see_seats.Given as goal
 
 abbrev pub invariant-loop-p : goal.invariant-loop-p

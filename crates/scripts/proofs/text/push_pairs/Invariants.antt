@@ -1,4 +1,3 @@
-use borrow.Author.Rules.{rules}
 use Rattle.scripts.proofs.text.push_pairs.Given as goal
 
 abbrev pub invariant-loop-left : goal.invariant-loop-left

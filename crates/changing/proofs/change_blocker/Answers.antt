@@ -1,0 +1,6 @@
+use Rattle.changing.specs.Runs.{blocker-run}
+use borrow.Author.Rules.{rules}
+use Rattle.changing.proofs.change_blocker.Goals as goal
+
+pub returns : goal.returns
+returns c = blocker-run _ _ _ _ c.load_descriptor-v.ensures c.lowest_blocker.ensures

@@ -1,0 +1,6 @@
+use Rattle.changing.specs.Runs.{keep_run}
+use borrow.Author.Rules.{rules}
+use Rattle.changing.proofs.keep_step.Goals as goal
+
+pub returns : goal.returns
+returns c = keep_run _ _ _ _ _ c.hold_and_end.ensures c.idle_session.ensures

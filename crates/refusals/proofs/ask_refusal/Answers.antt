@@ -1,0 +1,25 @@
+use mathlib.Core.Path.{sym, ◌∙◌}
+use borrow.Author.Tests.{not-true, not-false}
+use Rattle.refusals.specs.Refusing.{first_of}
+use borrow.Author.Rules.{rules}
+use Rattle.refusals.proofs.ask_refusal.Goals as goal
+
+pub returns-then-out : goal.returns-then-out
+unfolding first_of
+returns-then-out c = simp (sym c.not_session-out.ensures ∙ c.if-out.true)
+
+pub returns-then-not-begun : goal.returns-then-not-begun
+unfolding first_of
+returns-then-not-begun c = simp (sym c.not_session-out.ensures ∙ c.if-out.false, sym c.is_begun-begun.ensures ∙ c.if-not-begun.true)
+
+pub returns-then-fixed : goal.returns-then-fixed
+unfolding first_of
+returns-then-fixed c = simp (sym c.not_session-out.ensures ∙ c.if-out.false, sym c.is_begun-begun.ensures ∙ c.if-not-begun.false, sym c.is_asked-fixed.ensures ∙ c.if-fixed.true)
+
+pub returns-then-busy : goal.returns-then-busy
+unfolding first_of
+returns-then-busy c = simp (sym c.not_session-out.ensures ∙ c.if-out.false, sym c.is_begun-begun.ensures ∙ c.if-not-begun.false, sym c.is_asked-fixed.ensures ∙ c.if-fixed.false, sym c.has_request-busy.ensures ∙ c.if-busy.true)
+
+pub returns : goal.returns
+unfolding first_of
+returns c = simp (sym c.not_session-out.ensures ∙ c.if-out.false, sym c.is_begun-begun.ensures ∙ c.if-not-begun.false, sym c.is_asked-fixed.ensures ∙ c.if-fixed.false, sym c.has_request-busy.ensures ∙ c.if-busy.false)

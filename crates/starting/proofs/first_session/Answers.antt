@@ -1,0 +1,9 @@
+use mathlib.Core.Path.{refl}
+use Rattle.starting.specs.Starting.{to_first}
+use borrow.Author.Rules.{rules}
+use Rattle.starting.proofs.first_session.Goals as goal
+
+-- The proof of `first_session`.
+pub returns : goal.returns
+unfolding to_first
+returns c = refl
