@@ -4,4 +4,3 @@
 // reads as before in whatever kind, and the store keeps its length. There is no code here.
 // It rests on the crate words.
 #![tactic(auto)]
-

@@ -15,7 +15,7 @@ pub overflow_add-n : goal.overflow_add-n
 overflow_add-n c = omega (arith, month-most c.args.year c.loop-m.m)
 
 pub loop-m-preserved : goal.loop-m-preserved
-loop-m-preserved c = 
+loop-m-preserved c =
     let y = c.args.year in let m = c.loop-m.m in
     (omega arith, omega arith, omega (arith, month-most y m), sum_more c.loop-m.invariant.3 (omega arith) c.month_days-n.ensures)
 

@@ -10,5 +10,5 @@ pub word-next-requires : goal.word-next-requires
 word-next-requires c = (first-has c.requires c.free-head.ensures c.if-head-eq0.false, lit< tt)
 
 pub returns : goal.returns
-returns c = 
+returns c =
     (c.free-head.ensures, pop-run _ _ c.free-head.ensures c.if-head-eq0.false c.word-next.ensures c.set_free.ensures)

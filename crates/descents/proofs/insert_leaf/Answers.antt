@@ -18,6 +18,6 @@ pub put_beside-wider-requires : goal.put_beside-wider-requires
 put_beside-wider-requires c = (rw c.load_node-p.ensures c.requires.room, omega (arith, path-place _ _ c.load_node-p.ensures c.find_son-i.ensures c.requires.least (omega (arith, c.requires.room))))
 
 pub returns : goal.returns
-returns c = 
+returns c =
     insert-leaf-run _ _ _ _ _ c.load_node-p.ensures c.find_son-i.ensures c.node_son-d.ensures c.word-k.ensures
     c.put_beside-wider.ensures c.with_latch.ensures c.write_node.ensures

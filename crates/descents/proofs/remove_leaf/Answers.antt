@@ -11,6 +11,6 @@ pub remove_son-fewer-requires : goal.remove_son-fewer-requires
 remove_son-fewer-requires c = rw (c.find_son-i.ensures, c.load_node-p.ensures) (c.requires.two, c.requires.most, son-place _ _ (omega (arith, c.requires.two)))
 
 pub returns : goal.returns
-returns c = 
+returns c =
     remove-leaf-run _ _ _ _ c.load_node-p.ensures c.find_son-i.ensures c.remove_son-fewer.ensures c.with_latch.ensures
     c.write_node.ensures

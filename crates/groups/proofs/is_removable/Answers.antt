@@ -14,7 +14,7 @@ returns-then-d-ne0 c = simp (ne_eqb _ _ c.if-d-eq0.false, ne_eqb _ _ c.if-d-ne0.
 
 pub returns-then-d-ne0-2 : goal.returns-then-d-ne0-2
 unfolding removable
-returns-then-d-ne0-2 c = 
+returns-then-d-ne0-2 c =
     simp (
       ne_eqb _ _ c.if-d-eq0.false,
       eq-eqb _ _ c.if-d-ne0.false,
@@ -23,7 +23,7 @@ returns-then-d-ne0-2 c =
 
 pub returns-then-d-ne0-3 : goal.returns-then-d-ne0-3
 unfolding removable
-returns-then-d-ne0-3 c = 
+returns-then-d-ne0-3 c =
     simp (
       ne_eqb _ _ c.if-d-eq0.false,
       eq-eqb _ _ c.if-d-ne0.false,
@@ -33,7 +33,7 @@ returns-then-d-ne0-3 c =
 
 pub returns-then-d-before : goal.returns-then-d-before
 unfolding removable
-returns-then-d-before c = 
+returns-then-d-before c =
     simp (
       ne_eqb _ _ c.if-d-eq0.false,
       eq-eqb _ _ c.if-d-ne0.false,
@@ -44,7 +44,7 @@ returns-then-d-before c =
 
 pub returns : goal.returns
 unfolding removable
-returns c = 
+returns c =
     rw (
       ne_eqb _ _ c.if-d-eq0.false,
       eq-eqb _ _ c.if-d-ne0.false,

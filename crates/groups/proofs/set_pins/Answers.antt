@@ -6,5 +6,5 @@ use Rattle.groups.proofs.set_pins.Goals as goal
 
 pub returns : goal.returns
 unfolding put_pins
-returns c = 
+returns c =
     word-lent _ _ _ _ _ (omega arith) c.requires c.base-at.ensures c.save_pins.ensures

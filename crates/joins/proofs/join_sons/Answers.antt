@@ -6,14 +6,14 @@ use Rattle.joins.specs.Runs.{join-run}
 use Rattle.joins.proofs.join_sons.Goals as goal
 
 pub joined-one-requires : goal.joined-one-requires
-joined-one-requires c = 
+joined-one-requires c =
     rw (c.node_son-l.ensures, c.node_son-q.ensures) c.requires.one
 
 pub write_node-requires : goal.write_node-requires
 write_node-requires c = has-at c.requires.one.left (omega arith) c.node_son-l.ensures
 
 pub remove_behind-fewer-requires : goal.remove_behind-fewer-requires
-remove_behind-fewer-requires c = 
+remove_behind-fewer-requires c =
     (rw c.load_node-p.ensures c.requires.some, c.requires.place)
 
 pub write_node-requires-2 : goal.write_node-requires-2
@@ -23,7 +23,7 @@ pub push_free-requires : goal.push_free-requires
 push_free-requires c = has-at c.requires.one.right (omega arith) c.node_son-q.ensures
 
 pub returns : goal.returns
-returns c = 
+returns c =
     join-run _ _ _ _ _ _ c.load_node-p.ensures c.node_son-l.ensures c.node_son-q.ensures c.joined-one.ensures
     c.with_latch.ensures c.write_node.ensures c.remove_behind-fewer.ensures c.with_latch-2.ensures c.write_node-2.ensures
     c.push_free.ensures

@@ -3,7 +3,7 @@ use borrow.Author.Rules.{rules}
 use Rattle.joins.proofs.joined.Goals as goal
 
 pub join_nodes-requires : goal.join_nodes-requires
-join_nodes-requires c = 
+join_nodes-requires c =
     rw (c.load_node-left.ensures, c.load_node-right.ensures) (c.requires.some_left, c.requires.some_right, c.requires.room)
 
 pub returns : goal.returns

@@ -16,5 +16,5 @@ pub word-requires : goal.word-requires
 word-requires c = (has-at (c.requires.last refl) (omega arith) (last-same _ _ _ _ c.node_son-l.ensures c.node_count-count.ensures c.node_son-last.ensures), lit< tt)
 
 pub returns : goal.returns
-returns c = 
+returns c =
     last-key-run _ _ _ _ c.node_son-l.ensures c.node_count-count.ensures c.node_son-last.ensures c.word.ensures

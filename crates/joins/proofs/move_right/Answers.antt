@@ -6,7 +6,7 @@ use Rattle.joins.specs.Runs.{right-run}
 use Rattle.joins.proofs.move_right.Goals as goal
 
 pub moved_right-n-requires : goal.moved_right-n-requires
-moved_right-n-requires c = 
+moved_right-n-requires c =
     rw (c.node_son-l.ensures, c.node_son-q.ensures) c.requires.go
 
 pub write_node-requires : goal.write_node-requires
@@ -16,14 +16,14 @@ pub write_node-requires-2 : goal.write_node-requires-2
 write_node-requires-2 c = has-at c.requires.go.right (omega arith) c.node_son-q.ensures
 
 pub set_bound-other-requires : goal.set_bound-other-requires
-set_bound-other-requires c = 
+set_bound-other-requires c =
     c.requires.place
 
 pub write_node-requires-3 : goal.write_node-requires-3
 write_node-requires-3 c = has-at c.requires.node (omega arith) refl
 
 pub returns : goal.returns
-returns c = 
+returns c =
     right-run _ _ _ _ _ _ c.load_node-p.ensures c.node_son-l.ensures c.node_son-q.ensures c.moved_right-n.ensures
     c.write_node.ensures c.with_latch.ensures c.write_node-2.ensures c.set_bound-other.ensures c.with_latch-2.ensures
     c.write_node-3.ensures

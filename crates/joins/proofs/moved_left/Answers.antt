@@ -3,7 +3,7 @@ use borrow.Author.Rules.{rules}
 use Rattle.joins.proofs.moved_left.Goals as goal
 
 pub move_from_right-requires : goal.move_from_right-requires
-move_from_right-requires c = 
+move_from_right-requires c =
     rw (c.load_node-left.ensures, c.load_node-right.ensures) (c.requires.least, c.requires.room, c.requires.some)
 
 pub returns : goal.returns

@@ -3,7 +3,7 @@ use borrow.Author.Rules.{rules}
 use Rattle.joins.proofs.moved_right.Goals as goal
 
 pub move_from_left-requires : goal.move_from_left-requires
-move_from_left-requires c = 
+move_from_left-requires c =
     rw (c.load_node-left.ensures, c.load_node-right.ensures) (c.requires.two, c.requires.most, c.requires.room)
 
 pub returns : goal.returns

@@ -6,5 +6,5 @@ use Rattle.nodes.proofs.set_latch.Goals as goal
 
 pub returns : goal.returns
 unfolding latch_at
-returns c = 
+returns c =
     word-lent _ _ _ _ _ (omega arith) c.requires c.base-at.ensures c.save_latch.ensures

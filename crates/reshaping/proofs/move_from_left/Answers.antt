@@ -9,7 +9,7 @@ use Rattle.reshaping.proofs.move_from_left.Goals as goal
 
 pub returns : goal.returns
 unfolding move_from_left
-returns c = 
+returns c =
     let l = c.args.l in
     let e : l.count - 1 - 1 ≡ l.count - 2 = omega arith in
     neighbours-same

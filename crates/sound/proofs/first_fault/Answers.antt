@@ -21,6 +21,6 @@ fault_in-c-requires c = rw (c.entries-m.ensures, c.records-r.ensures) (sizes-has
 
 pub returns : goal.returns
 unfolding first_fault
-returns c = 
+returns c =
     c.next_part.ensures
     ∙ rw (c.next_part-d.ensures, c.marks_ok-marked.ensures, c.distinct-distinct.ensures, c.fault_in-c.ensures, c.entries-m.ensures, c.records-r.ensures, sym c.sizes_ok.ensures ∙ c.if-not-sizes_ok.false) refl

@@ -10,7 +10,7 @@ use Rattle.splits.specs.Runs.{pop-second, split-root-run}
 use Rattle.splits.proofs.split_root.Goals as goal
 
 pub pop_free-b-requires : goal.pop_free-b-requires
-pop_free-b-requires c = 
+pop_free-b-requires c =
     pop-second _ c.pop_free-a.ensures.1 c.requires.free₂
 
 pub put_halves-requires : goal.put_halves-requires
@@ -32,7 +32,7 @@ pub overflow_cast-t-3 : goal.overflow_cast-t-3
 overflow_cast-t-3 c = omega (arith, c.root-t.ensures, c.requires.root.last)
 
 pub returns : goal.returns
-returns c = 
+returns c =
     split-root-run _ _ _ _ c.root-t.ensures c.height-height.ensures c.halves-n.ensures c.pop_free-a.ensures.0
     c.pop_free-a.ensures.1 c.pop_free-b.ensures.0 c.pop_free-b.ensures.1 c.put_halves.ensures c.node_over.ensures
     c.write_node.ensures c.set_top.ensures c.half_of.ensures

@@ -27,7 +27,7 @@ pub write_node-requires : goal.write_node-requires
 write_node-requires c = has-at c.requires.node (omega arith) refl
 
 pub returns : goal.returns
-returns c = 
+returns c =
     split-son-run _ _ _ _ _ c.load_node-p.ensures c.find_son-i.ensures c.node_son-son.ensures c.halves-n.ensures
     c.pop_free-a.ensures.0 c.pop_free-a.ensures.1 c.put_halves.ensures c.insert_behind-wider.ensures c.with_latch.ensures
     c.write_node.ensures c.half_of.ensures

@@ -1,0 +1,6 @@
+use Rattle.arriving.specs.Runs.{gone-run}
+use borrow.Author.Rules.{rules}
+use Rattle.arriving.proofs.gone_step.Goals as goal
+
+pub returns : goal.returns
+returns c = gone-run _ _ _ _ _ c.before.before.before.TidyAt.ensures c.idle_session.ensures

@@ -1,0 +1,14 @@
+use native.Mathlib.Omega.{arith}
+use Rattle.words.specs.Store.{has_kept}
+use Rattle.arriving.specs.Runs.{tidy-run, remove-able}
+use borrow.Author.Rules.{rules}
+use Rattle.arriving.proofs.tidy_at.Goals as goal
+
+pub remove_leaf-requires : goal.remove_leaf-requires
+remove_leaf-requires c = remove-able _ _ _ _ _ c.requires c.load_descriptor-before.ensures c.descriptor_next-next.ensures c.with_next_descriptor.ensures c.write_descriptor.ensures
+
+pub push_free-requires : goal.push_free-requires
+push_free-requires c = has_kept c.requires.choice (omega arith)
+
+pub returns : goal.returns
+returns c = tidy-run _ _ _ _ _ _ c.load_descriptor-before.ensures c.descriptor_next-next.ensures c.with_next_descriptor.ensures c.write_descriptor.ensures c.remove_leaf.ensures c.push_free.ensures
