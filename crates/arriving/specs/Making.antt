@@ -31,7 +31,7 @@ use Rattle.meaning.specs.Frame.{SameAt, SameWords, leaf_records, chain_words, de
 use Rattle.meaning.specs.Around.{NCtx, fill, bound_in, numbers_around}
 use Rattle.meaning.specs.Lens.{descs, leaves_before, leaves_behind}
 use Rattle.meaning.specs.Writes.{put_other, put-others}
-use Rattle.layout.specs.Layout.{Lay, leaves_in, firsts, members_of, undos_from, all_records, DescFits, NodeFits, TreeFits, GroupFits, Has, Marked, HandFits, member_of, lists_in, Holds}
+use Rattle.layout.specs.Layout.{means, Lay, leaves_in, firsts, members_of, undos_from, all_records, DescFits, NodeFits, TreeFits, GroupFits, Has, Marked, HandFits, member_of, lists_in, Holds}
 use Rattle.layout.specs.Row.{Stands}
 use Rattle.layout.specs.Written.{Written, pop-free}
 use Rattle.layout.specs.Keep.{records-times, owned-most, own-rest, own-leaves, same-apart, groups-row, chained-keep, marked-fill, hand-as}
@@ -298,7 +298,7 @@ module _ (s : List ℕ) (t : List Session) (A : Stands s t) (p : ℕ) (nz : ¬ (
       let u = N.entries-length usable (bound_in c top) in
       let v = ap length entries_q in
       let w = length-append (nums_of P.pre) ((P.leaf.num, P.bound) ∷ nums_of P.post) in
-      let r = session-room _ p 0 (length (map_e (λ l. l.desc) es)) nz P.focus.room in
+      let r = session-room (means L t) p 0 (length (map_e (λ l. l.desc) es)) nz P.focus.room in
       omega (arith, u, v, w, r, map_e-length (λ l. l.desc) es, length-append P.pre ((P.leaf, P.bound) ∷ P.post), map_e-length (λ l. l.num) P.pre, map_e-length (λ l. l.num) P.post)
 
   node-fits : NodeFits s₄ m (bound_in c top) (record { num = n; word = 0 }) (nums_of B.sons)

@@ -24,10 +24,11 @@ use books::report::report;
 use rounds::round;
 use schedules::book::BOOK;
 use schedules::side::SIDES;
+use std::io;
 
 const ROUNDS: u32 = 40;
 
-fn main() {
+fn main(rt: HostRuntime) -> io::Result<()> {
     let mut s = [0u32; SIDES];
     let mut a = [0u32; naive::SIZE];
     let mut b = [0u32; BOOK];
@@ -37,5 +38,5 @@ fn main() {
         round(&mut s, &mut a, &mut b, number);
         number += 1;
     }
-    report(&a, &b);
+    report(&rt, &a, &b)
 }

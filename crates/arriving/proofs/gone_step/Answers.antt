@@ -3,4 +3,4 @@ use borrow.Author.Rules.{rules}
 use Rattle.arriving.proofs.gone_step.Goals as goal
 
 pub returns : goal.returns
-returns c = gone-run _ _ _ _ _ c.before.before.before.TidyAt.ensures c.idle_session.ensures
+returns c = gone-run _ _ _ _ _ c.tidy_at.ensures c.idle_session.ensures

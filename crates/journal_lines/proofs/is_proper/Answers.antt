@@ -10,13 +10,13 @@ pub returns-in-255 : goal.returns-in-255
 returns-in-255 c = proper-commit c.args.r c.in-255.is
 
 pub returns-in-3 : goal.returns-in-3
-returns-in-3 c = proper-change c.args.r _ c.if-code-lt3.false c.if-code-lt5.true c.are_entry_and_key.ensures
+returns-in-3 c = proper-change c.args.r _ (omega arith) (omega arith) c.are_entry_and_key.ensures
 
 pub returns-in-0 : goal.returns-in-0
-returns-in-0 c = proper-zero c.args.r c.in-0.is
+returns-in-0 c = proper-zero c.args.r (omega arith)
 
 pub returns-in-1 : goal.returns-in-1
-returns-in-1 c = proper-value c.args.r _ (omega arith) c.if-code-lt3.true c.is_entry.ensures
+returns-in-1 c = proper-value c.args.r _ (omega arith) (omega arith) c.is_entry.ensures
 
 pub returns-in-0-2 : goal.returns-in-0-2
-returns-in-0-2 c = proper-other c.args.r c.if-code-lt5.false (omega arith) (omega arith)
+returns-in-0-2 c = proper-other c.args.r (omega arith) (omega arith) (omega arith)
