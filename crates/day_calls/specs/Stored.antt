@@ -199,12 +199,12 @@ day-turned x y p h j a S d = go (ℕ_discrete (day_refusal x.store x.table p (at
 
 -- ---- the whole day
 
-pub stores-turned : {j i : ℕ} {x y : Lending} (p : ℕ) (h : Handed) → Stores p h j x i y → Turned h x y j i
-stores-turned {j} {x} p h end = turned_none h x x j j refl (λ i o. refl)
-stores-turned {j} {i} p h (other {x} {y} {z} s r) =
+pub stores-turned : (p : ℕ) (h : Handed) {j i : ℕ} {x y : Lending} → Stores p h j x i y → Turned h x y j i
+stores-turned p h {j} {x} end = turned_none h x x j j refl (λ i o. refl)
+stores-turned p h {j} {i} (other {x} {y} {z} s r) =
     let T = stores-turned p h r in
     record { many = T.many; to = T.to; does = λ d g A. T.does d g (λ k o. s k o ∙ A k o) }
-stores-turned {j} {i} p h (mine {x} {y} {z} {a} S d r) =
+stores-turned p h {j} {i} (mine {x} {y} {z} {a} S d r) =
     let T = day-turned x y p h j a S d in
     let U = stores-turned p h r in
     record {
@@ -343,7 +343,7 @@ runs_same : {x y : Lending} {ms : List Mixed} (h : Handed) (r : Runs x ms y) →
 runs_same h L.stop k = λ i o. refl
 runs_same h (L.next d r) k = λ i o. runs_same h r k.1 i o ∙ k.0 i o
 
-then_same : {j i : ℕ} {x y z : Lending} (p : ℕ) (h : Handed) → Stores p h j x i y → Same h y z → Stores p h j x i z
+then_same : (p : ℕ) (h : Handed) {j i : ℕ} {x y z : Lending} → Stores p h j x i y → Same h y z → Stores p h j x i z
 then_same p h end k = other k end
 then_same p h (other s r) k = other s (then_same p h r k)
 then_same p h (mine S d r) k = mine S d (then_same p h r k)
@@ -361,10 +361,10 @@ moved-whole p h j i a x y S d w = go (ℕ_discrete (day_refusal x.store x.table 
     go (yes e) = let P = passed (M-of x.store) x.table p (at_place h j) e in inr (omega (arith, P.whole), P.session)
     go (no n) = subst (λ k. (i ≡ k) ⊎ Whole p h) (ap (next_place j) ((d.answers S).refuses n).answer) w
 
-stores-whole : {j i : ℕ} {x y : Lending} (p : ℕ) (h : Handed) → Stores p h j x i y → (i ≡ j) ⊎ Whole p h
+stores-whole : (p : ℕ) (h : Handed) {j i : ℕ} {x y : Lending} → Stores p h j x i y → (i ≡ j) ⊎ Whole p h
 stores-whole p h end = inl refl
 stores-whole p h (other s r) = stores-whole p h r
-stores-whole {j} {i} p h (mine {x} {y} {z} {a} S d r) = moved-whole p h j i a x y S d (stores-whole p h r)
+stores-whole p h {j} {i} (mine {x} {y} {z} {a} S d r) = moved-whole p h j i a x y S d (stores-whole p h r)
 
 rises-steady : (lo : ℕ) (ws : List ℕ) → Rises lo ws → steady lo ws ≡ true
 unfolding steady

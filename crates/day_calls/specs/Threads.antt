@@ -270,7 +270,7 @@ onward-place p h j t u a b o = record { many = o.many; to = o.to; asked = o.aske
     same a zero = refl
     same a (suc c) = ap (λ l. named (at_place h a) ∷ l) (same (a + 1) c)
 
-mine-onward : {x y : Lending} {ks : List Turn} (p : ℕ) (h : Handed) (j : ℕ) (a : DayAnswer) (t : Told) → Knows D.words t x → Is x (day p (at_place h j) a) ks y
+mine-onward : {x y : Lending} (p : ℕ) (h : Handed) (j : ℕ) {ks : List Turn} (a : DayAnswer) (t : Told) → Knows D.words t x → Is x (day p (at_place h j) a) ks y
     → Onward p h t (told t ks) j (next_place j a)
 mine-onward p h j a t w (refused {n} e) = onward-none p h t t j (next_place j a) (ap (next_place j) e) refl
 mine-onward {x} {y} p h j a t w (served inner z e sv) =

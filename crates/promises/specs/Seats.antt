@@ -19,7 +19,7 @@ one-worded x v g =
     let target : x.target < 4294967296 = g.1.1.1.1.1.1.1.1.0.1 in
     record { first = omega (arith, first); second = omega (arith, second); target = omega (arith, target) }
 
-all-worded : (xs : List Session) (us : List Val) → shadow (each Session (row the_type).own xs us) → (p : ℕ) → p < length xs → Worded (session_at xs p)
+all-worded : (xs : List Session) (us : List Val) → shadow (each Session (row the_type).own_val xs us) → (p : ℕ) → p < length xs → Worded (session_at xs p)
 all-worded [] us g p l = absurd (omega (arith, l))
 all-worded (x ∷ xs) [] g p l = absurd g
 all-worded (x ∷ xs) (u ∷ us) g zero l = one-worded x (u ∷ []) g.0
