@@ -1,0 +1,13 @@
+use Rattle.promises.specs.Seats.{table_of}
+use Rattle.day_calls.specs.Ways.{way-sound, way-unsound}
+use borrow.Author.Rules.{rules}
+use Rattle.calls.proofs.day.Goals as goal
+
+pub day-requires : goal.day-requires
+day-requires c = (c.is_sound-good.ensures (table_of _ _ c.well_formed.1.0)).0 c.if-good.true
+
+pub returns-then-good : goal.returns-then-good
+returns-then-good c = way-sound _ _ _ _ _ _ _ _ (c.is_sound-good.ensures (table_of _ _ c.well_formed.1.0)) c.if-good.true c.day.ensures
+
+pub returns : goal.returns
+returns c = way-unsound _ _ _ _ _ (c.is_sound-good.ensures (table_of _ _ c.well_formed.1.0)) c.if-good.false
