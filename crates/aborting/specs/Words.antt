@@ -46,10 +46,3 @@ undos-at {s} {t} {m} {r} {p} {x} A e = subst (λ z. Undoings z m r x.undo) (sym 
 pub undone-is : (s : List ℕ) {t u : List ℕ} (m r : ℕ) (x : Session) → t ≡ hand_ended s m x → u ≡ undo_all t m r x.undo → u ≡ abort_undone s m r x
 unfolding abort_undone
 undone-is s {t} {u} m r x a b = b ∙ ap (λ z. undo_all z m r x.undo) a
-
-pub leave-at : {s t u : List ℕ} {m r p : ℕ} {x : Session} → AbortReady s m r p x → t ≡ hand_ended s m x → u ≡ undo_all t m r x.undo → LeaveReady u m r p
-leave-at {s} {t} {u} {m} {r} {p} {x} A a b = subst (λ z. LeaveReady z m r p) (sym (undone-is s m r x a b)) A.leave
-
-pub abort-run : (s : List ℕ) {t u v : List ℕ} (m r p : ℕ) (x : Session) → t ≡ hand_ended s m x → u ≡ undo_all t m r x.undo → v ≡ leave_all u m r p → v ≡ abort_words s m r p x
-unfolding abort_words
-abort-run s {t} {u} {v} m r p x a b c = c ∙ ap (λ z. leave_all z m r p) (undone-is s m r x a b)

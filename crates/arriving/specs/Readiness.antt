@@ -34,7 +34,7 @@ use Rattle.layout.specs.LatchRows.{node-owned, node-leaves}
 use Rattle.scans.specs.Scans.{CanFollow}
 use Rattle.nodes.specs.Paths.{son_toward}
 use Rattle.descents.specs.Descents.{Toward}
-use Rattle.finishing.specs.Ready.{end-ready}
+use Rattle.finishing.proofs.Ready.{end-ready}
 use Rattle.arriving.specs.Ready.{PredReady, PinReady, MakeAble, MakeReady, unlinked, TidyAble, TidyReady, SessionReady, LowestReady}
 use Rattle.arriving.specs.Lowest.{Lowest, lowest}
 use Rattle.arriving.specs.Site.{nums_of, site_low, site_high, site-leaves, site-usable, site-entries, site_son}

@@ -19,7 +19,7 @@ use Rattle.machine.specs.Steps.{tidied_state, on_lowest, removable, is_empty, en
 use Rattle.machine.specs.Context.{plug}
 use Rattle.machine.specs.Focus.{Whole, keeper-room}
 use Rattle.machine.specs.Order.{In}
-use Rattle.machine.specs.Housekeeping.{removable-goes}
+use Rattle.machine.proofs.Housekeeping.{removable-goes}
 use Rattle.meaning.specs.Reading.{gather, Leaf, erase, M-of, R-of}
 use Rattle.meaning.specs.Sound.{All}
 use Rattle.meaning.specs.Numbers.{all_right}

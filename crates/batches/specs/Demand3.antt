@@ -12,7 +12,7 @@ use Rattle.meaning.specs.Sound.{Sound}
 use Rattle.promises.specs.Relations.{Formats}
 use Rattle.promises.specs.Demands.{Lending, Returns, words}
 use Rattle.promises.specs.Promised.{calls-return}
-use Rattle.promises.specs.Words.{formatted-calls}
+use Rattle.promises.proofs.Words.{formatted-calls}
 use Rattle.promises.specs.Runs.{lending, calling, call_turn, put_turn, step_turn, steps, asks, Within}
 use Rattle.promises.specs.Making.{run-append}
 use Rattle.asking.specs.declared.Asking.{Asking}

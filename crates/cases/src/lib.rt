@@ -4,4 +4,3 @@
 // table checked by one theorem; Directed each kind of step, wait and refusal where it turns, and the order of begins. Nothing rests on them.
 // Rests on: `machine` for the calls.
 #![tactic(auto)]
-

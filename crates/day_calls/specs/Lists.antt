@@ -9,7 +9,7 @@ use Rattle.meaning.specs.Sound.{Sound}
 use Rattle.promises.specs.Relations.{Formats}
 use Rattle.promises.specs.Ways.{Serves}
 use Rattle.promises.specs.Demands.{Lending, Returns, words}
-use Rattle.promises.specs.Words.{formatted-calls}
+use Rattle.promises.proofs.Words.{formatted-calls}
 use Rattle.outcomes.specs.declared.DayAnswer.{DayAnswer}
 use Rattle.outcomes.specs.declared.DayAnswer.TheVariants.{Refused}
 use Rattle.day_calls.specs.Calling.{Handed, day_count, day_refusal, ordinary, renamed, Days}

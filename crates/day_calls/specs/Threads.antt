@@ -26,7 +26,7 @@ use Rattle.promises.specs.Relations.{Formats}
 use Rattle.promises.specs.Ways.{Serves}
 use Rattle.promises.specs.Demand1.{demand-1}
 use Rattle.promises.specs.Steps.{hand-is}
-use Rattle.promises.specs.Words.{words-meet, formatted-known}
+use Rattle.promises.proofs.Words.{words-meet, formatted-known}
 use Rattle.promises.specs.Demands.{Lending}
 use Rattle.promises.specs.Demands as D
 use Rattle.outcomes.specs.declared.DayAnswer.{DayAnswer}

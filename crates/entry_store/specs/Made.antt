@@ -4,7 +4,8 @@ use Rattle.std.proofs.Common.{sym, ap, subst, ◌∙◌, lit<}
 use Rattle.serial.specs.Locks.{lock_rule, lock-rule-strict}
 use Rattle.serial.specs.Calls.{Turn, nothing, tell, told, Unfinished, calls_of}
 use Rattle.serial.specs.Unfinished.{unfinished-told}
-use Rattle.serial.specs.Values.{FitCall, FitCalls, Fitting, fitting-values, fitting-fresh, fitting-turn, fitting-run}
+use Rattle.serial.specs.Values.{FitCall, FitCalls, Fitting, fitting-values, fitting-fresh}
+use Rattle.serial.proofs.Values.{fitting-turn, fitting-run}
 use Rattle.serial.specs.Calls as C
 use Rattle.sessions.specs.declared.Session.{Session}
 use Rattle.sessions.specs.Sessions.{parties}
@@ -15,7 +16,7 @@ use Rattle.meaning.specs.Sound.{Sound}
 use Rattle.promises.specs.Relations.{list_of}
 use Rattle.promises.specs.Demands.{Lending, Returns}
 use Rattle.promises.specs.Runs.{lending}
-use Rattle.promises.specs.Words.{formatted-new}
+use Rattle.promises.proofs.Words.{formatted-new}
 use Rattle.store.specs.Lent.{Formatted}
 use Rattle.store.specs.Turns.{turn, Lends, formats, begins, puts, steps, commits, aborts, asks, recovers, SoundLent, sound-long, lends-return, lends-sound, functions, Loan, elsewhere, whole, slice, TurnedAway, Looks, unsound-lends, misfit-lends, accepted-format}
 use Rattle.store.specs.Turns as L

@@ -26,7 +26,7 @@ use Rattle.machine.specs.Descents.{guard-cases, latch-cases}
 use Rattle.machine.specs.Focus.{latches-plug}
 use Rattle.machine.specs.InTheWay.{LongLock, ShortLock, LoneLatched, Son, Neighbour, Involved, InTheWay}
 use Rattle.machine.specs.Waits.{settled-step}
-use Rattle.machine.specs.Conflicts.{waits-exactly, blockers-exactly}
+use Rattle.machine.proofs.Conflicts.{waits-exactly, blockers-exactly}
 use Rattle.machine.specs.Housekeeping.{lvs}
 use Rattle.machine.specs.Demand.{Tells}
 use Rattle.packing.specs.Packed.{Worded}

@@ -2,18 +2,16 @@
 use Rattle.std.specs.Prelude.{◌≡◌, Bool, true, false, cond, not, ◌&&◌, List, [], ◌∷◌, ◌++◌, ℕ, zero, suc, ◌-◌, ◌≤◌, eqb, set}
 use Rattle.std.proofs.Math.Path.{refl, ap, subst}
 use Rattle.std.proofs.Common.{sym, ◌∙◌, inl, inr, arith}
-use Rattle.std.proofs.Math.Option.{none}
 use borrow.Author.Tests.{eq-eqb, ne_eqb}
 use Rattle.serial.specs.Serial.{true≢false}
 use Rattle.sessions.specs.declared.Session.{Session}
 use Rattle.sessions.specs.Sessions.{session_at}
-use Rattle.serial.specs.Calls as C
 use Rattle.machine.specs.Logic.{eqb_is}
 use Rattle.machine.specs.Tree.{leaves}
 use Rattle.machine.specs.Holders.{width, latch_word}
-use Rattle.machine.specs.State.{Stage, start, enter, at, change, take, State, on_desc, on_tree, with_root, pin_desc, same, set_hand, top, refused}
+use Rattle.machine.specs.State.{Stage, start, enter, at, change, take, State, on_desc, on_tree, with_root, pin_desc, same, top}
 use Rattle.machine.specs.Descent.{on_latch, unlatched}
-use Rattle.machine.specs.Steps.{pinned, unpin, unlatch, ended, answer}
+use Rattle.machine.specs.Steps.{pinned, unpin, unlatch}
 use Rattle.machine.specs.Sound as S
 use Rattle.machine.specs.Context.{plug}
 use Rattle.machine.specs.Order.{Ord}
@@ -21,9 +19,9 @@ use Rattle.meaning.specs.Reading.{Leaf, Mark, Numbered, erase, stage_of, M-of}
 use Rattle.meaning.specs.Sound.{pins_first}
 use Rattle.meaning.specs.Around.{NCtx, fill, erase-fill, leaves-fill}
 use Rattle.layout.specs.Layout.{Lay, leaves_in, Has, Marked, Holds, means}
-use Rattle.layout.specs.Row.{Stands, Becomes, Moves}
+use Rattle.layout.specs.Row.{Stands}
 use Rattle.layout.specs.Keep.{with_tree, Hands, table-row, marked-fill}
-use Rattle.layout.specs.Places.{Erased, AtMark, at_mark, means-hand}
+use Rattle.layout.specs.Places.{Erased, AtMark, at_mark}
 use Rattle.layout.specs.Ordering.{Rising, rising-of, ord-sons}
 use Rattle.layout.specs.Room.{Sizes, sizes-of}
 use Rattle.layout.specs.Asked.{request_in, hand-means}
@@ -31,8 +29,7 @@ use Rattle.layout.specs.LatchRows.{relatched, latch-written, latch-put}
 use Rattle.layout.specs.Left.{Left, idle-fits, left-then, left-none, left-pins}
 use Rattle.nodes.specs.Ops.{latch_at}
 use Rattle.members.specs.Members.{unpin_at}
-use Rattle.endings.specs.Table.{idled}
-use Rattle.finishing.specs.Finishing.{end_latch, end_low, end_high, end_request}
+use Rattle.finishing.specs.Finishing.{end_latch, end_low, end_high}
 
 -- ---- the latch
 
@@ -222,34 +219,3 @@ module _ (s : List ℕ) (t : List Session) (L : Lay) (H : Holds s t L) (sound : 
   first_code n e =
       let g : stage_of x ≡ start = rw (eq-eqb x.stage 1 e) refl in
       subst (λ g. S.Stands p (means L t) (request_in x) g) g (sound.standing p (request_in x) (hand-means L t p (omega (arith, l, H.seats)) n))
-
-  -- All that the request has goes.
-  pub all_left : ¬ (x.stage ≡ 0) → (y : Session) → y.stage ≡ 0 → y.undo ≡ x.undo
-      → Left s (set t p y) L (end_request s (M-of s) x) (λ z. unpin (pinned (request_in x) (stage_of x)) (unlatch p (stage_of x) z))
-  unfolding end_request
-  all_left n y idle undo =
-      let m = M-of s in
-      let S = stage_is x.stage n (H.hands p l).stage in
-      let A = first-left y idle undo S in
-      let B = pins-left (end_latch s m x) (set t p y) A.lay A.holds A.sizes A.rising m A.written.entries x
-      (λ e. A.has x.first x.low ((H.hands p l).low n e)) (λ e d. A.has x.second x.high ((H.hands p l).high e d)) in
-      subst (λ ks. Left s (set t p y) L (end_high (end_low (end_latch s m x) m x) m x) (λ z. unpin ks (unlatch p (stage_of x) z))) (sym (pins-are x S (first_code n)))
-      (left-then s (set t p y) L (end_latch s m x) (end_high (end_low (end_latch s m x) m x) m x) (unlatch p (stage_of x)) (unpin (lows x ++ highs x)) A B)
-
-  pub ended-becomes : ¬ (x.stage ≡ 0) → Becomes s (end_request s (M-of s) x) (set t p (idled x)) (ended p (request_in x) (means L t))
-  unfolding ended idled request_in
-  ended-becomes n =
-      let y = idled x in
-      let A = all_left n y refl refl in
-      record {
-        lay = A.lay;
-        holds = A.holds;
-        means_next = means-hand A.lay t p y (omega (arith, l, H.seats)) refl ∙ ap (set_hand p none) (A.is t);
-        long = A.written.long;
-        entries = A.written.entries;
-        records = A.written.records;
-        rest = A.written.rest;
-      }
-
-  pub refused-moves : ¬ (x.stage ≡ 0) → (k : ℕ) (b : ℕ) → Moves s t p (end_request s (M-of s) x) (idled x) (C.refused k b) (answer (refused k b) (ended p (request_in x) (means L t)))
-  refused-moves n k b = record { becomes = ended-becomes n; tells = refl }

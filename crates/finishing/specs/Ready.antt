@@ -3,8 +3,7 @@ use Rattle.std.specs.Prelude.{◌≡◌, Bool, true, false, cond, List, [], ◌�
 use Rattle.std.proofs.Math.Path.{refl, sym, ap}
 use Rattle.std.proofs.Common.{subst, ◌∙◌, arith, eq-eqb, ne_eqb}
 use Rattle.std.proofs.lemmas.List.{map-append}
-use Rattle.std.proofs.Math.ListN.{set}
-use Rattle.words.specs.Store.{HasRecord, word_of}
+use Rattle.words.specs.Store.{word_of}
 use Rattle.groups.specs.Descriptor.{descriptor_at}
 use Rattle.serial.specs.Serial.{true≢false}
 use Rattle.sessions.specs.declared.Session.{Session}
@@ -17,25 +16,23 @@ use Rattle.machine.specs.Sound as S
 use Rattle.machine.specs.Sound.{times, pins_in, pins_by, of_hand}
 use Rattle.machine.specs.Table.{hand-seat}
 use Rattle.machine.specs.Totals.{total-least}
-use Rattle.machine.specs.Housekeeping.{Ordered, lvs, unlatch-leaves}
+use Rattle.machine.specs.Housekeeping.{Ordered, lvs}
 use Rattle.machine.specs.Looks.{pins-at, pinned-stored, kept_at, put-pins-other}
-use Rattle.meaning.specs.Reading.{M-of, stage_of}
+use Rattle.meaning.specs.Reading.{M-of}
 use Rattle.meaning.specs.Sound.{All, pins_first}
 use Rattle.meaning.specs.Numbers.{all_right, times-append}
 use Rattle.meaning.specs.Lens.{descs, leaves_before, leaves_behind, leaves-erase}
 use Rattle.layout.specs.Layout.{Lay, leaves_in, DescFits, Has, Holds, means}
 use Rattle.layout.specs.Back.{descs-fit}
-use Rattle.layout.specs.Places.{AtKey, at_mark}
+use Rattle.layout.specs.Places.{AtKey}
 use Rattle.layout.specs.Ordering.{Rising, key_in}
 use Rattle.layout.specs.Puts.{desc-pins}
-use Rattle.layout.specs.Room.{Sizes, sizes-of}
+use Rattle.layout.specs.Room.{Sizes}
 use Rattle.layout.specs.Asked.{request_in, hand-means}
-use Rattle.layout.specs.LatchRows.{node-has}
 use Rattle.layout.specs.DescRows.{key_has}
 use Rattle.members.specs.Members.{Pinned}
-use Rattle.endings.specs.Table.{idled}
-use Rattle.finishing.specs.Finishing.{LatchEnds, LowEnds, HighEnds, Endable, end_latch, end_low, latch-none}
-use Rattle.finishing.specs.Ended.{lows, highs, stage_is, pins-are, low-left, first-left, first_code}
+use Rattle.finishing.specs.Finishing.{LowEnds, HighEnds, Endable, end_low, latch-none}
+use Rattle.finishing.specs.Ended.{lows, highs, stage_is, pins-are, low-left, first_code}
 
 -- ---- pins in a layout
 
@@ -99,10 +96,10 @@ lows-other s o x h j n = go (pins_first x) h
 
 -- Both pins can go, one after the other.
 module _ (s : List ℕ) (t : List Session) (L : Lay) (H : Holds s t L) (Z : Sizes L) (o : Rising L) (m : ℕ) (e : M-of s ≡ m) (x : Session) (P : PinsIn L x) where
-  low-ready : LowEnds s m x
+  pub low-ready : LowEnds s m x
   low-ready f = pinned-at s t L H Z o m e x.first x.low (P.low f) (P.low_pins f)
 
-  high-ready : HighEnds (end_low s m x) m x
+  pub high-ready : HighEnds (end_low s m x) m x
   high-ready f n =
       let A = low-left s t L H Z o m e x P.low in
       let same = lows-other (means L t) (ordered-means L t o) x (λ g. subst (λ i. 1 ≤ i) (sym (pins-mean L t x.first)) (P.low_pins g)) x.second n in
@@ -149,24 +146,3 @@ module _ (s : List ℕ) (t : List Session) (L : Lay) (H : Holds s t L) (sound : 
     high = (H.hands p l).high;
     high_pins = λ e d. omega (arith, hand-pins x.second, highs-times (eqb x.stage 5) (eqb x.first x.second) x.second (lows x) (eq-eqb x.stage 5 e) (ne_eqb x.first x.second d));
   }
-
-  node-ready : LatchEnds s (M-of s) x
-  node-ready e =
-      let A = at_mark L t H.seats sound p l e (H.hands p l) in
-      subst (HasRecord s (M-of s)) A.num (node-has s t L H A.around A.node A.is (sizes-of L t sound) 0)
-
-  -- A request in hand can end.
-  pub end-ready : Endable s (M-of s) x
-  unfolding idled
-  end-ready =
-      let m = M-of s in
-      let A = first-left s t L H sound p l (idled x) refl refl (stage_is x.stage n (H.hands p l).stage) in
-      let u = set t p (idled x) in
-      let same : (k : ℕ) → pins_of A.lay k ≡ pins_of L k =
-      λ k. sym (pins-mean A.lay u k) ∙ ap (λ z. pins_in k (lvs z)) (A.is u) ∙ ap (pins_in k) (unlatch-leaves p (stage_of x) (means L u)) ∙ pins-mean L u k in
-      let P = pins-kept L A.lay x A.has (λ k. omega (arith, same k)) pins-in-hand in
-      record {
-        node = node-ready;
-        low = low-ready (end_latch s m x) u A.lay A.holds A.sizes A.rising m A.written.entries x P;
-        high = high-ready (end_latch s m x) u A.lay A.holds A.sizes A.rising m A.written.entries x P;
-      }

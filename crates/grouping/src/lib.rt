@@ -4,4 +4,3 @@
 // by which record an entry is a member then; and how several writes, with M and R fixed, follow one another. There is no code here. It rests on `members` for the
 // words, on `layout` for what fits.
 #![tactic(auto)]
-

@@ -167,7 +167,7 @@ module _ (bs : List ℕ) (x : ℕ) (vs₀ ks₀ es₀ : List ℕ) (n₀ : ℕ) (
 unfoldable pub closed_by : List Line → Line → List (Done store)
 closed_by all l = cond (is_commit l) (of_run l.run all) []
 
-fits_more : (all : List Line) (l : Line) (ls : List Line) (d : Db)
+pub fits_more : (all : List Line) (l : Line) (ls : List Line) (d : Db)
     → fits_all (committed_in all (l ∷ ls)) d ≡ (fits (closed_by all l) d && fits_all (committed_in all ls) (after store (closed_by all l) d))
 unfolding committed_in closed_by fits_all fits
 fits_more all l ls d = go (is_commit l)
@@ -177,7 +177,7 @@ fits_more all l ls d = go (is_commit l)
     go true = refl
     go false = refl
 
-total-split : (all : List Line) (l : Line) (ls : List Line) → total (committed_in all (l ∷ ls)) ≡ length (closed_by all l) + total (committed_in all ls)
+pub total-split : (all : List Line) (l : Line) (ls : List Line) → total (committed_in all (l ∷ ls)) ≡ length (closed_by all l) + total (committed_in all ls)
 unfolding committed_in closed_by total
 total-split all l ls = go (is_commit l)
   where
@@ -197,17 +197,9 @@ pub close-none : (bs : List ℕ) (r : Record) (vs ks es : List ℕ) (n : ℕ) �
 unfolding closed_by line_at
 close-none bs r vs ks es n h k = rw (ne_eqb r.code 255 h) (replays-none vs ks es n k)
 
-close-own : (bs : List ℕ) (r : Record) → r.code ≡ 255 → closed_by (said bs) (line_at bs r) ≡ of_run r.run (said bs)
+pub close-own : (bs : List ℕ) (r : Record) → r.code ≡ 255 → closed_by (said bs) (line_at bs r) ≡ of_run r.run (said bs)
 unfolding closed_by line_at
 close-own bs r h = rw (eq-eqb r.code 255 h) refl
-
-pub close-replayable : (bs : List ℕ) (r : Record) (vs ks es : List ℕ) (n : ℕ) → r.code ≡ 255 → Closable bs r vs ks es n → Replayable bs r.run vs ks es n
-close-replayable bs r vs ks es n h k =
-    record { readable = k.readable; proper = k.proper; ready = k.ready; room = rw (close-own bs r h) at k.room }
-
-pub close-run : (bs : List ℕ) (r : Record) {vs ks es : List ℕ} {n : ℕ} {s : Stand} {vs' ks' es' : List ℕ} → r.code ≡ 255
-    → Replays (of_run r.run (said bs)) vs ks es n s vs' ks' es' → Replays (closed_by (said bs) (line_at bs r)) vs ks es n s vs' ks' es'
-close-run bs r h k = rw (close-own bs r h) k
 
 -- A journal past tests 15 and 16.
 pub record Past16 (bs : List ℕ) : Type 0 where
@@ -246,38 +238,11 @@ module _ (bs : List ℕ) (d : Db) (vs ks es : List ℕ) (n at left : ℕ) (c : G
   going-on-end e = ap (λ l. fits_all (committed_in (said bs) l) (held vs ks es n)) (sym (no_more bs at c.rest c.walk e)) ∙ c.is
 
   module _ (r : Record) (h : ¬ (at ≡ 0)) (e : r ≡ record_at bs at) where
-    place-on : Here bs r c.rest
+    pub place-on : Here bs r c.rest
     place-on = here bs at r c.rest c.walk h e
-
-    room-on : n + (length (closed_by (said bs) (line_at bs r)) + total (committed_in (said bs) place-on.later)) ≤ 2048
-    room-on = omega (arith, c.room, ap (λ l. total (committed_in (said bs) l)) place-on.is, total-split (said bs) (line_at bs r) place-on.later)
-
-    fits-first : (fits (closed_by (said bs) (line_at bs r)) (held vs ks es n)
-        && fits_all (committed_in (said bs) place-on.later) (after store (closed_by (said bs) (line_at bs r)) (held vs ks es n))) ≡ fits_all (committed (said bs)) d
-    fits-first =
-        sym (fits_more (said bs) (line_at bs r) place-on.later (held vs ks es n)) ∙ ap (λ l. fits_all (committed_in (said bs) l) (held vs ks es n)) (sym place-on.is) ∙ c.is
 
     pub going-on-left : 1 ≤ left
     going-on-left = omega (arith, c.few, ap length place-on.is)
-
-    pub going-on-close : Closable bs r vs ks es n
-    going-on-close = record { readable = c.readable; proper = c.proper; ready = c.ready; room = omega (arith, room-on) }
-
-    module _ (s : Stand) (vs₁ ks₁ es₁ : List ℕ) (k : Replays (closed_by (said bs) (line_at bs r)) vs ks es n s vs₁ ks₁ es₁) where
-      pub going-on-apart : s.is_same ≡ false → false ≡ fits_all (committed (said bs)) d
-      going-on-apart f = rw (← k.same, f) at fits-first
-
-      pub going-on-more : s.is_same ≡ true → GoingOn bs d vs₁ ks₁ es₁ s.count r.next (left - 1)
-      going-on-more t = record {
-        rest = place-on.later;
-        walk = place-on.walk;
-        few = omega (arith, c.few, ap length place-on.is);
-        readable = c.readable;
-        proper = c.proper;
-        ready = k.ready;
-        room = omega (arith, room-on, k.few);
-        is = ap (λ x. fits_all (committed_in (said bs) place-on.later) x) (k.is t) ∙ (rw (← k.same, t) at fits-first);
-      }
 
 -- ---- the empty store
 

@@ -4,4 +4,3 @@
 // hold it; that a sound store holds a layout, and means what the layout means (Laid); that words which hold a layout that means a sound state are sound
 // (Back); and what writes leave of `Holds` (Keep). It rests on `meaning` for what is read from words and what is sound, on `machine` for states.
 #![tactic(auto)]
-

@@ -1,39 +1,22 @@
 -- Commit on words: the session's undo records become free, and it leaves every entry and every descriptor.
 use Rattle.std.specs.Prelude.{◌≡◌, refl, List, set}
-use Rattle.std.proofs.Common.{sym, subst, ◌∙◌, arith, set-set}
-use Rattle.std.proofs.Math.Path.{ap, ap₂}
-use Prim.Native.Nat.{ℕ, suc, ◌+◌, ◌≤◌, ◌<◌}
-use Rattle.std.proofs.Math.ListN.{length}
-use Rattle.std.proofs.lemmas.List.{length-map}
+use Rattle.std.proofs.Common.{subst, arith}
+use Prim.Native.Nat.{ℕ, suc, ◌≤◌}
 use Rattle.sessions.specs.declared.Session.{Session}
 use Rattle.sessions.specs.Sessions.{session_at}
 use Rattle.machine.specs.Holders.{width}
-use Rattle.machine.specs.State.{State, session_of, on_session, on_tree, with_free, with_table, idle}
-use Rattle.machine.specs.State as M
-use Rattle.machine.specs.Calls.{leave, commits}
+use Rattle.machine.specs.Calls.{leave}
 use Rattle.meaning.specs.Reading.{M-of, R-of}
-use Rattle.meaning.specs.Frame.{leaf_records}
-use Rattle.layout.specs.Layout.{Lay, leaves_in, undo_numbers, Holds, means, session_in}
-use Rattle.layout.specs.Row.{Stands, Becomes}
-use Rattle.layout.specs.Written.{Written, written_then}
-use Rattle.layout.specs.Keep.{table_here}
-use Rattle.layout.specs.Places.{session-means}
+use Rattle.layout.specs.Layout.{undo_numbers, Holds}
+use Rattle.layout.specs.Row.{Stands}
+use Rattle.layout.specs.Written.{Written}
 use Rattle.layout.specs.Walks.{few-entries}
 use Rattle.undo_log.specs.Freeing.{free_chain}
 use Rattle.endings.specs.Table.{unbegun}
-use Rattle.leaving.specs.Words.{leave_all, commit_words, LeaveReady, CommitReady}
+use Rattle.leaving.specs.Words.{LeaveReady, CommitReady}
 use Rattle.leaving.specs.Begun.{idle-fits}
-use Rattle.leaving.specs.LeaveRow.{left_lay, leave-row, leave-means, leave-written, leave-ready}
-use Rattle.leaving.specs.FreedRow.{without_undos, undos-gone, freed_lay, undo-walk, freed-written, freed-row, freed-means}
-
--- Whatever the session's record is, it is idle then.
-leave-over : (σ : State) (p : ℕ) (y : M.Session) → leave p (on_session p (λ _. y) σ) ≡ leave p σ
-unfolding leave on_session on_tree
-leave-over σ p y = ap (λ l. with_table l (leave p σ)) (set-set σ.table p y idle)
-
-unbegun-twice : (x : Session) → unbegun (unbegun x) ≡ unbegun x
-unfolding unbegun
-unbegun-twice x = refl
+use Rattle.leaving.specs.LeaveRow.{leave-ready}
+use Rattle.leaving.specs.FreedRow.{freed_lay, undo-walk, freed-written, freed-row}
 
 unbegun-undo : (x : Session) → (unbegun x).undo ≡ 0
 unfolding unbegun
@@ -43,82 +26,26 @@ unbegun-stage : (x : Session) → (unbegun x).stage ≡ 0
 unfolding unbegun
 unbegun-stage x = refl
 
-free_is : (L : Lay) (t : List Session) → (means L t).free ≡ length L.free
-unfolding means
-free_is L t = refl
-
-undos_many : (L : Lay) (t : List Session) (q : ℕ) → suc q < length t → length (session_of (suc q) (means L t)).undos ≡ length (undo_numbers (L.undos (suc q)))
-undos_many L t q l =
-    ap (λ y. length y.undos) (session-means L t (suc q) l) ∙ length-map (L.undos (suc q)) (λ y. y.undo) ∙ sym (length-map (L.undos (suc q)) (λ y. y.num))
-
 module _ (s : List ℕ) (t : List Session) (A : Stands s t) (q : ℕ) (high : suc q ≤ width) where
   few : M-of s ≤ 1024
   few = few-entries s t A.lay A.holds A.sound
 
-  abbrev rid : List ℕ
+  abbrev pub rid : List ℕ
   rid = free_chain s (M-of s) (R-of s) (session_at t (suc q)).undo
 
-  abbrev after : List Session
+  abbrev pub after : List Session
   after = set t (suc q) (unbegun (session_at t (suc q)))
 
-  rid-written : Written s rid (undo_numbers (A.lay.undos (suc q)))
+  pub rid-written : Written s rid (undo_numbers (A.lay.undos (suc q)))
   rid-written = freed-written s t A.lay A.holds few q high
 
-  rid-holds : Holds rid after (freed_lay A.lay (suc q))
+  pub rid-holds : Holds rid after (freed_lay A.lay (suc q))
   rid-holds =
       let x = session_at t (suc q) in
       freed-row s t A.lay A.holds few q high (unbegun x) (unbegun-undo x) (idle-fits (freed_lay A.lay (suc q)) (suc q) (unbegun x) (unbegun-stage x))
 
-  rid-few : M-of rid ≤ 1024
+  pub rid-few : M-of rid ≤ 1024
   rid-few = omega (arith, few, rid-written.entries)
-
-  same-words : leave_all rid (M-of rid) (R-of rid) (suc q) ≡ commit_words s (M-of s) (R-of s) (suc q) (session_at t (suc q)).undo
-  unfolding commit_words
-  same-words = ap₂ (λ m r. leave_all rid m r (suc q)) rid-written.entries rid-written.records
-
-  after-twice : set after (suc q) (unbegun (session_at after (suc q))) ≡ after
-  after-twice =
-      let x = session_at t (suc q) in
-      ap (λ y. set after (suc q) (unbegun y)) (table_here t (suc q) (unbegun x) A.holds.seats high)
-      ∙ ap (set after (suc q)) (unbegun-twice x) ∙ set-set t (suc q) (unbegun x) (unbegun x)
-
-  last-holds : Holds (commit_words s (M-of s) (R-of s) (suc q) (session_at t (suc q)).undo) after (left_lay (freed_lay A.lay (suc q)) (suc q))
-  last-holds =
-      let L₁ = freed_lay A.lay (suc q) in
-      subst (λ w. Holds w after (left_lay L₁ (suc q))) same-words
-      (subst (λ z. Holds (leave_all rid (M-of rid) (R-of rid) (suc q)) z (left_lay L₁ (suc q))) after-twice
-      (leave-row rid after L₁ rid-holds rid-few q high (undos-gone A.lay.undos (suc q))))
-
-  last_written : Written rid (commit_words s (M-of s) (R-of s) (suc q) (session_at t (suc q)).undo) (leaf_records (leaves_in A.lay))
-  last_written =
-      subst (λ w. Written rid w (leaf_records (leaves_in A.lay))) same-words (leave-written rid after (freed_lay A.lay (suc q)) rid-holds rid-few q)
-
-  last-means : means (left_lay (freed_lay A.lay (suc q)) (suc q)) after ≡ commits (suc q) (means A.lay t)
-  unfolding commits
-  last-means =
-      let L = A.lay in
-      let p = suc q in
-      let L₁ = freed_lay L p in
-      let σ = means L t in
-      let many : length (undo_numbers (L.undos p)) + length L.free ≡ σ.free + length (session_of p σ).undos =
-      omega (arith, free_is L t, undos_many L t q (omega (arith, high, A.holds.seats))) in
-      ap (means (left_lay L₁ p)) (sym after-twice) ∙ leave-means L₁ after q (undos-gone L.undos p)
-      ∙ ap (leave p) (freed-means L t p (unbegun (session_at t p)))
-      ∙ leave-over (with_free (length (undo_numbers (L.undos p)) + length L.free) σ) p (session_in (without_undos L.undos p) p (unbegun (session_at t p)))
-      ∙ ap (λ n. leave p (with_free n σ)) many
-
-  pub commit-becomes : Becomes s (commit_words s (M-of s) (R-of s) (suc q) (session_at t (suc q)).undo) after (commits (suc q) (means A.lay t))
-  commit-becomes =
-      let W = written_then s rid (commit_words s (M-of s) (R-of s) (suc q) (session_at t (suc q)).undo) (undo_numbers (A.lay.undos (suc q))) (leaf_records (leaves_in A.lay)) rid-written last_written in
-      record {
-        lay = left_lay (freed_lay A.lay (suc q)) (suc q);
-        holds = last-holds;
-        means_next = last-means;
-        long = W.long;
-        entries = W.entries;
-        records = W.records;
-        rest = W.rest;
-      }
 
   pub commit-ready : CommitReady s (M-of s) (R-of s) (suc q) (session_at t (suc q)).undo
   commit-ready = record {

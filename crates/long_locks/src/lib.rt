@@ -4,4 +4,3 @@
 // It promises the first (specs/LongLocks) for holders words without a bit above the last session, and that every entry's and descriptor's words in a layout of a
 // sound state have none. There is no code here. It rests on `locks` for the code's definition, on `machine` and `layout`.
 #![tactic(auto)]
-

@@ -2,37 +2,32 @@
 -- a membership but abort and recover, which undo, and format, which starts anew; nothing but a locate that is done writes the lent list.
 use Rattle.std.specs.Prelude.{◌≡◌, Bool, true, false, cond, not, ◌&&◌, leb, ltb, eqb}
 use Rattle.std.proofs.Math.Path.{refl}
-use Rattle.std.proofs.Common.{sym, ◌∙◌, subst, ap, arith}
-use mathlib.Core.List.{List, [], ◌∷◌, map}
-use Rattle.std.proofs.Math.Option.{Option, none, some, some-injective}
+use Rattle.std.proofs.Common.{sym, ◌∙◌, ap, arith}
+use mathlib.Core.List.{List, [], ◌∷◌}
+use Rattle.std.proofs.Math.Option.{Option, none, some}
 use Prim.Native.Nat.{zero, suc, ◌*◌, ◌≤◌, ◌<◌, ℕ}
 use Rattle.std.proofs.Math.ListN.{length}
-use Rattle.serial.specs.Serial.{true≢false, undo}
+use Rattle.serial.specs.Serial.{true≢false}
 use Rattle.serial.specs.Rising.{rising-ext}
-use Rattle.serial.specs.Model.{Item, Req, Pair, by_key, get, ans, eff, two_words, empty, Db}
+use Rattle.serial.specs.Model.{Item, Req, Pair, by_key, get, ans, eff, two_words, Db}
 use Rattle.serial.specs.Model as R
-use Rattle.serial.specs.Footprints.{Good, store, eff_good, ans-local, eff-local}
-use Rattle.serial.specs.LockMachine.{get-empty}
+use Rattle.serial.specs.Footprints.{Good}
 use Rattle.machine.specs.Logic.{eqb_yes, leb-is, leb-not, either}
 use Rattle.machine.specs.Holders.{latch_word, elem}
 use Rattle.machine.specs.Tree.{pick}
 use Rattle.machine.specs.State.{Desc, Tree, Stage, start, enter, take, State, Answer, more, wait, done, refused, Outcome, no_desc, same, or_none, session_of, stored, lowest_from, gap_below, desc_of, set_hand, in_stage, fresh, Request, ok, at, change}
 use Rattle.machine.specs.Steps.{ended, goes_on, finished, guarded, read-step, write_step, entry-step, insert-step, remove-step, change-step, memberships, last_take, take_desc, take_step, enter_step, level-step, pin-step, make-step, removable, tidied_state, updating_state, inserted_state, removed_state, located_state, tidy-step, lowest_step, stand_step, at_step, first_step, next_step, answer}
 use Rattle.machine.specs.Calls.{Call, format, begin, put, step, commit, abort, ask, recover, call, put_checks, step_checks, begin_checks, commit_checks, abort_checks, ask_checks, format_checks, accepted, begins, commits, aborts, asks, steps, records_for}
-use Rattle.machine.specs.View.{log_entry, items}
-use Rattle.machine.specs.Model.{model_is, memberships-are, model, model_good}
+use Rattle.machine.specs.View.{items}
+use Rattle.machine.specs.Model.{model_is, model, model_good}
 use Rattle.machine.specs.Sound.{Sound, Stands, of_hand}
 use Rattle.machine.specs.Descents.{guard-cases, latch-cases}
-use Rattle.machine.specs.Housekeeping.{lvs}
 use Rattle.machine.specs.Checks.{refusing-cases, refusing-numbers}
 use Rattle.machine.specs.Looks.{fit_of}
-use Rattle.machine.specs.Keeping.{keeps}
-use Rattle.machine.specs.Events.{Does, unseen, locks, finishes, unfinished}
+use Rattle.machine.specs.Events.{unseen, locks, finishes, unfinished}
 use Rattle.machine.specs.Session.{req_of}
-use Rattle.machine.specs.Moves.{Moves, quiet, tidied, began, committed, aborted, recovered, stepped, formatted, halted, moves}
-use Rattle.machine.specs.Safety.{safe-of}
+use Rattle.machine.specs.Moves.{Moves, quiet, tidied, began, committed, aborted, recovered, stepped, formatted}
 use Rattle.machine.specs.Ledger.{is_ok}
-use Rattle.machine.specs.Demand.{fresh-formatted}
 use Rattle.machine.specs.Waits.{settled-step}
 
 -- ---- the logical part of a state
@@ -43,14 +38,14 @@ pub record Logical (d : Db) (t : State) : Type 0 where
   pub values_are : (e : ℕ) → (model t).values e ≡ d.values e
   pub members_are : (model t).members ≡ d.members
 
-sound-good : {s : State} → Sound s → Good (model s)
+pub sound-good : {s : State} → Sound s → Good (model s)
 sound-good {s} S = model_good 0 4294967296 s (fit_of S).rises (fit_of S).listed
 
-sound-is : {s : State} → Sound s → (i : Item) → get (model s) i ≡ items s i
+pub sound-is : {s : State} → Sound s → (i : Item) → get (model s) i ≡ items s i
 sound-is {s} S i = model_is 0 4294967296 s (fit_of S).rises i
 
 -- Item by item is enough.
-logical-from : (d : Db) (t : State) → Good d → Sound t → ((i : Item) → items t i ≡ get d i) → Logical d t
+pub logical-from : (d : Db) (t : State) → Good d → Sound t → ((i : Item) → items t i ≡ get d i) → Logical d t
 logical-from d t g S h = record {
   items_are = h;
   values_are = λ e. h (R.value e);
@@ -62,7 +57,7 @@ pub record Untouched (s t : State) : Type 0 where
   pub items_same : (i : Item) → items t i ≡ items s i
   pub logical_same : Logical (model s) t
 
-untouched : (s t : State) → Sound s → Sound t → ((i : Item) → items t i ≡ items s i) → Untouched s t
+pub untouched : (s t : State) → Sound s → Sound t → ((i : Item) → items t i ≡ items s i) → Untouched s t
 untouched s t S T h = record { items_same = h; logical_same = logical-from (model s) t (sound-good S) T (λ i. h i ∙ sym (sound-is S i)) }
 
 -- ---- what a step can answer and write
@@ -149,7 +144,7 @@ module _ (P : Outcome → Type 0) (p : ℕ) (r : Request) (s : State) (plain : (
   step-cases n (take x) h fits short = take_cases n x (fits h.code_5) (short h.code_5)
 
 -- A step, refused by its checks or made.
-call-cases : (P : Outcome → Type 0) (p n : ℕ) (s : State) → Sound s → ((a : Answer) (t : State) → ordinary a ≡ true → P (answer a t))
+pub call-cases : (P : Outcome → Type 0) (p n : ℕ) (s : State) → Sound s → ((a : Answer) (t : State) → ordinary a ≡ true → P (answer a t))
     → ((r : Request) → (session_of p s).hand ≡ some r → r.code ≡ 5 → (t : State) → 2 * length (memberships r.first r.second (stored s)) ≤ n
     → P (record { answer = done (length (memberships r.first r.second (stored s)) ∷ []); next = t; written = memberships r.first r.second (stored s) }))
     → ((r : Request) → (session_of p s).hand ≡ some r → r.code ≡ 5 → (t : State) → n < 2 * length (memberships r.first r.second (stored s))
@@ -215,7 +210,7 @@ AsModel q s o (wait ps) = Unanswered s o
 AsModel q s o (done ns) = Answered q s o ns
 AsModel q s o (refused n k) = Unanswered s o
 
-not_done : (q : Req) (s : State) (o : Outcome) (a : Answer) → unfinished a ≡ true → Unanswered s o → AsModel q s o a
+pub not_done : (q : Req) (s : State) (o : Outcome) (a : Answer) → unfinished a ≡ true → Unanswered s o → AsModel q s o a
 not_done q s o ok e u = u
 not_done q s o more e u = u
 not_done q s o (wait ps) e u = u
@@ -234,7 +229,7 @@ may_change (abort p) a = is_ok a
 may_change (ask p) a = false
 may_change recover a = is_ok a
 
-kept-items : (c : Call) (s : State) (o : Outcome) → may_change c o.answer ≡ false → Moves s o c → (i : Item) → items o.next i ≡ items s i
+pub kept-items : (c : Call) (s : State) (o : Outcome) → may_change c o.answer ≡ false → Moves s o c → (i : Item) → items o.next i ≡ items s i
 kept-items c s o e (quiet d u x) = x.db_kept
 kept-items c s o e (tidied n x) = x.db_kept
 kept-items c s o e (began p u x) = x.db_kept
@@ -257,82 +252,9 @@ pub record TooShort (r : Request) (s : State) (n k : ℕ) : Type 0 where
   pub count_is : k ≡ length (R.located r.first r.second (model s))
   pub short : n < 2 * k
 
-pub refused-12 : (p n k : ℕ) (s : State) → Sound s → (call (step p n) s).answer ≡ refused 12 k → (r : Request) × ((session_of p s).hand ≡ some r) × TooShort r s n k
-unfolding stored
-refused-12 p n k s S = call-cases (λ o. o.answer ≡ refused 12 k → (r : Request) × ((session_of p s).hand ≡ some r) × TooShort r s n k) p n s S
-    (λ a t h e. absurd (true≢false h (ap ordinary e))) (λ r h c t w e. absurd (true≢false {b = true} refl (ap unfinished (sym e)))) (λ r h c t w e. (r, h, short r c w (number e)))
-  where
-    number : {j : ℕ} → refused 12 j ≡ refused 12 k → k ≡ j
-    number e = cc
-
-    short : (r : Request) → r.code ≡ 5 → n < 2 * length (memberships r.first r.second (lvs s)) → k ≡ length (memberships r.first r.second (lvs s)) → TooShort r s n k
-    short r c w e = record {
-      locates = req-locate r c;
-      count_is = e ∙ ap length (memberships-are r.first r.second (lvs s));
-      short = omega (arith, w, e);
-    }
-
 module _ (s : State) (S : Sound s) (m n : ℕ) (r : Request) (hand : (session_of (suc m) s).hand ≡ some r) where
   abbrev c : Call
   c = step (suc m) n
 
   abbrev o : Outcome
   o = call c s
-
-  quiet_step : unfinished o.answer ≡ true → ((i : Item) → items o.next i ≡ items s i) → AsModel (req_of r) s o o.answer
-  quiet_step u h = not_done (req_of r) s o o.answer u (record {
-    nothing_written = written-only c s S (and-not (of_hand false (λ z. eqb z.code 5) (session_of (suc m) s).hand) (unfinished o.answer) u);
-    stays = untouched s o.next S (keeps c s S) h;
-  })
-    where
-      and-not : (a b : Bool) → b ≡ true → (a && not b) ≡ false
-      and-not true true e = refl
-      and-not false b e = refl
-      and-not true false e = absurd (true≢false e refl)
-
-  does-model : Does (suc m) (req_of r) s o → AsModel (req_of r) s o o.answer
-  does-model (unseen u x) = quiet_step u x.db_kept
-  does-model (locks u x) = quiet_step (ap unfinished u) x.db_kept
-  does-model (finishes t a u w l f) = subst (AsModel (req_of r) s o) (sym u) (record {
-    number_is = ap (λ z. z.numbers) answers;
-    words_are = w ∙ ap (λ z. z.words) answers;
-    after = logical-from (eff (req_of r) (model s)) o.next (eff_good (req_of r) (model s) (sound-good S)) (keeps c s S)
-        (λ i. f.change i ∙ eff-local (req_of r) f.model (model s) f.model_good (sound-good S) (λ j d. alike j) i (alike i));
-  })
-    where
-      alike : (i : Item) → get f.model i ≡ get (model s) i
-      alike i = f.is_model i ∙ l.db_kept i ∙ sym (sound-is S i)
-
-      answers : a ≡ ans (req_of r) (model s)
-      answers = f.answer ∙ ans-local (req_of r) f.model (model s) f.model_good (sound-good S) (λ i d. alike i)
-
-  moves-model : Moves s o (step (suc m) n) → AsModel (req_of r) s o o.answer
-  moves-model (quiet d u x) = quiet_step u x.db_kept
-  moves-model (stepped k l q e d) = does-model (subst (λ z. Does (suc m) (req_of z) s o) (some-injective q r (sym e ∙ hand)) d)
-
--- A step of a session, whose request in hand is r; n words of list are lent.
-pub answers-as-model : (s : State) → Sound s → (m n : ℕ) (r : Request) → (session_of (suc m) s).hand ≡ some r
-    → AsModel (req_of r) s (call (step (suc m) n) s) (call (step (suc m) n) s).answer
-answers-as-model s S m n r h = moves-model s S m n r h (moves (step (suc m) n) s (safe-of s S))
-
--- ---- every other call
-
-pub leaves-logical : (c : Call) (s : State) → Sound s → may_change c (call c s).answer ≡ false → Untouched s (call c s).next
-leaves-logical c s S e = untouched s (call c s).next S (keeps c s S) (kept-items c s (call c s) e (moves c s (safe-of s S)))
-
--- An accepted abort undoes the session's undo records, newest first.
-pub abort-logical : (p : ℕ) (s : State) → Sound s → (call (abort p) s).answer ≡ ok
-    → (i : Item) → items (call (abort p) s).next i ≡ undo store (map log_entry (session_of p s).undos) (items s) i
-abort-logical p s S e = go (moves (abort p) s (safe-of s S))
-  where
-    go : Moves s (call (abort p) s) (abort p) → (i : Item) → items (call (abort p) s).next i ≡ undo store (map log_entry (session_of p s).undos) (items s) i
-    go (quiet c u x) = absurd (true≢false u (ap halted e))
-    go (aborted q u x) = x.db_undone
-
--- An accepted format leaves all values 0 and no memberships.
-pub format-logical : (m words : ℕ) (s : State) → Sound s → (call (format m words) s).answer ≡ ok → Logical empty (call (format m words) s).next
-format-logical m words s S e = logical-from empty (call (format m words) s).next tt (keeps (format m words) s S) (λ i. go (moves (format m words) s (safe-of s S)) i ∙ sym (get-empty i))
-  where
-    go : Moves s (call (format m words) s) (format m words) → (i : Item) → items (call (format m words) s).next i ≡ 0
-    go (quiet c u x) i = absurd (true≢false u (ap halted e))
-    go (formatted k w u x) i = ap (λ t. items t i) x ∙ (fresh-formatted m (records_for m words)).no_values i

@@ -1,30 +1,27 @@
 -- What ask promises, and what recover leaves (M-105): only commit and abort remain to a session that is asked; from its ask on its commit is accepted and
 -- what it holds stays held, whatever others call and across recovers, until its commit or abort; recover undoes each session that it aborts.
-use Rattle.std.specs.Prelude.{◌≡◌, refl, Bool, true, false, cond, not, ◌&&◌, List, [], ◌∷◌, ◌++◌, map, zero, suc, ◌≤◌, ℕ, eqb, length}
-use Rattle.std.proofs.Common.{sym, ◌∙◌, subst, ap, arith}
-use Rattle.std.proofs.Math.Option.{Option, none, some}
+use Rattle.std.specs.Prelude.{◌≡◌, refl, true, false, not, ◌&&◌, List, [], ◌∷◌, ◌++◌, zero, suc, ◌≤◌, ℕ}
+use Rattle.std.proofs.Common.{sym, ◌∙◌, ap, arith}
+use Rattle.std.proofs.Math.Option.{none}
 use Rattle.std.proofs.Math.Dec.{eqb-suc-zero}
-use Rattle.serial.specs.Serial.{true≢false, In, Log, undo, undo-cong}
+use Rattle.serial.specs.Serial.{In, undo, undo-cong}
 use Rattle.serial.specs.Model.{Item}
 use Rattle.serial.specs.Footprints.{store}
-use Rattle.serial.specs.Locks.{Kind, Mode, lock_rule}
 use Rattle.serial.specs.LockMachine.{Stays}
-use Rattle.serial.specs.Calls.{Turn, Told, nothing, tell, told, Run, Knows}
+use Rattle.serial.specs.Calls.{Turn, Told, nothing, tell, told}
 use Rattle.serial.specs.Calls as C
-use Rattle.serial.specs.Recovery.{logs, Unclosed, AskedSince, told_ok, closes, ask-promise, told-stays, lapsed-listed}
+use Rattle.serial.specs.Recovery.{logs, Unclosed, told_ok, closes, told-stays, lapsed-listed}
 use Rattle.machine.specs.Logic.{leb_no}
 use Rattle.machine.specs.Holders.{width}
-use Rattle.machine.specs.State.{State, Answer, refused, session_of, ok}
+use Rattle.machine.specs.State.{State, refused, session_of, ok}
 use Rattle.machine.specs.Steps.{rule, answer}
 use Rattle.machine.specs.Calls.{call, refusing, begin, put, step, commit, abort, ask, recover, recovers, is_asked, lapse}
-use Rattle.machine.specs.View.{items, holders, log_entry, view}
+use Rattle.machine.specs.View.{items, view}
 use Rattle.machine.specs.Sound.{Sound}
 use Rattle.machine.specs.Looks.{begun-party}
-use Rattle.machine.specs.Recover.{marks, Recovered, recovered}
+use Rattle.machine.specs.Recover.{marks, recovered}
 use Rattle.machine.specs.Moves.{abort-accepted, commit-accepted}
-use Rattle.machine.specs.Demand.{Lent, Performs, machine}
-use Rattle.machine.specs.Demand3.{machine-laws}
-use Rattle.machine.specs.Held.{Lasts, run-lasts, turn_ends}
+use Rattle.machine.specs.Held.{Lasts, turn_ends}
 
 -- ---- only commit and abort remain
 
@@ -60,13 +57,8 @@ asked-fixed p s S a = let q = S.only_asked p a in go p (begun-party S p q.0) q.0
 
 -- ---- the promise, over lists of calls
 
--- From an accepted ask of session p on, until an accepted commit or abort of p or a format: a commit of p is accepted.
-pub asked-commits : (p : ℕ) (t : Told) (x y z : Lent) (ks : List Turn) (j : Turn) → Knows machine t x → Run machine x ks y → AskedSince p ks
-    → j.call ≡ C.commit p → Performs y j z → j.answer ≡ C.ok
-asked-commits = ask-promise lock_rule machine machine-laws
-
 -- No such turn ends what p holds.
-unclosed-lasts : (p : ℕ) (ks : List Turn) (t : Told) → t.asked p ≡ true → Unclosed p ks → Lasts p t ks
+pub unclosed-lasts : (p : ℕ) (ks : List Turn) (t : Told) → t.asked p ≡ true → Unclosed p ks → Lasts p t ks
 unclosed-lasts p [] t a u = tt
 unclosed-lasts p (k ∷ ks) t a u = (ends k.call k.answer u.0, unclosed-lasts p ks (tell k t) (told-stays p (k ∷ []) t (u.0, tt) a) u.1)
   where
@@ -79,11 +71,6 @@ unclosed-lasts p (k ∷ ks) t a u = (ends k.call k.answer u.0, unclosed-lasts p 
     ends (C.abort q) b e = e
     ends (C.ask q) b e = e
     ends C.recover b e = ap (λ z. told_ok b && not z) a ∙ e
-
--- What a session that is asked holds, it holds until then, across recovers too.
-pub asked-holds : (p : ℕ) (t : Told) (x y : Lent) (ks : List Turn) → Knows machine t x → is_asked p x.state ≡ true → Run machine x ks y → Unclosed p ks
-    → (k : Kind) (m : Mode) (z : ℕ) → holders x.state k m p z ≡ true → holders y.state k m p z ≡ true
-asked-holds p t x y ks w a r u k m z h = run-lasts k m p z t r w (unclosed-lasts p ks t (sym (w.asked_told p) ∙ a) u) h
 
 -- ---- what recover changes
 

@@ -1,16 +1,15 @@
 -- An accepted begin in the documents' words: the begun sessions are renumbered in the order of their begins, and the one that begins is the last of them.
-use Rattle.std.specs.Prelude.{◌≡◌, Bool, true, false, List, length}
+use Rattle.std.specs.Prelude.{◌≡◌, true, false, length}
 use Rattle.std.proofs.Math.Path.{refl, sym, ap}
 use Rattle.std.proofs.Common.{◌∙◌, subst, arith}
-use Rattle.std.proofs.Math.Option.{Option}
 use Prim.Native.Nat.{suc, ◌-◌, ◌≤◌, ◌<◌, ℕ}
 use Rattle.std.proofs.Math.Decide.{ℕ_discrete}
 use Rattle.serial.specs.Serial.{true≢false}
-use Rattle.machine.specs.State.{State, Outcome, refused, ok, session_of, on_session}
+use Rattle.machine.specs.State.{State, ok, session_of, on_session}
 use Rattle.machine.specs.Steps.{answer}
 use Rattle.machine.specs.Calls.{begin, call, begin_checks, begun_many, last_rank, ranked, renumbered, begins}
 use Rattle.machine.specs.Sound.{Sound, Passes}
-use Rattle.machine.specs.Table.{as_begun, begun-seat, ranked-kept, renumbered-kept, renumbered-unbegun, renumbered-order, renumbered-many, renumbered-session, begins-own, begins-other, begins-kept, begins-many}
+use Rattle.machine.specs.Table.{as_begun, ranked-kept, renumbered-kept, renumbered-unbegun, renumbered-order, renumbered-many, begins-own, begins-other, begins-kept, begins-many}
 use Rattle.machine.specs.Ranks.{Ranked, rank-met, begun-map, begun-set}
 use Rattle.machine.specs.Checks.{refusing-cases, session-number, party-seat, session-unbegun}
 use Rattle.machine.specs.Renumbering.{rank_less, less-rank, number-most}

@@ -6,14 +6,13 @@ use Rattle.std.proofs.Math.Decide.{ℕ_discrete}
 use Rattle.std.proofs.Math.Dec.{eqb}
 use Rattle.serial.specs.Serial.{true≢false}
 use Rattle.serial.specs.Locks.{Kind, Mode, weak, strong, lock_rule}
-use Rattle.serial.specs.Locks as L
 use Rattle.machine.specs.Logic.{both, eqb_yes, eqb_no, eqb_is, eqb-not, leb_yes, leb_no}
 use Rattle.machine.specs.Holders.{width, holds, count_from, filter, in_the_way, blockers, latch_word, elem, latch_blockers}
 use Rattle.machine.specs.Tree.{pick, Seg, Below, Cmp, cmp, low, high, pick-hit}
-use Rattle.machine.specs.State.{Desc, Tree, Request, State, entry_of, same}
+use Rattle.machine.specs.State.{Tree, State, same}
 use Rattle.machine.specs.Descent.{Sons, pick_pair, sons_of, node, lone_son, drop_lone}
-use Rattle.machine.specs.Steps.{entry_blockers, group_blockers, root_blockers, root_left, taking_part, level_blockers, son-at}
-use Rattle.machine.specs.InTheWay.{Son, Neighbour, Involved, LoneLatched, Free}
+use Rattle.machine.specs.Steps.{root_blockers, root_left, taking_part, level_blockers, son-at}
+use Rattle.machine.specs.InTheWay.{Son, Neighbour, Involved, LoneLatched}
 
 -- ---- long locks
 
@@ -90,32 +89,16 @@ blocks k m p hw hs q = (into, back)
         ∙ ap (λ b. (not b && (w || s)) && elem q (count_from 1 width)) (eqb_no q p h.2) ∙ ap (λ b. b && elem q (count_from 1 width)) (hits h.3)
         ∙ (elem-count q 1 width).1 (h.0, omega (arith, h.1))
 
--- The guards of reads, writes and first steps; of changes and locates.
-pub entry-blocks : (m : Mode) (p : ℕ) (r : Request) (s : State) (q : ℕ)
-    → (elem q (entry_blockers m p r s) ≡ true) ↔ Blocks L.entry m p (entry_of r.entry s).share (entry_of r.entry s).exclusive q
-unfolding entry_blockers
-entry-blocks m p r s q = blocks L.entry m p (entry_of r.entry s).share (entry_of r.entry s).exclusive q
-
-pub group-blocks : (m : Mode) (p : ℕ) (d : Desc) (q : ℕ) → (elem q (group_blockers m p d) ≡ true) ↔ Blocks L.group m p d.locate d.update q
-unfolding group_blockers
-group-blocks m p d q = blocks L.group m p d.locate d.update q
-
 -- Nobody in the way: whoever else holds, agrees.
-abbrev Agrees : Kind → Mode → ℕ → ℕ → ℕ → ℕ → Type 0
+abbrev pub Agrees : Kind → Mode → ℕ → ℕ → ℕ → ℕ → Type 0
 Agrees k m p hw hs q = 1 ≤ q → q ≤ width → ¬ (p ≡ q) → (holds hw q ≡ true → lock_rule k weak m ≡ true) × (holds hs q ≡ true → lock_rule k strong m ≡ true)
 
-none-agree : (k : Kind) (m : Mode) (p hw hs q : ℕ) → ¬ Blocks k m p hw hs q → Agrees k m p hw hs q
+pub none-agree : (k : Kind) (m : Mode) (p hw hs q : ℕ) → ¬ Blocks k m p hw hs q → Agrees k m p hw hs q
 none-agree k m p hw hs q e a b n = ((λ h. agrees (lock_rule k weak m) (λ c. inl (h, c))), λ h. agrees (lock_rule k strong m) (λ c. inr (h, c)))
   where
     agrees : (c : Bool) → (c ≡ false → Clash k m hw hs q) → c ≡ true
     agrees true f = refl
     agrees false f = absurd (e (a, b, (λ i. n (sym i)), f refl))
-
-pub unblocked : (k : Kind) (m : Mode) (p hw hs : ℕ) → blockers lock_rule k m p hw hs ≡ [] → (q : ℕ) → Agrees k m p hw hs q
-unblocked k m p hw hs e q = none-agree k m p hw hs q (λ h. true≢false (sym (ap (elem q) e) ∙ (blocks k m p hw hs q).1 h) refl)
-
-pub group-free : (m : Mode) (p : ℕ) (d : Desc) → group_blockers m p d ≡ [] → (q : ℕ) → Agrees L.group m p d.locate d.update q
-group-free m p d e q = none-agree L.group m p d.locate d.update q (λ h. true≢false (sym (ap (elem q) e) ∙ (group-blocks m p d q).1 h) refl)
 
 -- ---- latches
 
@@ -224,7 +207,7 @@ behind_one a n S = record {
 }
 
 -- A son that has a party's latch was found.
-son-found : (x h q : ℕ) (es : Sons (suc h)) → (son-at x h es).latch ≡ latch_word q → Son x es
+pub son-found : (x h q : ℕ) (es : Sons (suc h)) → (son-at x h es).latch ≡ latch_word q → Son x es
 son-found x h q [] e = absurd (omega (arith, e))
 son-found x h q (a ∷ es) e = go (cmp x a.1) e (son-found x h q es)
   where
@@ -259,7 +242,7 @@ words_right h a b = at (eqb b.0.latch a.0.latch) refl
     at false i = simp (eqb_yes b.0.latch b.0.latch refl, i)
 
 -- Of the pair, one is the son on the path and the other its neighbour.
-abbrev OfPair : (x h w : ℕ) (es : Sons (suc h)) → Type 0
+abbrev pub OfPair : (x h w : ℕ) (es : Sons (suc h)) → Type 0
 OfPair x h w es = (S : Son x es) × (t : Tree (suc h)) × (t.latch ≡ w) × ((t ≡ S.son) ⊎ Neighbour S t)
 
 pub snoc_of : {X : Type 0} (a : X) (l : List X) → (pre : List X) × (c : X) × (a ∷ l ≡ pre ++ c ∷ [])
@@ -267,7 +250,7 @@ snoc_of a [] = ([], a, refl)
 snoc_of a (b ∷ l) = let z = snoc_of b l in (a ∷ z.0, z.1, ap (λ k. a ∷ k) z.2)
 
 module _ (Q : (h : ℕ) → ℕ → ℕ → Tree (suc h) → Type 0) (le : (h l u : ℕ) (a : Tree (suc h)) → Q h l u a → l ≤ suc u) where
-  pair_found : (x h w lo e : ℕ) (es : Sons (suc h)) → Seg (Q h) lo e es → elem w (pick_pair x [] (words_of h) es) ≡ true → OfPair x h w es
+  pub pair_found : (x h w lo e : ℕ) (es : Sons (suc h)) → Seg (Q h) lo e es → elem w (pick_pair x [] (words_of h) es) ≡ true → OfPair x h w es
   pair_found x h w lo e [] s i = absurd (true≢false i refl)
   pair_found x h w lo e (a ∷ []) s i = absurd (true≢false i refl)
   pair_found x h w lo e (a ∷ b ∷ es) s i = go (cmp x b.1) i (pair_found x h w (suc a.1) e (b ∷ es) s.1)
@@ -385,30 +368,3 @@ module _ (Q : (h : ℕ) → ℕ → ℕ → Tree (suc h) → Type 0) (le : (h l 
           only : (t ≡ I.0.son) ⊎ ((p ≡ 0) × (sons_of I.0.son ≡ 3) × Neighbour I.0 t) → elem w (parts false) ≡ true
           only (inl j) = rw (eqb_yes w u.latch (sym (ap (λ y. y.latch) (son-hit x h es I.0 ∙ sym j) ∙ l))) refl
           only (inr j) = absurd (true≢false {b = eqb p 0 && eqb (sons_of u) 3} (rw (eqb_yes p 0 j.0, eqb_yes (sons_of u) 3 (ap (λ y. sons_of y) (son-hit x h es I.0) ∙ j.1)) refl) c)
-
-  -- Nobody in the way: the nodes that take part have no latch, or the party's own.
-  module _ (p x h lo e : ℕ) (es : Sons (suc h)) (s : Seg (Q h) lo e es) (n : p ≡ 0 → ¬ (length es ≡ 1)) (nobody : level_blockers p x h es (son-at x h es) ≡ []) where
-    involved-free : (t : Tree (suc h)) → Involved p x h es t → Free p t.latch
-    involved-free t I = go t.latch refl
-      where
-        go : (w : ℕ) → t.latch ≡ w → Free p w
-        go zero i = inl refl
-        go (suc q) i = at (ℕ_discrete q p)
-          where
-            at : Dec (q ≡ p) → Free p (suc q)
-            at (yes j) = inr (ap suc j)
-            at (no j) = absurd (true≢false ((level-blocks p x h lo e es s n q).1 (j, (t, I, i))) (ap (elem q) nobody))
-
-    pub son-free : Free p (son-at x h es).latch
-    son-free = go (son-at x h es).latch refl
-      where
-        go : (w : ℕ) → (son-at x h es).latch ≡ w → Free p w
-        go zero i = inl refl
-        go (suc q) i = let S = son-found x h q es i in subst (Free p) i (involved-free (son-at x h es) (S, inl (son-hit x h es S)))
-
-    pub pair-free : p ≡ 0 → sons_of (son-at x h es) ≡ 3 → (w : ℕ) → elem w (pick_pair x [] (words_of h) es) ≡ true → Free p w
-    pair-free z three w i = let o = pair_found x h w lo e es s i in subst (Free p) o.2 (involved-free o.1 (o.0, which o.0 o.1 o.3))
-      where
-        which : (S : Son x es) (t : Tree (suc h)) → (t ≡ S.son) ⊎ Neighbour S t → (t ≡ S.son) ⊎ ((p ≡ 0) × (sons_of S.son ≡ 3) × Neighbour S t)
-        which S t (inl j) = inl j
-        which S t (inr j) = inr (z, ap (λ y. sons_of y) (sym (son-hit x h es S)) ∙ three, j)

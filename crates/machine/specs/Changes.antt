@@ -9,7 +9,7 @@ use Rattle.serial.specs.Model.{Item, Req, get, eff, ans}
 use Rattle.serial.specs.Model as R
 use Rattle.serial.specs.Locks.{Kind, Mode, weak, strong, Needs, undo_of}
 use Rattle.serial.specs.Locks as L
-use Rattle.serial.specs.LockMachine.{Locked, Finished}
+use Rattle.serial.specs.LockMachine.{Finished}
 use Rattle.machine.specs.Holders.{holds, held_by, blockers, elem}
 use Rattle.machine.specs.State.{Desc, State, session_of, desc_of, on_tree, on_desc, hold_desc, same}
 use Rattle.machine.specs.Steps.{rule, group_blockers}
@@ -19,8 +19,6 @@ use Rattle.machine.specs.Bits.{held-other, held_more}
 use Rattle.machine.specs.Groups.{Rises}
 use Rattle.machine.specs.Housekeeping.{lvs}
 use Rattle.machine.specs.Keys.{Kept, put-locate, put-update, was-update, was-locate, put-update-other, put-group-kept, put-rises, put-listed-kept}
-use Rattle.machine.specs.Blocking.{unblocked}
-use Rattle.machine.specs.Agreement.{grown-agree}
 use Rattle.machine.specs.Entries.{Fit}
 
 -- ---- the update lock of key k for session p
@@ -53,7 +51,7 @@ module _ (p k : ℕ) (s : State) (K : Kept k s) where
       at (yes e) = subst (λ i. holds (update_word i (seen held_state)) q ≡ holds (update_word i (seen s)) q) e (ap (λ w. holds w q) up_word ∙ held-other p q (update_word k (seen s)) ne)
       at (no n) = ap (λ w. holds w q) (put-update-other k s K (hold_update p) refl z n)
 
-  up-old : (l : Kind) (n : Mode) (q z : ℕ) → holders s l n q z ≡ true → holders held_state l n q z ≡ true
+  pub up-old : (l : Kind) (n : Mode) (q z : ℕ) → holders s l n q z ≡ true → holders held_state l n q z ≡ true
   unfolding on_tree
   up-old L.entry n q z h = entry-holders s held_state refl n q z ∙ h
   up-old L.group weak q z h = ap (λ w. holds w q) (put-locate k s K (hold_update p) refl refl refl z) ∙ h
@@ -63,7 +61,7 @@ module _ (p k : ℕ) (s : State) (K : Kept k s) where
       at (yes e) = subst (λ i. holds (update_word i (seen held_state)) q ≡ true) e (ap (λ w. holds w q) up_word ∙ held_more p q (update_word k (seen s)) (ℕ_discrete p q) (subst (λ i. holds (update_word i (seen s)) q ≡ true) (sym e) h))
       at (no n) = ap (λ w. holds w q) (put-update-other k s K (hold_update p) refl z n) ∙ h
 
-  up-new : (l : Kind) (n : Mode) (q z : ℕ) → holders held_state l n q z ≡ true → (holders s l n q z ≡ true) ⊎ ((p ≡ q) × (L.group ≡ l) × (strong ≡ n) × (k ≡ z))
+  pub up-new : (l : Kind) (n : Mode) (q z : ℕ) → holders held_state l n q z ≡ true → (holders s l n q z ≡ true) ⊎ ((p ≡ q) × (L.group ≡ l) × (strong ≡ n) × (k ≡ z))
   unfolding on_tree
   up-new L.entry n q z h = inl (sym (entry-holders s held_state refl n q z) ∙ h)
   up-new L.group weak q z h = inl (sym (ap (λ w. holds w q) (put-locate k s K (hold_update p) refl refl refl z)) ∙ h)
@@ -75,32 +73,11 @@ module _ (p k : ℕ) (s : State) (K : Kept k s) where
       at (no e) f = inl (sym (ap (λ w. holds w q) (put-update-other k s K (hold_update p) refl z e)) ∙ h)
 
   module _ (F : Fit s) (free : group_blockers strong p (desc_of k s) ≡ []) where
-    free-here : blockers rule L.group strong p (locate_word k (seen s)) (update_word k (seen s)) ≡ []
+    pub free-here : blockers rule L.group strong p (locate_word k (seen s)) (update_word k (seen s)) ≡ []
     unfolding group_blockers
     free-here =
         ap₂ (λ a b. blockers rule L.group strong p a b) (was-locate k s K) (was-update k s K)
         ∙ sym (ap (λ d. blockers rule L.group strong p d.locate d.update) K.desc) ∙ free
-
-    up-clear : (n : Mode) (q z : ℕ) → k ≡ z → ¬ (p ≡ q) → holders s L.group n q z ≡ true → rule L.group n strong ≡ true
-    up-clear n q z e ne h = at n h
-      where
-        at : (o : Mode) → holders s L.group o q z ≡ true → rule L.group o strong ≡ true
-        at weak y = let b = F.few L.group weak q z y in
-            (unblocked L.group strong p (locate_word k (seen s)) (update_word k (seen s)) free-here q b.0 b.1 ne).0 (subst (λ w. holds (locate_word w (seen s)) q ≡ true) (sym e) y)
-        at strong y = let b = F.few L.group strong q z y in
-            (unblocked L.group strong p (locate_word k (seen s)) (update_word k (seen s)) free-here q b.0 b.1 ne).1 (subst (λ w. holds (update_word w (seen s)) q ≡ true) (sym e) y)
-
-    pub update-locked : (session_of p s).begun ≡ true → Locked rule p (view s) (view held_state)
-    unfolding on_tree session_of
-    update-locked b = record {
-      was = b;
-      more = λ l n z. up-old l n p z;
-      log_same = refl;
-      others = λ t n. record { holds_kept = λ l o z. up-others l o t z n; log_kept = refl };
-      begun_same = λ t. refl;
-      db_kept = up-items;
-      agree = grown-agree (holders s) (holders held_state) p L.group strong (λ z. k ≡ z) (record { old = up-old; new = up-new; clear = up-clear }) F.agree;
-    }
 
   pub held-rises : Fit s → Rises 0 4294967296 (lvs held_state)
   held-rises F = put-rises k s K (hold_update p) refl F.rises

@@ -11,7 +11,7 @@ use Rattle.serial.specs.LockMachine.{Acts, Formatted}
 use Rattle.serial.specs.LockMachine as M
 use Rattle.serial.specs.Calls.{Turn, Asked, Told, nothing, tell_ok, tell_done, tell_refused, tell_answer, Machine, take_in_hand, finished, fed, answer_of, ends_request}
 use Rattle.serial.specs.Calls as C
-use Rattle.serial.specs.Recovery.{lapsed-past}
+use Rattle.serial.proofs.Recovery.{lapsed-past}
 use Rattle.serial.specs.Codes.{by-code-upto-5, tells-answer}
 use Rattle.machine.specs.Holders.{width, elem}
 use Rattle.machine.specs.State.{Request, Stage, State, Outcome, session_of, fresh, Answer, wait, done, refused, ok, more}

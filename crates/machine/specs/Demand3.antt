@@ -4,27 +4,21 @@ use Rattle.std.proofs.Common.{sym, ◌∙◌, subst, ap, inl, inr, arith}
 use Rattle.std.proofs.Math.Option.{Option, none, some}
 use Rattle.serial.specs.Serial.{true≢false}
 use Rattle.serial.specs.Model.{two_words}
-use Rattle.serial.specs.Locks.{lock_rule, lock-rule-strict}
-use Rattle.serial.specs.LockMachine.{Acts, Formatted}
-use Rattle.serial.specs.Calls.{Turn, Told, nothing, tell, told, Run, Demand3, Knows, Made, Anew, Laws, demand-3, calls-made}
+use Rattle.serial.specs.Calls.{Turn, Told, nothing, tell, Knows}
 use Rattle.serial.specs.Calls as C
 use Rattle.machine.specs.Logic.{eqb_yes}
 use Rattle.machine.specs.Holders.{width}
 use Rattle.machine.specs.State.{Request, State, Outcome, session_of, fresh, Answer, wait, done, refused, ok, more}
 use Rattle.machine.specs.Steps.{next_step, answer}
 use Rattle.machine.specs.Calls.{put_checks, step_checks, begin_checks, commit_checks, abort_checks, ask_checks, format_checks, accepted, begins, commits, aborts, asks, steps, records_for, call, Call, format, abort, ask, recover, begin, put, step, commit}
-use Rattle.machine.specs.View.{view}
 use Rattle.machine.specs.Sound.{Sound}
 use Rattle.machine.specs.Checks.{refusing-cases}
 use Rattle.machine.specs.Looks.{begun-party}
 use Rattle.machine.specs.Fresh.{fresh-session}
 use Rattle.machine.specs.Ending.{fresh-sound}
-use Rattle.machine.specs.Keeping.{keeps}
-use Rattle.machine.specs.Moves.{abort-accepted, commit-accepted, moves}
-use Rattle.machine.specs.Safety.{safe-of}
+use Rattle.machine.specs.Moves.{abort-accepted, commit-accepted}
 use Rattle.machine.specs.Waits.{waiting, WaitsFor, step_blockers, step_waits, settled-step}
-use Rattle.machine.specs.Demand.{Lent, call_of, Tells, list_after, Performs, machine, tell_of, tells-told, told-alike, ListOf, ToldSo, ToldNew, call-told, fresh-formatted, hand_put, as_told}
-use Rattle.machine.specs.Told.{call-hands, call-marks}
+use Rattle.machine.specs.Demand.{Lent, call_of, Tells, list_after, Performs, machine, tell_of, tells-told, told-alike, ListOf, ToldSo, ToldNew, hand_put, as_told}
 
 -- ---- a wait names somebody
 
@@ -73,13 +67,13 @@ told_of (refused i k) n = (C.refused i k, refl)
 
 -- ---- the laws
 
-call_returns : (c : C.Call) (x : Lent) → (a : C.Answer) × (l : List ℕ) × (y : Lent) × Performs x (record { call = c; answer = a; list = l }) y
+pub call_returns : (c : C.Call) (x : Lent) → (a : C.Answer) × (l : List ℕ) × (y : Lent) × Performs x (record { call = c; answer = a; list = l }) y
 call_returns c x =
     let o = call (call_of c x.words) x.state in
     let b = told_of o.answer (call-named (call_of c x.words) x.state) in
     (b.0, list_after c o.written, record { state = o.next; words = x.words }, record { tells = b.1; list_is = refl; state_is = refl; words_same = refl })
 
-list_of : (c : C.Call) (w : ℕ) (l : List ℕ) (o : Outcome) → l ≡ list_after c o.written → ListOf (call_of c w) l o
+pub list_of : (c : C.Call) (w : ℕ) (l : List ℕ) (o : Outcome) → l ≡ list_after c o.written → ListOf (call_of c w) l o
 list_of (C.format m) w l o e = tt
 list_of (C.begin p) w l o e = tt
 list_of (C.put p c f g h) w l o e = tt
@@ -93,52 +87,27 @@ module _ (k : Turn) (x y : Lent) (t : Told) (d : Performs x k y) (w : Knows mach
   abbrev c : Call
   c = call_of k.call x.words
 
-  abbrev o : Outcome
+  abbrev pub o : Outcome
   o = call c x.state
 
-  abbrev u : Told
+  abbrev pub u : Told
   u = tell_of (as_told c) o.answer k.list t
 
-  telling : tell k t ≡ u
+  pub telling : tell k t ≡ u
   telling = tells-told k.call o.answer k.answer k.list t d.tells ∙ told-alike k.call x.words o.answer k.list t
 
-  events-told : ToldSo x.state o.next t u ⊎ ToldNew o.next u
-  events-told = call-told c x.state o k.list t w.sound w.hand_told w.begun_told w.asked_told (list_of k.call x.words k.list o d.list_is) (moves c x.state (safe-of x.state w.sound))
-
-  begun-after : ToldSo x.state o.next t u ⊎ ToldNew o.next u → (p : ℕ) → (session_of p o.next).begun ≡ u.unfinished p
+  pub begun-after : ToldSo x.state o.next t u ⊎ ToldNew o.next u → (p : ℕ) → (session_of p o.next).begun ≡ u.unfinished p
   begun-after (inl m) p = m.begun_told w.begun_told p
   begun-after (inr m) p = m.none_begun p ∙ sym (ap (λ z. z.unfinished p) m.nothing_told)
 
-  knows-next : Knows machine (tell k t) y
-  knows-next = subst (λ z. Knows machine z y) (sym telling) (record {
-    sound = subst Sound (sym d.state_is) (keeps c x.state w.sound);
-    hand_told = λ p. ap (λ z. hand_put (session_of p z).hand) d.state_is ∙ call-hands x.state w.sound t k.list w.hand_told c p;
-    begun_told = λ p. ap (λ z. (session_of p z).begun) d.state_is ∙ begun-after events-told p;
-    asked_told = λ p. ap (λ z. (session_of p z).asked) d.state_is ∙ call-marks x.state w.sound t k.list w.asked_told c p;
-  })
-
-  moves_next : C.Moves machine lock_rule t (tell k t) x y ⊎ Anew machine (tell k t) y
-  moves_next = go events-told
-    where
-      go : ToldSo x.state o.next t u ⊎ ToldNew o.next u → C.Moves machine lock_rule t (tell k t) x y ⊎ Anew machine (tell k t) y
-      go (inl m) = inl (record {
-        events = m.events;
-        moved = subst (λ z. Acts lock_rule (view x.state) m.events (view z)) (sym d.state_is) m.moved;
-        as_told = ap (λ z. z.past) telling ∙ m.past_is;
-      })
-      go (inr m) = inr (record {
-        nothing_told = ap (λ z. z.past) (telling ∙ m.nothing_told);
-        as_new = subst (λ z. Formatted (view z)) (sym d.state_is) m.as_new;
-      })
-
-abort_ok : (s : ℕ) (k : Turn) (x y : Lent) → k.call ≡ C.abort s → Performs x k y → Sound x.state → (session_of s x.state).begun ≡ true → k.answer ≡ C.ok
+pub abort_ok : (s : ℕ) (k : Turn) (x y : Lent) → k.call ≡ C.abort s → Performs x k y → Sound x.state → (session_of s x.state).begun ≡ true → k.answer ≡ C.ok
 abort_ok s k x y e d S b = go s (begun-party S s b) b (subst (λ z. Tells (call (call_of z x.words) x.state).answer k.answer) e d.tells)
   where
     go : (s : ℕ) → (1 ≤ s) × (s ≤ width) → (session_of s x.state).begun ≡ true → Tells (call (abort s) x.state).answer k.answer → k.answer ≡ C.ok
     go zero h b z = absurd (omega (arith, h))
     go (suc m) h b z = subst (λ a. Tells a k.answer) (abort-accepted m x.state h.1 b) z
 
-commit_ok : (s : ℕ) (k : Turn) (x y : Lent) → k.call ≡ C.commit s → Performs x k y → Sound x.state → (session_of s x.state).asked ≡ true → k.answer ≡ C.ok
+pub commit_ok : (s : ℕ) (k : Turn) (x y : Lent) → k.call ≡ C.commit s → Performs x k y → Sound x.state → (session_of s x.state).asked ≡ true → k.answer ≡ C.ok
 commit_ok s k x y e d S m =
     let q = S.only_asked s m in
     go s (begun-party S s q.0) q.0 q.1 (subst (λ z. Tells (call (call_of z x.words) x.state).answer k.answer) e d.tells)
@@ -146,15 +115,6 @@ commit_ok s k x y e d S m =
     go : (s : ℕ) → (1 ≤ s) × (s ≤ width) → (session_of s x.state).begun ≡ true → (session_of s x.state).hand ≡ none → Tells (call (commit s) x.state).answer k.answer → k.answer ≡ C.ok
     go zero h b o z = absurd (omega (arith, h))
     go (suc m) h b o z = subst (λ a. Tells a k.answer) (commit-accepted m x.state h.1 b o) z
-
-pub machine-laws : Laws machine lock_rule
-machine-laws = record {
-  returns = λ c x S. call_returns c x;
-  knows = λ k x y t d w. knows-next k x y t d w;
-  moves = λ k x y t d w. moves_next k x y t d w;
-  abort_ok = abort_ok;
-  commit_ok = commit_ok;
-}
 
 -- A fresh store of m entries and r records, of so many words.
 abbrev pub fresh_lent : ℕ → ℕ → ℕ → Lent
@@ -167,12 +127,3 @@ fresh-known m r words a b c d = record {
   begun_told = λ p. ap (λ z. z.begun) (fresh-session m r p);
   asked_told = λ p. ap (λ z. z.asked) (fresh-session m r p);
 }
-
--- Any list of calls, whoever's turn each is, from a fresh store.
-pub machine-demand-3 : (m r words : ℕ) → 1 ≤ m → m ≤ 1024 → 8 ≤ r → r ≤ 4096 → (ks : List Turn) (y : Lent) → Run machine (fresh_lent m r words) ks y
-    → Demand3 machine (told nothing ks) y
-machine-demand-3 m r words a b c d ks y run = demand-3 machine lock_rule lock-rule-strict machine-laws (fresh_lent m r words) y ks (fresh-known m r words a b c d) (fresh-formatted m r) run
-
--- Every list of calls from a fresh store has a run.
-pub machine-made : (m r words : ℕ) → 1 ≤ m → m ≤ 1024 → 8 ≤ r → r ≤ 4096 → (cs : List C.Call) → Made machine (fresh_lent m r words) cs
-machine-made m r words a b c d cs = calls-made machine lock_rule lock-rule-strict machine-laws cs nothing (fresh_lent m r words) (fresh-known m r words a b c d)

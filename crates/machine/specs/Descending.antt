@@ -6,18 +6,18 @@ use Rattle.std.proofs.Common.{◌∙◌, arith}
 use Rattle.std.proofs.Math.Bool.{true, cond}
 use mathlib.Core.List.{List, [], ◌∷◌, ◌++◌, map}
 use Rattle.std.proofs.Math.Logic.{inl, inr}
-use Rattle.std.proofs.Math.Option.{none, some}
-use Prim.Native.Nat.{suc, ◌+◌, ◌-◌, ◌≤◌, ◌<◌, ℕ}
+use Rattle.std.proofs.Math.Option.{some}
+use Prim.Native.Nat.{suc, ◌+◌, ◌≤◌, ◌<◌, ℕ}
 use Rattle.std.proofs.Math.Decide.{ℕ_discrete}
 use Rattle.serial.specs.Serial.{true≢false}
 use Rattle.machine.specs.Logic.{eqb_yes, eqb_no, either}
 use Rattle.machine.specs.Holders.{latch_word}
 use Rattle.machine.specs.Tree.{pick}
-use Rattle.machine.specs.State.{Desc, Tree, Root, Stage, enter, take, Request, State, Answer, more, wait, done, refused, Outcome, top, no_desc, same, session_of, gap_below, with_root, with_free, on_tree, on_desc, pin_desc, set_hand, at, ok, stored}
+use Rattle.machine.specs.State.{Desc, Tree, Root, Stage, enter, take, Request, State, Answer, more, wait, done, refused, Outcome, top, no_desc, same, session_of, gap_below, with_root, with_free, on_tree, on_desc, pin_desc, at, ok, stored}
 use Rattle.machine.specs.Descent.{Sons, on_latch, put_in, taken_out, entered, split_root}
-use Rattle.machine.specs.Steps.{pinned, unpin, unlatch, ended, goes_on, finished, arrived, root_left, root_splits, whole_root, halved_root, descended, level_state, pinned_state, made, on_lowest, made_state, removable, tidied_state, answer}
+use Rattle.machine.specs.Steps.{pinned, unlatch, goes_on, arrived, root_left, root_splits, whole_root, halved_root, descended, level_state, pinned_state, made, on_lowest, answer}
 use Rattle.machine.specs.Calls.{request_checks}
-use Rattle.machine.specs.Gaps.{made-gaps, dropped-gaps, gaps}
+use Rattle.machine.specs.Gaps.{dropped-gaps, gaps}
 use Rattle.machine.specs.View.{plain, seen, update_word, pin-same}
 use Rattle.machine.specs.Sound.{gap_word, stored_in, pins_in, UpTo, ListedTo, times, Passes, Descends, to-change, to_first, to_choice, Stands, Keyed, Sound, keyed-of, to-second}
 use Rattle.machine.specs.Context.{Focus}
@@ -26,21 +26,21 @@ use Rattle.machine.specs.Keeps.{under, under_root, under-on-latch, under-descend
 use Rattle.machine.specs.Order.{found-cases, In}
 use Rattle.machine.specs.Groups.{words, rising-words}
 use Rattle.machine.specs.Lowest.{Placed, made_at, taken_at}
-use Rattle.machine.specs.Housekeeping.{lvs, seen_plain, seen-words, Ordered, StoodAt, made_list, make-like, Goes, removable-goes, taken-list, tidy-like, tree-leaves, unlatch-leaves, goes-tidy}
+use Rattle.machine.specs.Housekeeping.{lvs, seen_plain, seen-words, Ordered, StoodAt, Goes, taken-list, tidy-like, tree-leaves, unlatch-leaves, goes-tidy}
 use Rattle.machine.specs.Keys.{shown-update}
-use Rattle.machine.specs.Checks.{checked-first, checked-second, checked-order, tidy-zero, keeper-code}
-use Rattle.machine.specs.Looks.{pins-at, sound-ordered, ordered-rises, kept_of, put-pins, put-pins-other, kept_pins, stored-most}
-use Rattle.machine.specs.Calm.{Calm, calm-refl, calm-then, goes-keyed, none-keyed}
+use Rattle.machine.specs.Checks.{checked-first, checked-second, checked-order, tidy-zero}
+use Rattle.machine.specs.Looks.{pins-at, ordered-rises, kept_of, put-pins, put-pins-other, kept_pins}
+use Rattle.machine.specs.Calm.{Calm, calm-refl, calm-then, goes-keyed}
 
 -- ---- states that differ in nodes alone
 
-record Still (s v : State) : Type 0 where
-  entries_same : v.entries ≡ s.entries
-  table_same : v.table ≡ s.table
-  records_same : v.records ≡ s.records
-  leaves_same : lvs v ≡ lvs s
+pub record Still (s v : State) : Type 0 where
+  pub entries_same : v.entries ≡ s.entries
+  pub table_same : v.table ≡ s.table
+  pub records_same : v.records ≡ s.records
+  pub leaves_same : lvs v ≡ lvs s
 
-still-calm : (p : ℕ) (s v w : State) → Calm p s v → Still v w → Calm p s w
+pub still-calm : (p : ℕ) (s v w : State) → Calm p s v → Still v w → Calm p s w
 still-calm p s v w C S =
     calm-then p s v w C (record {
       entries_same = S.entries_same;
@@ -58,7 +58,7 @@ still-tree f s e = record {
   leaves_same = tree-leaves f s e;
 }
 
-still-unlatch : (p x : ℕ) (s : State) → Still s (unlatch p (at x) s)
+pub still-unlatch : (p x : ℕ) (s : State) → Still s (unlatch p (at x) s)
 still-unlatch p x s =
     let e = unlatch-root p (at x) s in
     record {
@@ -68,10 +68,10 @@ still-unlatch p x s =
       leaves_same = unlatch-leaves p (at x) s;
     }
 
-still-free : (n : ℕ) (s : State) → Still s (with_free n s)
+pub still-free : (n : ℕ) (s : State) → Still s (with_free n s)
 still-free n s = record { entries_same = refl; table_same = refl; records_same = refl; leaves_same = refl }
 
-still-trans : {s v w : State} → Still s v → Still v w → Still s w
+pub still-trans : {s v w : State} → Still s v → Still v w → Still s w
 still-trans a b = record {
   entries_same = b.entries_same ∙ a.entries_same;
   table_same = b.table_same ∙ a.table_same;
@@ -124,7 +124,7 @@ level-keyed p r x s S e q h es t =
 -- ---- a session's descent arrives
 
 -- One more pin at x.
-abbrev one_at : ℕ → ℕ → ℕ
+abbrev pub one_at : ℕ → ℕ → ℕ
 one_at x k = cond (eqb x k) 1 0
 
 module _ (m : ℕ) (r : Request) (s : State) (P : Passes (request_checks (suc m) r.code r.entry r.first r.second s)) where
@@ -170,7 +170,7 @@ module _ (m : ℕ) (r : Request) (s : State) (P : Passes (request_checks (suc m)
   proper_key x (to_choice C) = absurd (omega (arith, tidy-zero (suc m) r.code P.0 C.code_6))
 
 -- The descriptor at x is pinned once more, and nothing else is read otherwise.
-arrive-keyed : (m : ℕ) (r : Request) (x : ℕ) (s v : State) → Sound s → (session_of (suc m) s).hand ≡ some r → r.stage ≡ at x → Calm (suc m) s v
+pub arrive-keyed : (m : ℕ) (r : Request) (x : ℕ) (s v : State) → Sound s → (session_of (suc m) s).hand ≡ some r → r.stage ≡ at x → Calm (suc m) s v
     → ((k : ℕ) → pins_in k (lvs v) ≡ pins_in k (lvs s) + one_at x k) → Keyed (goes_on (suc m) r (arrived r x) v).next
 arrive-keyed m r x s v S e q C pins =
     let P = S.checked (suc m) r e in
@@ -180,7 +180,7 @@ arrive-keyed m r x s v S e q C pins =
     omega (arith, a, pins k, arrived-pins m r s P x k D)) (arrived-stands m r s P x D)
 
 -- Pins at x are one more, and elsewhere the same.
-one_more : (x : ℕ) (l n : List Desc) → pins_in x n ≡ suc (pins_in x l) → ((j : ℕ) → ¬ (x ≡ j) → pins_in j n ≡ pins_in j l) → (k : ℕ) → pins_in k n ≡ pins_in k l + one_at x k
+pub one_more : (x : ℕ) (l n : List Desc) → pins_in x n ≡ suc (pins_in x l) → ((j : ℕ) → ¬ (x ≡ j) → pins_in j n ≡ pins_in j l) → (k : ℕ) → pins_in k n ≡ pins_in k l + one_at x k
 one_more x l n here there k = go (ℕ_discrete x k)
   where
     go : Dec (x ≡ k) → pins_in k n ≡ pins_in k l + one_at x k
@@ -257,21 +257,21 @@ pins-skip k from [] D i = refl
 pins-skip k from (c ∷ C) D i = rw (eqb_no c.key k (λ z. omega (arith, z, i.0.1))) (pins-skip k from C D i.1)
 
 module _ (x upto : ℕ) (n : Desc) (l m : List Desc) (e : n.key ≡ x) (P : Placed 0 x upto n l m) where
-  placed-stored : (z : ℕ) → stored_in z m ≡ cond (eqb x z) true (stored_in z l)
+  pub placed-stored : (z : ℕ) → stored_in z m ≡ cond (eqb x z) true (stored_in z l)
   placed-stored z =
       ap (stored_in z) P.is_with ∙ stored-mid z n P.C P.D ∙ ap (λ k. cond (eqb k z) true (stored_in z (P.C ++ P.D))) e
       ∙ ap (λ c. cond (eqb x z) true (stored_in z c)) (sym P.is_without)
 
-  placed-here : pins_in x m ≡ n.pins
+  pub placed-here : pins_in x m ≡ n.pins
   placed-here = ap (pins_in x) P.is_with ∙ pins-at x 0 n e P.C P.D P.low
 
-  placed-none : pins_in x l ≡ 0
+  pub placed-none : pins_in x l ≡ 0
   placed-none = ap (pins_in x) P.is_without ∙ pins-skip x 0 P.C P.D P.low ∙ pins-none x upto P.D P.high
 
-  placed-other : (j : ℕ) → ¬ (x ≡ j) → pins_in j m ≡ pins_in j l
+  pub placed-other : (j : ℕ) → ¬ (x ≡ j) → pins_in j m ≡ pins_in j l
   placed-other j w = ap (pins_in j) P.is_with ∙ pins-mid j n P.C P.D (λ z. w (sym e ∙ z)) ∙ sym (ap (pins_in j) P.is_without)
 
-  placed-listed : (k : ℕ) → UpTo 1 k n.members → ListedTo k l → ListedTo k m
+  pub placed-listed : (k : ℕ) → UpTo 1 k n.members → ListedTo k l → ListedTo k m
   placed-listed k u w = subst (ListedTo k) (sym P.is_with) (listed_in k n u P.C P.D (subst (ListedTo k) P.is_without w))
 
   placed-unlisted : (k : ℕ) → ListedTo k m → ListedTo k l
@@ -280,64 +280,28 @@ module _ (x upto : ℕ) (n : Desc) (l m : List Desc) (e : n.key ≡ x) (P : Plac
 -- ---- made
 
 -- The tree with a new descriptor for x, in its gap.
-abbrev new : ℕ → State → Desc
+abbrev pub new : ℕ → State → Desc
 new x s = made x (gap_below x 0 (stored s))
 
-abbrev grown : ℕ → ℕ → State → State
+abbrev pub grown : ℕ → ℕ → State → State
 grown p x s = on_tree (on_latch (latch_word p) x (on_lowest (put_in (new x s)))) s
 
 module _ (p x : ℕ) (s : State) (u : Tree 1) (F : StoodAt p x s 0 u) (ne : ¬ ((pick x no_desc same u.sons).key ≡ x)) where
-  grown-placed : Placed 0 x (suc top) (new x s) (lvs s) (lvs (grown p x s))
+  pub grown-placed : Placed 0 x (suc top) (new x s) (lvs s) (lvs (grown p x s))
   unfolding on_tree
   grown-placed = made_at (latch_word p) x (suc s.root.height) s.root.node u 0 (suc top) F (gap_below x 0 (stored s)) ne
 
-  grown-gaps : (z : ℕ) → gap_word z (seen (grown p x s)) ≡ gap_word z (seen s)
-  unfolding gap_word stored
-  grown-gaps z =
-      ap (λ l. gaps 0 l z) (seen-words (grown p x s) ∙ made_list x (suc top) (lvs s) (lvs (grown p x s)) grown-placed) ∙ made-gaps 0 x (words (lvs s)) z
-      ∙ sym (ap (λ l. gaps 0 l z) (seen-words s))
-
-  grown-stays : (z : ℕ) → stored_in z (lvs s) ≡ true → stored_in z (lvs (grown p x s)) ≡ true
+  pub grown-stays : (z : ℕ) → stored_in z (lvs s) ≡ true → stored_in z (lvs (grown p x s)) ≡ true
   grown-stays z h = placed-stored x (suc top) (new x s) (lvs s) (lvs (grown p x s)) refl grown-placed z ∙ go (eqb x z)
     where
       go : (b : Bool) → cond b true (stored_in z (lvs s)) ≡ true
       go true = refl
       go false = h
 
-  grown-calm : Keyed s → ¬ (x ≡ top) → Calm p s (grown p x s)
-  unfolding on_tree
-  grown-calm K w = record {
-    like = make-like p x s u F ne;
-    table_same = refl;
-    records_same = refl;
-    gap_same = grown-gaps;
-    stays = λ z h. inl (grown-stays z h);
-    zero_stored = grown-stays 0 K.zero_stored;
-    top_free = placed-stored x (suc top) (new x s) (lvs s) (lvs (grown p x s)) refl grown-placed top ∙ ap (λ b. cond b true (stored_in top (lvs s))) (eqb_no x top w) ∙ K.top_free;
-    listed = placed-listed x (suc top) (new x s) (lvs s) (lvs (grown p x s)) refl grown-placed (length s.entries) tt K.listed;
-  }
-
-pub make-keyed : (m : ℕ) (r : Request) (x : ℕ) (s : State) → Sound s → (session_of (suc m) s).hand ≡ some r → r.stage ≡ at x
-    → (u : Tree 1) → Focus (suc m) x s 0 u → ¬ ((pick x no_desc same u.sons).key ≡ x) → Keyed (goes_on (suc m) r (arrived r x) (made_state (suc m) x s)).next
-make-keyed m r x s S e q u F ne =
-    let D : Descends (suc m) s r x = subst (Stands (suc m) s r) q (S.standing (suc m) r e) in
-    let B : x < top = (proper_key m r s (S.checked (suc m) r e) x D).1 in
-    let G = stood (suc m) x s 0 u (sound-ordered S) (omega (arith, B)) F in
-    let v = grown (suc m) x s in
-    let w = with_free (s.free - 1) v in
-    let U = still-trans (still-free (s.free - 1) v) (still-unlatch (suc m) x w) in
-    let P = grown-placed (suc m) x s u G ne in
-    let n = new x s in
-    let C = grown-calm (suc m) x s u G ne (keyed-of S) (λ z. omega (arith, z, B)) in
-    arrive-keyed m r x s (made_state (suc m) x s) S e q (still-calm (suc m) s v (made_state (suc m) x s) C U)
-    (λ k. ap (pins_in k) U.leaves_same
-    ∙ one_more x (lvs s) (lvs v) (placed-here x (suc top) n (lvs s) (lvs v) refl P ∙ ap suc (sym (placed-none x (suc top) n (lvs s) (lvs v) refl P)))
-    (placed-other x (suc top) n (lvs s) (lvs v) refl P) k)
-
 -- ---- taken out
 
 -- The tree without the descriptor of x.
-abbrev pruned : ℕ → ℕ → State → State
+abbrev pub pruned : ℕ → ℕ → State → State
 pruned p x s = on_tree (on_latch (latch_word p) x (on_lowest (taken_out x))) s
 
 module _ (p x : ℕ) (s : State) (u : Tree 1) (o : Ordered s) (F : StoodAt p x s 0 u) (e : (pick x no_desc same u.sons).key ≡ x)
@@ -366,7 +330,7 @@ module _ (p x : ℕ) (s : State) (u : Tree 1) (o : Ordered s) (F : StoodAt p x s
       let P = pruned-placed in
       shown-update {t = s} (record { A = P.C; d = gone; B = P.D; key = e; low = P.low; leaves = P.is_with }) ∙ T.no_update
 
-  pruned-pins : (k : ℕ) → pins_in k (lvs (pruned p x s)) ≡ pins_in k (lvs s)
+  pub pruned-pins : (k : ℕ) → pins_in k (lvs (pruned p x s)) ≡ pins_in k (lvs s)
   pruned-pins k = go (ℕ_discrete x k)
     where
       go : Dec (x ≡ k) → pins_in k (lvs (pruned p x s)) ≡ pins_in k (lvs s)
@@ -377,7 +341,7 @@ module _ (p x : ℕ) (s : State) (u : Tree 1) (o : Ordered s) (F : StoodAt p x s
   pruned-other : (z : ℕ) → ¬ (x ≡ z) → stored_in z (lvs (pruned p x s)) ≡ stored_in z (lvs s)
   pruned-other z n = sym (pruned-stored z ∙ ap (λ b. cond b true (stored_in z (lvs (pruned p x s)))) (eqb_no x z n))
 
-  pruned-calm : p ≡ 0 → Keyed s → Calm p s (pruned p x s)
+  pub pruned-calm : p ≡ 0 → Keyed s → Calm p s (pruned p x s)
   unfolding on_tree
   pruned-calm zero_is K = record {
     like = tidy-like p x s u o F e T;
@@ -407,22 +371,3 @@ keeper-stored s r x c (to_choice C) = C.stored
 pub keeper-pins : (r : Request) (x : ℕ) → r.code ≡ 6 → pinned r (at x) ≡ []
 unfolding pinned
 keeper-pins r x c = rw (eqb_no r.code 5 (λ z. omega (arith, z, c))) refl
-
-pub tidy-keyed : (r : Request) (ns : List ℕ) (x : ℕ) (s : State) → Sound s → (session_of 0 s).hand ≡ some r → r.stage ≡ at x → (u : Tree 1) → Focus 0 x s 0 u
-    → (pick x no_desc same u.sons).key ≡ x → removable (gap_below x 0 (stored s)) (pick x no_desc same u.sons) ≡ true
-    → Keyed (finished 0 r ns (tidied_state 0 x s)).next
-unfolding finished ended unpin
-tidy-keyed r ns x s S e q u F k t =
-    let o = sound-ordered S in
-    let c = keeper-code r.code (S.checked 0 r e).0 in
-    let h = keeper-stored s r x c (subst (Stands 0 s r) q (S.standing 0 r e)) in
-    let G = stood 0 x s 0 u o (stored-most s o x h) F in
-    let T = removable-goes (gap_below x 0 (stored s)) (pick x no_desc same u.sons) t in
-    let v = pruned 0 x s in
-    let w = tidied_state 0 x s in
-    let U = still-trans (still-free (s.free + 1) v) (still-unlatch 0 x w) in
-    let C = still-calm 0 s v (unlatch 0 (at x) w) (pruned-calm 0 x s u o G k T refl (keyed-of S)) U in
-    let nothing : pinned r r.stage ≡ [] = ap (pinned r) q ∙ keeper-pins r x c in
-    let pins : (j : ℕ) → pins_in j (lvs (unlatch 0 (at x) w)) ≡ pins_in j (lvs s) = λ j. ap (pins_in j) U.leaves_same ∙ pruned-pins 0 x s u o G k T j in
-    subst (λ l. Keyed (set_hand 0 none (unpin l (unlatch 0 r.stage w)))) (sym nothing) (subst (λ g. Keyed (set_hand 0 none (unlatch 0 g w))) (sym q)
-    (none-keyed 0 s (unlatch 0 (at x) w) r (keyed-of S) e C (λ j. omega (arith, ap (times j) nothing, pins j))))

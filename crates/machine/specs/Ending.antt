@@ -3,7 +3,7 @@ use Rattle.std.specs.Prelude.{◌≡◌, Bool, ◌||◌, List, [], ◌∷◌, su
 use Rattle.std.proofs.Math.Path.{refl, sym, subst, ap}
 use Rattle.std.proofs.Common.{◌∙◌, inl, nltb→le, length-set}
 use Rattle.std.proofs.Math.Bool.{true, false, cond}
-use Rattle.std.proofs.Math.Option.{Option, none, some, some-injective, none-ne-some}
+use Rattle.std.proofs.Math.Option.{none, some, some-injective, none-ne-some}
 use Rattle.std.proofs.Math.Decide.{ℕ_discrete}
 use native.Mathlib.Omega.{arith}
 use Rattle.std.proofs.Math.Dec.{eqb, eqb-zero-suc}
@@ -11,21 +11,20 @@ use Rattle.std.proofs.Math.ListN.{length, length-replicate}
 use Rattle.serial.specs.Serial.{true≢false, not-true}
 use Rattle.serial.specs.Locks.{Kind, Mode}
 use Rattle.machine.specs.Holders.{width}
-use Rattle.machine.specs.Logic.{eqb_yes, eqb_no, neither, not-false, eqb-not, eqb_is}
+use Rattle.machine.specs.Logic.{eqb_yes, eqb_no, neither, not-false, eqb-not}
 use Rattle.machine.specs.Tree.{leaves}
-use Rattle.machine.specs.State.{Desc, Stage, start, enter, Request, Session, State, top, no_entry, idle, session_of, fresh, lowest_from, with_table, on_session, on_desc, pin_desc, set_hand, in_stage, at, stored, ok}
+use Rattle.machine.specs.State.{Desc, Stage, Request, Session, State, top, no_entry, idle, session_of, fresh, with_table, on_session, on_desc, pin_desc, set_hand, in_stage, at, ok}
 use Rattle.machine.specs.Steps.{answer, pinned, unpin, unlatch, ended}
-use Rattle.machine.specs.Calls.{call, format, begin, put, ask, ask_checks, asks, begin_checks, put_checks, format_checks, records_for, request_checks, has_begun, is_asked, in_hand, no_party, no_session, first_stage, tidy_from, accepted, last_rank, renumbered, begins}
+use Rattle.machine.specs.Calls.{call, format, begin, ask, ask_checks, asks, begin_checks, format_checks, records_for, request_checks, has_begun, in_hand, no_session, last_rank, renumbered, begins}
 use Rattle.machine.specs.View.{holders, group_in, released-same, frame-holders}
-use Rattle.machine.specs.Sound.{stored_in, pins_in, total, nodes, Shaped, of_hand, times, pins_by, latch_count, stands, Passes, to_first, to_choice, Stands, cells, Undoable, Sound, Formed, Latches, Keyed, formed-of, latches-of, keyed-of, sound-from}
+use Rattle.machine.specs.Sound.{stored_in, pins_in, total, nodes, Shaped, of_hand, times, pins_by, latch_count, stands, Passes, Stands, cells, Undoable, Sound, Formed, Latches, Keyed, formed-of, latches-of, keyed-of, sound-from}
 use Rattle.machine.specs.Effect.{Effect, Own}
 use Rattle.machine.specs.Table.{with_hand, as_begun, as_asked, hand-seat, session-put, session-other, released, released-root, released-table, ended-own, renumbered-kept, renumbered-many}
 use Rattle.machine.specs.Housekeeping.{Ordered, lvs, unlatch-leaves}
 use Rattle.machine.specs.Keys.{Kept}
 use Rattle.machine.specs.Totals.{total-set, total-least, total-none}
-use Rattle.machine.specs.Checks.{refusing-cases, party-number, session-number, party-seat, session-begun, session-unbegun, empty_hand}
+use Rattle.machine.specs.Checks.{refusing-cases, session-number, party-seat, session-begun, session-unbegun, empty_hand}
 use Rattle.machine.specs.Looks.{shaped-ordered, pinned-stored, ordered-put, kept_at, kept_pins, put-pins, put-pins-other, begun-of, unbegun_hand}
-use Rattle.machine.specs.Nearest.{lowest-stored}
 use Rattle.machine.specs.Fresh.{fresh-session, fresh-held, fresh-gap}
 use Rattle.machine.specs.Alike.{unlatch-formed, ended-formed}
 use Rattle.machine.specs.Latch.{hand_stands, hand-latches, ended-latches}
@@ -159,7 +158,7 @@ fits-sits p r s S F = record {
   standing = λ y e. subst (λ y. Stands p s y y.stage) (some-injective r y e) F.standing;
 }
 
-hand-sound : (p : ℕ) (r : Request) (s : State) → Sound s → p < length s.table → hand_stands (session_of p s).hand ≡ 0 → Fits p r s → Sound (set_hand p (some r) s)
+pub hand-sound : (p : ℕ) (r : Request) (s : State) → Sound s → p < length s.table → hand_stands (session_of p s).hand ≡ 0 → Fits p r s → Sound (set_hand p (some r) s)
 unfolding set_hand on_session
 hand-sound p r s S h was F = seat-sound p (with_hand (some r) (session_of p s)) s S h (fits-sits p r s S F) was F.unlatched
 
@@ -230,44 +229,14 @@ ask-sound p s S a b free =
 -- ---- put
 
 module _ (p c e f g : ℕ) (s : State) where
-  abbrev first_request : Stage → Request
+  abbrev pub first_request : Stage → Request
   first_request x = record { code = c; entry = e; first = f; second = g; stage = x }
 
   -- The first stage has no latch and no pins.
-  record First (x : Stage) : Type 0 where
+  pub record First (x : Stage) : Type 0 where
     pub unlatched : stands x ≡ 0
     pub unpinned : (k : ℕ) → times k (pinned (first_request x) x) ≡ 0
     pub standing : Stands p s (first_request x) x
-
-  first_fits : First (first_stage c f s)
-  unfolding first_stage pinned stored
-  first_fits = go (eqb c 5) refl (eqb c 6) refl
-    where
-      chosen : eqb c 5 ≡ false → c ≡ 6 → (o : Option Desc) → lowest_from (suc f) (lvs s) ≡ o → First (tidy_from o)
-      chosen q z none w = record { unlatched = refl; unpinned = λ k. refl; standing = eqb-not c 5 q }
-      chosen q z (some d) w =
-          let m = lowest-stored (suc f) (lvs s) d w in
-          record { unlatched = refl; unpinned = λ k. rw q refl; standing = to_choice (record { code_6 = z; above = m.0; stored = m.1 }) }
-
-      go : (a : Bool) → eqb c 5 ≡ a → (b : Bool) → eqb c 6 ≡ b → First (cond a (enter f) (cond b (tidy_from (lowest_from (suc f) (lvs s))) start))
-      go true q b w = record { unlatched = refl; unpinned = λ k. rw (q, eqb_yes f f refl) refl; standing = to_first (eqb_is c 5 q) refl }
-      go false q true w = chosen q (eqb_is c 6 w) (lowest_from (suc f) (lvs s)) refl
-      go false q false w = record { unlatched = refl; unpinned = λ k. refl; standing = eqb-not c 5 q }
-
-pub put-sound : (p c e f g : ℕ) (s : State) → Sound s → no_party p ≡ false → has_begun p s ≡ true → is_asked p s ≡ false → in_hand p s ≡ false → Passes (request_checks p c e f g s)
-    → Sound (accepted p c e f g s)
-unfolding accepted
-put-sound p c e f g s S party b unasked free checks =
-    let F = first_fits p c e f g s in
-    let o = empty_hand p s free in
-    hand-sound p (first_request p c e f g s (first_stage c f s)) s S (party-seat p s S.seats (party-number p party)) (ap hand_stands o) (record {
-      begun = λ n. session-begun p s n b;
-      unasked = unasked;
-      unlatched = F.unlatched;
-      pins_same = λ k. ap (of_hand 0 (λ r. times k (pinned r r.stage))) o ∙ sym (F.unpinned k);
-      checked = checks;
-      standing = F.standing;
-    })
 
 -- ---- a request ends
 
@@ -304,7 +273,7 @@ module _ (p : ℕ) (r : Request) (s : State) (S : Sound s) (e : (session_of p s)
   abbrev keys : List ℕ
   keys = pinned r r.stage
 
-  abbrev free : State
+  abbrev pub free : State
   free = unlatch p r.stage s
 
   by_hand : (k : ℕ) → pins_by k (session_of p s) ≡ times k keys
@@ -376,11 +345,6 @@ begin-keeps p s S = refusing-cases (λ o. Sound o.next) (begin_checks p s) s (an
 pub ask-keeps : (p : ℕ) (s : State) → Sound s → Sound (call (ask p) s).next
 unfolding call
 ask-keeps p s S = refusing-cases (λ o. Sound o.next) (ask_checks p s) s (answer ok (asks p s)) (λ n. S) (λ k. ask-sound p s S k.0 (not-false (has_begun p s) k.1.0) k.1.1.1.0)
-
-pub put_keeps : (p c e f g : ℕ) (s : State) → Sound s → Sound (call (put p c e f g) s).next
-unfolding call
-put_keeps p c e f g s S = refusing-cases (λ o. Sound o.next) (put_checks p c e f g s) s (answer ok (accepted p c e f g s)) (λ n. S)
-    (λ k. put-sound p c e f g s S k.0 (not-false (has_begun p s) k.1.0) k.1.1.0 k.1.1.1.0 k.1.1.1.1)
 
 -- Format starts anew, whatever the store was; refused it leaves it.
 pub format-keeps : (m words : ℕ) (s : State) → Sound s → Sound (call (format m words) s).next

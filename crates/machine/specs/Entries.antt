@@ -1,5 +1,5 @@
 -- Entry locks, reads and writes are events of the lock machine.
-use Rattle.std.specs.Prelude.{◌≡◌, [], ◌⊎◌, length, get_or}
+use Rattle.std.specs.Prelude.{◌≡◌, ◌⊎◌, length, get_or}
 use Rattle.std.proofs.Math.Path.{refl, sym}
 use Rattle.std.proofs.Common.{◌∙◌, subst, ap, get_or-set_same, get_or-set_other}
 use Rattle.std.proofs.Math.Bool.{true}
@@ -10,17 +10,14 @@ use Rattle.serial.specs.Model.{Item}
 use Rattle.serial.specs.Model as R
 use Rattle.serial.specs.Locks.{Kind, Mode, weak, strong, Agree}
 use Rattle.serial.specs.Locks as L
-use Rattle.serial.specs.LockMachine.{Locked}
-use Rattle.machine.specs.Holders.{width, holds, blockers}
-use Rattle.machine.specs.State.{Entry, State, no_entry, entry_of, session_of, on_entry}
+use Rattle.machine.specs.Holders.{width, holds}
+use Rattle.machine.specs.State.{Entry, State, no_entry, entry_of, on_entry}
 use Rattle.machine.specs.Steps.{rule, share_by, exclude_by}
-use Rattle.machine.specs.View.{items, holders, view}
+use Rattle.machine.specs.View.{items, holders}
 use Rattle.machine.specs.Model.{Listed}
 use Rattle.machine.specs.Bits.{held_same, held-other, held_more}
 use Rattle.machine.specs.Groups.{Rises}
 use Rattle.machine.specs.Housekeeping.{Ordered, lvs}
-use Rattle.machine.specs.Blocking.{unblocked}
-use Rattle.machine.specs.Agreement.{grown-agree}
 
 -- What the events ask of a state.
 pub record Fit (s : State) : Type 0 where
@@ -113,7 +110,7 @@ module _ (m : Mode) (p i : ℕ) (s : State) (r : i < length s.entries) where
   abbrev pub locked_state : State
   locked_state = on_entry (suc i) (grant m p) s
 
-  lock-old : (l : Kind) (n : Mode) (q z : ℕ) → holders s l n q z ≡ true → holders locked_state l n q z ≡ true
+  pub lock-old : (l : Kind) (n : Mode) (q z : ℕ) → holders s l n q z ≡ true → holders locked_state l n q z ≡ true
   unfolding on_entry
   lock-old L.entry n q z h = holders_word locked_state n q z
       ∙ entry-cases i (grant m p) s r (λ y x. holds (word n (entry_of y s)) q ≡ true → holds (word n x) q ≡ true) (grant-more m n p q (entry_of (suc i) s)) (λ y e b. b) z (sym (holders_word s n q z) ∙ h)
@@ -127,7 +124,7 @@ module _ (m : Mode) (p i : ℕ) (s : State) (r : i < length s.entries) where
   lock-others L.group weak q z ne = refl
   lock-others L.group strong q z ne = refl
 
-  lock_new : (l : Kind) (n : Mode) (q z : ℕ) → holders locked_state l n q z ≡ true → (holders s l n q z ≡ true) ⊎ ((p ≡ q) × (L.entry ≡ l) × (m ≡ n) × (suc i ≡ z))
+  pub lock_new : (l : Kind) (n : Mode) (q z : ℕ) → holders locked_state l n q z ≡ true → (holders s l n q z ≡ true) ⊎ ((p ≡ q) × (L.entry ≡ l) × (m ≡ n) × (suc i ≡ z))
   unfolding on_entry
   lock_new L.entry n q z h =
       entry-cases i (grant m p) s r (λ y x. holds (word n x) q ≡ true → (holders s L.entry n q y ≡ true) ⊎ ((p ≡ q) × (L.entry ≡ L.entry) × (m ≡ n) × (suc i ≡ y)))
@@ -143,27 +140,3 @@ module _ (m : Mode) (p i : ℕ) (s : State) (r : i < length s.entries) where
   unfolding on_entry
   lock-items (R.value z) = entry-cases i (grant m p) s r (λ y x. x.value ≡ (entry_of y s).value) (grant-value m p (entry_of (suc i) s)) (λ y e. refl) z
   lock-items (R.cell k e) = refl
-
-  module _ (F : Fit s) (free : blockers rule L.entry m p (entry_of (suc i) s).share (entry_of (suc i) s).exclusive ≡ []) where
-    lock-clear : (n : Mode) (q z : ℕ) → suc i ≡ z → ¬ (p ≡ q) → holders s L.entry n q z ≡ true → rule L.entry n m ≡ true
-    lock-clear n q z e ne h = at n h
-      where
-        at : (o : Mode) → holders s L.entry o q z ≡ true → rule L.entry o m ≡ true
-        at weak y = let b = F.few L.entry weak q z y in
-            (unblocked L.entry m p (entry_of (suc i) s).share (entry_of (suc i) s).exclusive free q b.0 b.1 ne).0 (subst (λ w. holds (entry_of w s).share q ≡ true) (sym e) y)
-        at strong y = let b = F.few L.entry strong q z y in
-            (unblocked L.entry m p (entry_of (suc i) s).share (entry_of (suc i) s).exclusive free q b.0 b.1 ne).1 (subst (λ w. holds (entry_of w s).exclusive q ≡ true) (sym e) y)
-
-    -- It is a lock of the lock machine.
-    pub entry-locked : (session_of p s).begun ≡ true → Locked rule p (view s) (view locked_state)
-    unfolding on_entry session_of
-    entry-locked b = record {
-      was = b;
-      more = λ k n z. lock-old k n p z;
-      log_same = refl;
-      others = λ t n. record { holds_kept = λ k o z. lock-others k o t z n; log_kept = refl };
-      begun_same = λ t. refl;
-      db_kept = lock-items;
-      agree = grown-agree (holders s) (holders locked_state) p L.entry m (λ z. suc i ≡ z)
-          (record { old = lock-old; new = lock_new; clear = lock-clear }) F.agree;
-    }

@@ -7,83 +7,49 @@ use Rattle.std.proofs.Math.Option.{some}
 use Prim.Native.Nat.{zero, suc, ◌+◌, ◌-◌, ◌≤◌, ◌<◌, ℕ}
 use native.Mathlib.Omega.{arith}
 use Rattle.std.proofs.Math.ListN.{length}
-use Rattle.serial.specs.Locks.{Kind, Mode, weak, strong}
+use Rattle.serial.specs.Locks.{Kind, Mode, strong}
 use Rattle.serial.specs.Locks as L
 use Rattle.machine.specs.Holders.{holds, blockers}
-use Rattle.machine.specs.State.{Request, State, entry_of, session_of, with_free, on_entry, on_session, add_undo, value}
+use Rattle.machine.specs.State.{Request, State, entry_of, session_of, on_entry, value}
 use Rattle.machine.specs.Steps.{rule, share_by, exclude_by, entry_blockers, shared_state, written, excluded_state}
-use Rattle.machine.specs.View.{holders, frame-holders}
-use Rattle.machine.specs.Sound.{records_used, cells, Sound, Formed, Keyed, formed-of}
+use Rattle.machine.specs.View.{holders}
+use Rattle.machine.specs.Sound.{records_used, Sound, Formed, formed-of}
 use Rattle.machine.specs.Table.{hand-seat}
 use Rattle.machine.specs.Checks.{checked-entry}
-use Rattle.machine.specs.Looks.{hand_begun, fit_of}
 use Rattle.machine.specs.Alike.{on-entry-formed}
-use Rattle.machine.specs.Locking.{Grants, locked-grants, grants-like, Locks, undoable-more, only-keyed, undo-locks, undo-keyed, undo-formed, entry-locks}
-use Rattle.machine.specs.Entries.{entry-put, grant, granted, entry-locked, entry_words, exclude-words}
+use Rattle.machine.specs.Locking.{undo-formed}
+use Rattle.machine.specs.Entries.{entry-put, grant, granted, entry_words, exclude-words}
 
 module _ (m : ℕ) (r : Request) (s : State) (S : Sound s) (hand : (session_of (suc m) s).hand ≡ some r) where
-  abbrev p : ℕ
+  abbrev pub p : ℕ
   p = suc m
 
-  -- An entry of the store.
-  module _ (i : ℕ) (h : i < length s.entries) (n : Mode) (free : blockers rule L.entry n p (entry_of (suc i) s).share (entry_of (suc i) s).exclusive ≡ []) where
-    lock-grants : Grants p s (on_entry (suc i) (grant n p) s)
-    lock-grants = locked-grants p s (on_entry (suc i) (grant n p) s) (entry-locked n p i s h (fit_of S) free (hand_begun S m r hand))
-
-    lock-keyed : Keyed (on_entry (suc i) (grant n p) s)
-    unfolding on_entry
-    lock-keyed = only-keyed m r s (on_entry (suc i) (grant n p) s) S hand (entry-locks p i (grant n p) s S lock-grants) refl (λ k e. refl)
-
-  excluded-here : (i : ℕ) → i < length s.entries → holders (on_entry (suc i) (grant strong p) s) L.entry strong p (suc i) ≡ true
+  pub excluded-here : (i : ℕ) → i < length s.entries → holders (on_entry (suc i) (grant strong p) s) L.entry strong p (suc i) ≡ true
   excluded-here i h = ap (λ x. holds x.exclusive p) (entry-put i (grant strong p) s h) ∙ granted strong m (entry_of (suc i) s)
 
   module _ (i v : ℕ) (h : i < length s.entries) (free : blockers rule L.entry strong p (entry_of (suc i) s).share (entry_of (suc i) s).exclusive ≡ []) where
-    abbrev put : State
+    abbrev pub put : State
     put = on_entry (suc i) (exclude_by p v) s
 
-    same-words : (l : Kind) (n : Mode) (q z : ℕ) → holders put l n q z ≡ holders (on_entry (suc i) (grant strong p) s) l n q z
+    pub same-words : (l : Kind) (n : Mode) (q z : ℕ) → holders put l n q z ≡ holders (on_entry (suc i) (grant strong p) s) l n q z
     same-words = entry_words i (exclude_by p v) (grant strong p) s h (exclude-words p v)
 
-    put-locks : Locks p s put
-    put-locks = entry-locks p i (exclude_by p v) s S (grants-like p s (on_entry (suc i) (grant strong p) s) put same-words (lock-grants i h strong free))
-
-    put-keyed : (n w : ℕ) → Keyed (add_undo p (value (suc i) w) (with_free n put))
-    unfolding on_entry add_undo on_session
-    put-keyed n w =
-        let t = add_undo p (value (suc i) w) (with_free n put) in
-        let W = undo-locks p n (value (suc i) w) s put put-locks in
-        undo-keyed m n (value (suc i) w) r s put S hand put-locks refl (
-          frame-holders put t refl refl L.entry strong p (suc i) ∙ same-words L.entry strong p (suc i) ∙ excluded-here i h,
-          (omega arith, subst (λ x. suc i ≤ x) (sym W.many) (omega (arith, h))),
-          undoable-more p s t W (session_of p s).undos (cells s) (cells put) (λ k e. refl) (S.undoable p),
-        )
-
   -- The request's own entry is entry i + 1.
-  own-entry : r.code ≤ 4 → (i : ℕ) × (i < length s.entries) × (r.entry ≡ suc i)
+  pub own-entry : r.code ≤ 4 → (i : ℕ) × (i < length s.entries) × (r.entry ≡ suc i)
   own-entry le = go r.entry (checked-entry p r.code r.entry r.first r.second s (S.checked p r hand) le)
     where
       go : (e : ℕ) → (1 ≤ e) × (e ≤ length s.entries) → (i : ℕ) × (i < length s.entries) × (e ≡ suc i)
       go zero b = absurd (omega (arith, b.0))
       go (suc i) b = (i, omega (arith, b.1), refl)
 
-  free-at : (n : Mode) (i : ℕ) → r.entry ≡ suc i → entry_blockers n p r s ≡ [] → blockers rule L.entry n p (entry_of (suc i) s).share (entry_of (suc i) s).exclusive ≡ []
+  pub free-at : (n : Mode) (i : ℕ) → r.entry ≡ suc i → entry_blockers n p r s ≡ [] → blockers rule L.entry n p (entry_of (suc i) s).share (entry_of (suc i) s).exclusive ≡ []
   unfolding entry_blockers
   free-at n i e free = subst (λ x. blockers rule L.entry n p (entry_of x s).share (entry_of x s).exclusive ≡ []) e free
 
   -- ---- read, write
 
-  pub shared-keyed : r.code ≡ 1 → entry_blockers weak p r s ≡ [] → Keyed (shared_state p r s)
-  shared-keyed c free = let o = own-entry (omega (arith, c)) in
-      subst (λ e. Keyed (on_entry e (share_by p) s)) (sym o.2) (lock-keyed o.0 o.1 weak (free-at weak o.0 o.2 free))
-
   pub shared-formed : Formed (shared_state p r s)
   shared-formed = on-entry-formed r.entry (share_by p) s (formed-of S)
-
-  pub written-keyed : r.code ≡ 2 → entry_blockers strong p r s ≡ [] → Keyed (written p r s)
-  unfolding written
-  written-keyed c free = let o = own-entry (omega (arith, c)) in
-      subst (λ e. Keyed (add_undo p (value e (entry_of r.entry s).value) (with_free (s.free - 1) (on_entry e (exclude_by p r.first) s)))) (sym o.2)
-      (put-keyed o.0 r.first o.1 (free-at strong o.0 o.2 free) (s.free - 1) (entry_of r.entry s).value)
 
   pub written-formed : 1 ≤ s.free → Formed (written p r s)
   unfolding written
@@ -101,10 +67,6 @@ module _ (m : ℕ) (r : Request) (s : State) (S : Sound s) (hand : (session_of (
       count (suc i) q = unfold on_entry in (omega (arith, q, h))
 
   -- ---- the entry's lock of an insert or a remove
-
-  pub excluded-keyed : 3 ≤ r.code → r.code ≤ 4 → entry_blockers strong p r s ≡ [] → Keyed (excluded_state p r s)
-  excluded-keyed lo hi free = let o = own-entry hi in
-      subst (λ e. Keyed (on_entry e (grant strong p) s)) (sym o.2) (lock-keyed o.0 o.1 strong (free-at strong o.0 o.2 free))
 
   pub excluded-holds : r.code ≤ 4 → holders (excluded_state p r s) L.entry strong p r.entry ≡ true
   excluded-holds hi = let o = own-entry hi in

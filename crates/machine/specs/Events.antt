@@ -8,21 +8,19 @@ use Rattle.std.proofs.Math.Decide.{ℕ_discrete}
 use Rattle.serial.specs.Serial.{pick, pick_yes, pick_no}
 use Rattle.serial.specs.Model.{Item, Req, Ans, get, eff, ans, just, two_words, Db}
 use Rattle.serial.specs.Model as R
-use Rattle.serial.specs.Locks.{Kind, Mode, weak, strong, Needs, undo_of}
-use Rattle.serial.specs.Locks as L
+use Rattle.serial.specs.Locks.{Kind, Mode, strong, Needs, undo_of}
 use Rattle.serial.specs.LockMachine.{Locked, Finished, Unseen}
 use Rattle.machine.specs.Logic.{either}
-use Rattle.machine.specs.Holders.{width, holds, blockers}
-use Rattle.machine.specs.State.{Stage, enter, Request, Undo, State, Answer, wait, done, refused, Outcome, entry_of, session_of, with_free, on_entry, on_session, add_undo, ok, more}
+use Rattle.machine.specs.Holders.{width, holds}
+use Rattle.machine.specs.State.{Stage, Request, Undo, State, Answer, wait, done, refused, Outcome, entry_of, session_of, with_free, on_entry, on_session, add_undo, ok, more}
 use Rattle.machine.specs.State as State
-use Rattle.machine.specs.Steps.{rule, share_by, exclude_by, entry_blockers, ended, goes_on, finished, guarded, read-step, write_step, entry-step, written, answer}
+use Rattle.machine.specs.Steps.{rule, exclude_by, ended, guarded, answer}
 use Rattle.machine.specs.View.{log_entry, items, holders, view, Same, same_refl, same-unseen, same-items, same-holders, ended_same, entry-same, frame-holders}
 use Rattle.machine.specs.Model.{Listed, model_is, model, model_good}
 use Rattle.machine.specs.Table.{undo-put, undo-other, session-kept, with_undo}
-use Rattle.machine.specs.Descents.{goes_same}
 use Rattle.machine.specs.Groups.{Rises}
-use Rattle.machine.specs.Housekeeping.{lvs, Ordered}
-use Rattle.machine.specs.Entries.{Fit, entry-put, entry_other, grant, granted, locked_state, lock-items, lock-others, entry-locked, entry-cases, entry_words, exclude-words}
+use Rattle.machine.specs.Housekeeping.{lvs}
+use Rattle.machine.specs.Entries.{Fit, entry-put, entry_other, grant, granted, lock-items, entry-cases, entry_words, exclude-words}
 
 -- The answer finishes no request.
 abbrev pub unfinished : Answer → Bool
@@ -83,73 +81,13 @@ asked c e f g st = record { code = c; entry = e; first = f; second = g; stage = 
 
 -- ---- read, write, and the entry's lock of an insert or a remove
 
-or-true : (a b : Bool) → a ≡ true → (a || b) ≡ true
+pub or-true : (a b : Bool) → a ≡ true → (a || b) ≡ true
 or-true a b e = rw e refl
-
--- The state after an entry's lock is fit again, but for its table.
-module _ (m : Mode) (k i : ℕ) (s : State) (F : Fit s) (r : i < length s.entries) (b : (session_of (suc k) s).begun ≡ true) (le : suc k ≤ width)
-    (free : blockers rule L.entry m (suc k) (entry_of (suc i) s).share (entry_of (suc i) s).exclusive ≡ []) where
-  abbrev t : State
-  t = locked_state m (suc k) i s r
-
-  pub locked-fit : Fit t
-  unfolding on_entry Ordered
-  locked-fit = record {
-    ordered = F.ordered;
-    rises = F.rises;
-    listed = F.listed;
-    agree = (entry-locked m (suc k) i s r F free b).agree;
-    few = λ l n q z h. go l n q z h (ℕ_discrete (suc k) q);
-    seats = F.seats;
-  }
-    where
-      go : (l : Kind) (n : Mode) (q z : ℕ) → holders t l n q z ≡ true → Dec (suc k ≡ q) → (1 ≤ q) × (q ≤ width)
-      go l n q z h (yes e) = (omega (arith, e), omega (arith, e, le))
-      go l n q z h (no e) = F.few l n q z (sym (lock-others m (suc k) i s r l n q z e) ∙ h)
-
-pub read-does : (k i c f g : ℕ) (st : Stage) (s : State) → Fit s → i < length s.entries → (session_of (suc k) s).begun ≡ true → suc k ≤ width
-    → Does (suc k) (R.read (suc i)) s (read-step (suc k) (asked c (suc i) f g st) s)
-unfolding read-step entry_blockers finished
-read-does k i c f g st s F h b le = guard-does (suc k) (R.read (suc i)) (blockers rule L.entry weak (suc k) (entry_of (suc i) s).share (entry_of (suc i) s).exclusive) 0 (asked c (suc i) f g st) s
-    (finished (suc k) (asked c (suc i) f g st) ((entry_of (suc i) s).value ∷ []) (on_entry (suc i) (share_by (suc k)) s)) go
-  where
-    t : State
-    t = on_entry (suc i) (share_by (suc k)) s
-
-    r : Request
-    r = asked c (suc i) f g st
-
-    go : blockers rule L.entry weak (suc k) (entry_of (suc i) s).share (entry_of (suc i) s).exclusive ≡ []
-        → Does (suc k) (R.read (suc i)) s (finished (suc k) r ((entry_of (suc i) s).value ∷ []) t)
-    go free = finishes t (just (entry_of (suc i) t).value)
-        (ap (λ v. done (v ∷ [])) (sym (lock-items weak (suc k) i s h (R.value (suc i))))) refl
-        (entry-locked weak (suc k) i s h F free b)
-        (finished-quiet (suc k) (R.read (suc i)) t (ended (suc k) r t) (λ d. refl) (λ d. refl) (locked-fit weak k i s F h b le free).rises (locked-fit weak k i s F h b le free).listed (ended_same (suc k) r t)
-        ((entry-locked weak (suc k) i s h F free b).begun_same (suc k) ∙ b)
-        (or-true (holds (entry_of (suc i) t).share (suc k)) (holds (entry_of (suc i) t).exclusive (suc k))
-        (ap (λ x. holds x.share (suc k)) (entry-put i (share_by (suc k)) s h) ∙ granted weak k (entry_of (suc i) s))))
-
-pub entry-step-does : (k i c f g : ℕ) (st : Stage) (q : Req) (s : State) → Fit s → i < length s.entries → (session_of (suc k) s).begun ≡ true
-    → Does (suc k) q s (entry-step (suc k) (asked c (suc i) f g st) s)
-unfolding entry-step entry_blockers goes_on
-entry-step-does k i c f g st q s F h b = guard-does (suc k) q (blockers rule L.entry strong (suc k) (entry_of (suc i) s).share (entry_of (suc i) s).exclusive) 0 (asked c (suc i) f g st) s
-    (goes_on (suc k) (asked c (suc i) f g st) (enter f) t) go
-  where
-    t : State
-    t = on_entry (suc i) (grant strong (suc k)) s
-
-    r : Request
-    r = asked c (suc i) f g st
-
-    go : blockers rule L.entry strong (suc k) (entry_of (suc i) s).share (entry_of (suc i) s).exclusive ≡ [] → Does (suc k) q s (goes_on (suc k) r (enter r.first) t)
-    go free =
-        locks refl (locked-then (suc k) s t (goes_on (suc k) r (enter r.first) t).next (entry-locked strong (suc k) i s h F free b)
-        (goes_same (suc k) r (enter r.first) t t (same_refl t)))
 
 -- ---- write
 
 module _ (k i v : ℕ) (s : State) (F : Fit s) (h : i < length s.entries) (le : suc k ≤ width) where
-  abbrev wt : State
+  abbrev pub wt : State
   wt = on_entry (suc i) (grant strong (suc k)) s
 
   abbrev old_value : Undo
@@ -158,7 +96,7 @@ module _ (k i v : ℕ) (s : State) (F : Fit s) (h : i < length s.entries) (le : 
   abbrev from : State
   from = with_free (s.free - 1) (on_entry (suc i) (exclude_by (suc k) v) s)
 
-  abbrev wu : State
+  abbrev pub wu : State
   wu = add_undo (suc k) old_value from
 
   wu-value : (z : ℕ) → (entry_of z wu).value ≡ pick (ℕ_discrete (suc i) z) v (entry_of z wt).value
@@ -193,20 +131,3 @@ module _ (k i v : ℕ) (s : State) (F : Fit s) (h : i < length s.entries) (le : 
     holds_same = λ l n q z. same-holders wu u e l n q z ∙ wu-holders l n q z;
     begun_same = λ q. e.begun_same q ∙ session-kept (λ x. x.begun) (suc k) (with_undo old_value) from (λ x. refl) q;
   }
-
-pub write-does : (k i c f g : ℕ) (st : Stage) (s : State) → Fit s → i < length s.entries → (session_of (suc k) s).begun ≡ true → suc k ≤ width
-    → Does (suc k) (R.write (suc i) f) s (write_step (suc k) (asked c (suc i) f g st) s)
-unfolding write_step entry_blockers finished written
-write-does k i c f g st s F h b le = guard-does (suc k) (R.write (suc i) f) (blockers rule L.entry strong (suc k) (entry_of (suc i) s).share (entry_of (suc i) s).exclusive) 1 r s
-    (finished (suc k) r (0 ∷ []) (written (suc k) r s)) go
-  where
-    r : Request
-    r = asked c (suc i) f g st
-
-    t : State
-    t = on_entry (suc i) (grant strong (suc k)) s
-
-    go : blockers rule L.entry strong (suc k) (entry_of (suc i) s).share (entry_of (suc i) s).exclusive ≡ [] → Does (suc k) (R.write (suc i) f) s (finished (suc k) r (0 ∷ []) (written (suc k) r s))
-    go free = finishes t (just 0) refl refl (entry-locked strong (suc k) i s h F free b)
-        (write-finished k i f s F h le (ended (suc k) r (written (suc k) r s)) (ended_same (suc k) r (written (suc k) r s)) (locked-fit strong k i s F h b le free)
-        ((entry-locked strong (suc k) i s h F free b).begun_same (suc k) ∙ b))

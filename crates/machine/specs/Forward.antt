@@ -1,29 +1,26 @@
 -- Demand 2, going forward: after more the request in hand is strictly ahead: in a later stage, or at a lower level of the tree, or at a higher key.
-use Rattle.std.specs.Prelude.{◌≡◌, Bool, not, ◌&&◌, ◌⊎◌, leb, ltb, eqb}
+use Rattle.std.specs.Prelude.{◌≡◌, Bool, not, ◌&&◌, ◌⊎◌, leb, eqb}
 use Rattle.std.proofs.Math.Path.{refl, subst}
 use Rattle.std.proofs.Common.{sym, ◌∙◌, ap}
 use Rattle.std.proofs.Math.Bool.{true, false, cond}
 use mathlib.Core.List.{List, [], ◌∷◌}
 use Rattle.std.proofs.Math.Logic.{inl, inr}
 use Rattle.std.proofs.Math.Option.{some}
-use Prim.Native.Nat.{zero, suc, ◌*◌, ◌≤◌, ◌<◌, ℕ}
+use Prim.Native.Nat.{zero, suc, ◌≤◌, ◌<◌, ℕ}
 use Rattle.std.proofs.Math.Decide.{ℕ_discrete}
 use native.Mathlib.Omega.{arith}
 use Rattle.std.proofs.Math.ListN.{length}
-use Rattle.serial.specs.Locks.{weak}
 use Rattle.machine.specs.Logic.{eqb_yes, eqb_no, eqb_is, either}
 use Rattle.machine.specs.Holders.{latch_word, elem}
 use Rattle.machine.specs.Tree.{pick, pick-hit}
-use Rattle.machine.specs.State.{Entry, Desc, Tree, Stage, start, enter, change, take, Request, State, Answer, more, wait, done, refused, Outcome, no_desc, same, or_none, session_of, stored, lowest_from, desc_of, gap_below, on_entry, on_tree, in_stage, set_hand, on_session, at, ok}
+use Rattle.machine.specs.State.{Entry, Desc, Tree, Stage, start, enter, change, take, Request, State, Answer, more, wait, done, refused, Outcome, no_desc, same, session_of, stored, desc_of, gap_below, on_entry, on_tree, in_stage, set_hand, on_session, at, ok}
 use Rattle.machine.specs.Descent.{Sons, at_latch, on_latch}
-use Rattle.machine.specs.Steps.{ended, goes_on, finished, guarded, group_blockers, read-step, write_step, excluded_state, unlatch, updating_state, removed_state, passed_state, entry-step, insert-step, remove-step, change-step, memberships, last_take, take_desc, take_step, arrived, root_blockers, root_need, root_splits, whole_root, halved_root, enter_step, level_state, level-step, descended, son-at, pinned_state, pin-step, made_state, make-step, removable, tidied_state, tidy-step, lowest_step, stand_step, at_step, first_step, next_step, answer, settled}
+use Rattle.machine.specs.Steps.{ended, goes_on, finished, guarded, read-step, write_step, excluded_state, unlatch, updating_state, removed_state, entry-step, insert-step, remove-step, change-step, arrived, root_blockers, root_need, root_splits, whole_root, halved_root, enter_step, level_state, level-step, descended, son-at, pinned_state, pin-step, made_state, make-step, removable, tidied_state, tidy-step, lowest_step, stand_step, at_step, first_step, answer}
 use Rattle.machine.specs.Sound.{Sound, Descends, to-change, to_first, to-second, to_choice, Stands}
 use Rattle.machine.specs.Context.{Ctx, hole, down, plug, OnWay, Clear, Focus, Focused}
 use Rattle.machine.specs.Table.{hand-seat, hand_put}
 use Rattle.machine.specs.Descents.{pick-cases}
-use Rattle.machine.specs.Nearest.{takes_of}
 use Rattle.machine.specs.Focus.{focused}
-use Rattle.machine.specs.Waits.{settled-step}
 
 -- ---- how far a request is
 
@@ -120,22 +117,22 @@ entry-table (suc i) f s = refl
 
 module _ (p : ℕ) (r : Request) (s : State) (S : Sound s) (e : (session_of p s).hand ≡ some r) where
   -- The hand after more is in the stage that the step says.
-  abbrev StepsOn : Stage → Outcome → Type 0
+  abbrev pub StepsOn : Stage → Outcome → Type 0
   StepsOn g o = Onward p r s g o.answer o.next
 
-  to-stage : (g g' : Stage) (t : State) → (session_of p (set_hand p (some (in_stage g' r)) t)).hand ≡ some (in_stage g' r) → Ahead p r s g (set_hand p (some (in_stage g' r)) t) g' → StepsOn g (goes_on p r g' t)
+  pub to-stage : (g g' : Stage) (t : State) → (session_of p (set_hand p (some (in_stage g' r)) t)).hand ≡ some (in_stage g' r) → Ahead p r s g (set_hand p (some (in_stage g' r)) t) g' → StepsOn g (goes_on p r g' t)
   unfolding goes_on
   to-stage g g' t h a = (g', h, a)
 
-  on-guard : (g : Stage) (bs : List ℕ) (need : ℕ) (o : Outcome) → StepsOn g o → StepsOn g (guarded bs need p r s o)
+  pub on-guard : (g : Stage) (bs : List ℕ) (need : ℕ) (o : Outcome) → StepsOn g o → StepsOn g (guarded bs need p r s o)
   unfolding guarded
   on-guard g [] need o h = either (StepsOn g) (leb need s.free) o (answer (refused 11 0) (ended p r s)) h tt
   on-guard g (b ∷ bs) need o h = tt
 
-  held : (g : Stage) (t : State) → length t.table ≡ length s.table → (session_of p (set_hand p (some (in_stage g r)) t)).hand ≡ some (in_stage g r)
+  pub held : (g : Stage) (t : State) → length t.table ≡ length s.table → (session_of p (set_hand p (some (in_stage g r)) t)).hand ≡ some (in_stage g r)
   held g t l = ap (λ x. x.hand) (hand_put p (some (in_stage g r)) t (let q = hand-seat p r s e in omega arith))
 
-  first_on : r.stage ≡ start → StepsOn start (first_step p r s)
+  pub first_on : r.stage ≡ start → StepsOn start (first_step p r s)
   unfolding first_step read-step write_step entry-step finished
   first_on q =
       either (StepsOn start) (eqb r.code 1) (read-step p r s) (cond (eqb r.code 2) (write_step p r s) (cond (leb r.code 4) (entry-step p r s) (finished p r (0 ∷ 0 ∷ []) s)))
@@ -150,7 +147,7 @@ module _ (p : ℕ) (r : Request) (s : State) (S : Sound s) (e : (session_of p s)
       later true = omega arith
       later false = omega arith
 
-  enter-on : (x : ℕ) → StepsOn (enter x) (enter_step p r x s)
+  pub enter-on : (x : ℕ) → StepsOn (enter x) (enter_step p r x s)
   unfolding enter_step
   enter-on x = on-guard (enter x) (root_blockers p s) (root_need p s) _
       (to-stage (enter x) (at x) (cond (root_splits p s) (halved_root p x s) (whole_root p s)) (held (at x) _ (either (λ t. length t.table ≡ length s.table) (root_splits p s) (halved_root p x s) (whole_root p s) refl refl))
@@ -202,39 +199,17 @@ module _ (p : ℕ) (r : Request) (s : State) (S : Sound s) (e : (session_of p s)
   stand-on x d zero u F = lowest-on x (pick x no_desc same u.sons) d
   stand-on x d (suc h) u F = level-on x h u F
 
-  at_on : (x : ℕ) → r.stage ≡ at x → StepsOn (at x) (at_step p r x s)
+  pub at_on : (x : ℕ) → r.stage ≡ at x → StepsOn (at x) (at_step p r x s)
   unfolding at_step
   at_on x q = go (focused p x s (S.placed p r x e q)) (subst (Stands p s r) q (S.standing p r e))
     where
       go : Focused p x s → Descends p s r x → StepsOn (at x) (at_latch (latch_word p) x (answer more s) (stand_step p r x s) (suc s.root.height) s.root.node)
       go f d = subst (StepsOn (at x)) (sym (f.focus.answers (answer more s) (stand_step p r x s))) (stand-on x d f.level f.node f.focus)
 
-  change-on : StepsOn change (change-step p r s)
+  pub change-on : StepsOn change (change-step p r s)
   unfolding change-step insert-step remove-step finished
   change-on =
       let d = desc_of r.first s in
       either (StepsOn change) (eqb r.code 3) (insert-step p r d s) (remove-step p r d s)
       (either (StepsOn change) (elem r.entry d.members) _ _ (on-guard change _ 0 _ tt) (on-guard change _ 2 _ tt))
       (on-guard change _ 0 _ (either (StepsOn change) (elem r.entry d.members) (finished p r (1 ∷ []) (removed_state p r s)) (finished p r (0 ∷ []) (updating_state p r s)) tt tt))
-
-  take_on : (n x : ℕ) → r.stage ≡ take x → StepsOn (take x) (take_step n p r x s)
-  unfolding take_step take_desc last_take on_tree
-  take_on n x q =
-      let d = or_none (lowest_from x (stored s)) in
-      let w : x ≤ d.key = (takes_of S p r x e q).next.from in
-      on-guard (take x) (group_blockers weak p d) 0 _
-      (either (StepsOn (take x)) (ltb d.key r.second) _ _
-      (to-stage (take x) (take (suc d.key)) (passed_state p d s) (held (take (suc d.key)) (passed_state p d s) refl) (inr (refl, inr (omega arith))))
-      (either (StepsOn (take x)) (leb (2 * length (memberships r.first r.second (stored s))) n) _ _ tt tt))
-
-  step_on : (n : ℕ) (g : Stage) → r.stage ≡ g → StepsOn g (next_step n p r s g)
-  unfolding next_step
-  step_on n start q = first_on q
-  step_on n (enter x) q = enter-on x
-  step_on n (at x) q = at_on x q
-  step_on n change q = change-on
-  step_on n (take x) q = take_on n x q
-
-  -- Every step of every party: after more the request is ahead.
-  pub step-forward : (n : ℕ) → StepsOn r.stage (settled s r.stage (next_step n p r s r.stage))
-  step-forward n = settled-step (StepsOn r.stage) n p r s (step_on n r.stage refl) (λ b _. tt)

@@ -14,24 +14,22 @@ use Rattle.serial.specs.Rising.{Tri, less, equal, greater}
 use Rattle.serial.specs.Model.{ℕ-tri}
 use Rattle.serial.specs.Locks.{Kind, Mode, weak, strong}
 use Rattle.serial.specs.Locks as L
-use Rattle.machine.specs.Logic.{leb_yes, leb_no, eqb_yes, eqb_no, leb-is, leb-not, either}
+use Rattle.machine.specs.Logic.{leb_yes, leb_no, eqb_yes, eqb_no, either}
 use Rattle.machine.specs.Holders.{holds, held_by, elem}
-use Rattle.machine.specs.State.{Entry, Desc, Stage, start, enter, change, take, Request, State, wait, refused, top, or_none, entry_of, session_of, stored, lowest_from, desc_of, on_entry, on_session, on_tree, on_desc, hold_desc, group_desc, same, with_member, without_member, add_undo, Outcome, at}
-use Rattle.machine.specs.Steps.{share_by, exclude_by, ended, goes_on, finished, guarded, read-step, written, write_step, entry-step, updating_state, inserted_state, removed_state, insert-step, remove-step, change-step, memberships, passed_state, located_state, last_take, take_desc, take_step, first_step, next_step, answer}
+use Rattle.machine.specs.State.{Entry, Desc, Stage, start, enter, change, take, Request, State, wait, refused, top, or_none, entry_of, stored, lowest_from, desc_of, on_entry, on_session, on_tree, on_desc, hold_desc, group_desc, same, with_member, without_member, add_undo, Outcome, at}
+use Rattle.machine.specs.Steps.{share_by, exclude_by, ended, goes_on, finished, guarded, read-step, written, write_step, entry-step, updating_state, inserted_state, removed_state, insert-step, remove-step, located_state, last_take, answer}
 use Rattle.machine.specs.Gaps.{by_tri, locators}
 use Rattle.machine.specs.View.{seen, locate_word, update_word, holders, same_refl, same-holders, ended_same, frame-holders, entry-holders}
-use Rattle.machine.specs.Sound.{stored_in, of_hand, Sound}
+use Rattle.machine.specs.Sound.{stored_in, of_hand}
 use Rattle.machine.specs.Bits.{held_same, held-other}
 use Rattle.machine.specs.Descents.{guard-cases, goes_same, finished-same}
 use Rattle.machine.specs.Order.{In}
 use Rattle.machine.specs.Groups.{words}
-use Rattle.machine.specs.Housekeeping.{Like, like-unseen, at-step-like, enter-step-like, lvs}
+use Rattle.machine.specs.Housekeeping.{Like, like-unseen, lvs}
 use Rattle.machine.specs.Keys.{Kept, put-locate, put-update, was-update, put-update-other, was-locate, was_shown, put_shown, put-locate-here, put-locate-below, put-update-kept, above-locate}
-use Rattle.machine.specs.Looks.{stored-range, stored-parts, sound-ordered, take-stored}
+use Rattle.machine.specs.Looks.{stored-range, stored-parts}
 use Rattle.machine.specs.Entries.{word, grant, holders_word, entry-cases, exclude-words}
 use Rattle.machine.specs.Events.{asked}
-use Rattle.machine.specs.Session.{Ready, reads, writes, to_insert, to_remove, enters, descends, inserts, removes, takes}
-use Rattle.machine.specs.Moves.{Tidying, nothing_above, entering, descending}
 use Rattle.machine.specs.Ledger.{Ledger, no_locks, same_mode, lock, lock_one, keys, key_from, upon, step_grants}
 
 -- ---- words
@@ -106,7 +104,7 @@ module _ (m k : ℕ) (s : State) (K : Kept k s) (f : Desc → Desc) (fk : (f K.d
 
 -- ---- a group's locate lock, and its gap's
 
-abbrev first_key : List Desc → ℕ
+abbrev pub first_key : List Desc → ℕ
 first_key [] = top
 first_key (d ∷ l) = d.key
 
@@ -125,7 +123,7 @@ gap-word-held m q z g b B = at (ℕ-tri z b.key)
 
 -- The descriptor gets session m + 1 as locate holder, and γ of its gap holders: the session comes to hold the keys from k to below hi.
 module _ (m k hi : ℕ) (s : State) (K : Kept k s) (γ : ℕ → ℕ) (lt : k < hi) where
-  abbrev f : Desc → Desc
+  abbrev pub f : Desc → Desc
   f d = hold_desc (held_by (suc m)) same γ d
 
   abbrev t : State
@@ -153,14 +151,14 @@ located-grows m k s K = locate-grows m k (suc k) s K same (omega arith) λ q z h
     sym (or-false _) ∙ ap (λ x. holds (locators K.d.gap (words K.B) z) q || x) (sym (ap (λ x. eqb (suc m) q && x) (leb_no (suc z) (suc k) (omega (arith, h))) ∙ and-false (eqb (suc m) q)))
 
 -- Below second: every key to below the next stored one, which there is.
-passed-grows : (m k : ℕ) (s : State) (K : Kept k s) (b : Desc) (B : List Desc) → K.B ≡ b ∷ B → k < b.key
+pub passed-grows : (m k : ℕ) (s : State) (K : Kept k s) (b : Desc) (B : List Desc) → K.B ≡ b ∷ B → k < b.key
     → GrowsBy s (on_desc k (hold_desc (held_by (suc m)) same (held_by (suc m))) s) (lock L.group weak (suc m) k b.key)
 passed-grows m k s K b B e lt = locate-grows m k b.key s K (held_by (suc m)) lt λ q z h.
     subst (λ l. holds (locators (held_by (suc m) K.d.gap) (words l) z) q ≡ (holds (locators K.d.gap (words l) z) q || (eqb (suc m) q && ltb z b.key))) (sym e) (gap-word-held m q z K.d.gap b B)
 
 -- ---- the stored keys
 
-key-from-is : (x : ℕ) (l : List Desc) → key_from x (map (λ d. d.key) l) ≡ (or_none (lowest_from x l)).key
+pub key-from-is : (x : ℕ) (l : List Desc) → key_from x (map (λ d. d.key) l) ≡ (or_none (lowest_from x l)).key
 unfolding key_from lowest_from
 key-from-is x [] = refl
 key-from-is x (d ∷ l) = go (leb x d.key) (key-from-is x l)
@@ -171,7 +169,7 @@ key-from-is x (d ∷ l) = go (leb x d.key) (key-from-is x l)
     go false ih = ih
 
 -- The next one behind a descriptor.
-next_key : (k : ℕ) (d : Desc) → d.key ≡ k → (A B : List Desc) → In 0 k A → In (suc k) (suc top) B → key_from (suc k) (map (λ x. x.key) (A ++ d ∷ B)) ≡ first_key B
+pub next_key : (k : ℕ) (d : Desc) → d.key ≡ k → (A B : List Desc) → In 0 k A → In (suc k) (suc top) B → key_from (suc k) (map (λ x. x.key) (A ++ d ∷ B)) ≡ first_key B
 unfolding key_from
 next_key k d e [] [] i j = ap (λ b. cond b d.key top) (leb_no (suc k) d.key (omega (arith, e)))
 next_key k d e [] (b ∷ B) i j =
@@ -180,7 +178,7 @@ next_key k d e (a ∷ A) B i j =
     ap (λ b. cond b a.key (key_from (suc k) (map (λ x. x.key) (A ++ d ∷ B)))) (leb_no (suc k) a.key (omega (arith, i.0.1))) ∙ next_key k d e A B i.1 j
 
 -- A stored key above a descriptor lies behind it.
-behind : (k g : ℕ) (s : State) (K : Kept k s) → stored_in g (lvs s) ≡ true → k < g → (b : Desc) × (B : List Desc) × (K.B ≡ b ∷ B)
+pub behind : (k g : ℕ) (s : State) (K : Kept k s) → stored_in g (lvs s) ≡ true → k < g → (b : Desc) × (B : List Desc) × (K.B ≡ b ∷ B)
 unfolding stored_in
 behind k g s K h lt = go K.B refl (stored-parts g K.A K.d K.B (subst (λ l. stored_in g l ≡ true) K.was h))
   where
@@ -193,7 +191,7 @@ behind k g s K h lt = go K.B refl (stored-parts g K.A K.d K.B (subst (λ l. stor
 -- ---- the steps of a session
 
 -- Waits and refusals grant nothing.
-guard-grows : (d g : Ledger) (bs : List ℕ) (need p : ℕ) (r : Request) (s : State) (o : Outcome) → GrowsBy s o.next (upon o.answer d g)
+pub guard-grows : (d g : Ledger) (bs : List ℕ) (need p : ℕ) (r : Request) (s : State) (o : Outcome) → GrowsBy s o.next (upon o.answer d g)
     → GrowsBy s (guarded bs need p r s o).next (upon (guarded bs need p r s o).answer d g)
 guard-grows d g bs need p r s o h = guard-cases (λ x. GrowsBy s x.next (upon x.answer d g)) bs need p r s o
     (λ b l. alike-grows s s (λ k m q z. refl)) (alike-grows s (ended p r s) (same-holders s (ended p r s) (ended_same p r s))) h
@@ -202,19 +200,19 @@ guard-grows d g bs need p r s o h = guard-cases (λ x. GrowsBy s x.next (upon x.
 finished-grows : (p : ℕ) (r : Request) (ns : List ℕ) (s t : State) (g : Ledger) → GrowsBy s t g → GrowsBy s (finished p r ns t).next g
 finished-grows p r ns s t g h = grows_then s t (finished p r ns t).next g h (same-holders t (finished p r ns t).next (finished-same p r ns t t (same_refl t)))
 
-goes-grows : (p : ℕ) (r : Request) (st : Stage) (s t : State) (g : Ledger) → GrowsBy s t g → GrowsBy s (goes_on p r st t).next g
+pub goes-grows : (p : ℕ) (r : Request) (st : Stage) (s t : State) (g : Ledger) → GrowsBy s t g → GrowsBy s (goes_on p r st t).next g
 goes-grows p r st s t g h = grows_then s t (goes_on p r st t).next g h (same-holders t (goes_on p r st t).next (goes_same p r st t t (same_refl t)))
 
 abbrev pub StepGrows : ℕ → Request → State → Outcome → Type 0
 StepGrows p r s o = GrowsBy s o.next (step_grants p r (keys s) r.stage o.answer)
 
-read-grows : (m i f g : ℕ) (s : State) → i < length s.entries → StepGrows (suc m) (asked 1 (suc i) f g start) s (read-step (suc m) (asked 1 (suc i) f g start) s)
+pub read-grows : (m i f g : ℕ) (s : State) → i < length s.entries → StepGrows (suc m) (asked 1 (suc i) f g start) s (read-step (suc m) (asked 1 (suc i) f g start) s)
 unfolding step_grants read-step finished
 read-grows m i f g s h = guard-grows _ no_locks _ 0 (suc m) (asked 1 (suc i) f g start) s _
     (finished-grows (suc m) (asked 1 (suc i) f g start) ((entry_of (suc i) s).value ∷ []) s (on_entry (suc i) (share_by (suc m)) s) _
     (entry-grows weak m i (share_by (suc m)) s h (λ n e. refl)))
 
-write-grows : (m i f g : ℕ) (s : State) → i < length s.entries → StepGrows (suc m) (asked 2 (suc i) f g start) s (write_step (suc m) (asked 2 (suc i) f g start) s)
+pub write-grows : (m i f g : ℕ) (s : State) → i < length s.entries → StepGrows (suc m) (asked 2 (suc i) f g start) s (write_step (suc m) (asked 2 (suc i) f g start) s)
 unfolding step_grants write_step finished written add_undo on_session
 write-grows m i f g s h = guard-grows _ no_locks _ 1 (suc m) r s _
     (finished-grows (suc m) r (0 ∷ []) s (written (suc m) r s) _ (grows_then s t (written (suc m) r s) _ (entry-grows strong m i (exclude_by (suc m) f) s h (exclude-words (suc m) f))
@@ -227,7 +225,7 @@ write-grows m i f g s h = guard-grows _ no_locks _ 1 (suc m) r s _
     t = on_entry (suc i) (exclude_by (suc m) f) s
 
 -- The first step of an insert or remove.
-exclude-grows : (m c i f g : ℕ) (s : State) → i < length s.entries → (eqb c 3 || eqb c 4) ≡ true
+pub exclude-grows : (m c i f g : ℕ) (s : State) → i < length s.entries → (eqb c 3 || eqb c 4) ≡ true
     → StepGrows (suc m) (asked c (suc i) f g start) s (entry-step (suc m) (asked c (suc i) f g start) s)
 unfolding step_grants entry-step goes_on
 exclude-grows m c i f g s h e = guard-grows _ _ _ 0 (suc m) (asked c (suc i) f g start) s _
@@ -248,7 +246,7 @@ module _ (m e f g : ℕ) (s : State) (K : Kept f s) where
   group-grows : (M : List ℕ → List ℕ) → GrowsBy s (on_desc f (λ d. group_desc M (hold_desc same (held_by (suc m)) same d)) s) change_lock
   group-grows M = update-grows m f s K (λ d. group_desc M (hold_desc same (held_by (suc m)) same d)) refl refl refl refl
 
-  insert-grows : StepGrows (suc m) (asked 3 e f g change) s (insert-step (suc m) (asked 3 e f g change) (desc_of f s) s)
+  pub insert-grows : StepGrows (suc m) (asked 3 e f g change) s (insert-step (suc m) (asked 3 e f g change) (desc_of f s) s)
   unfolding step_grants insert-step finished add_undo on_session
   insert-grows =
       either (StepGrows (suc m) r s) (elem e (desc_of f s).members) _ _
@@ -259,7 +257,7 @@ module _ (m e f g : ℕ) (s : State) (K : Kept f s) where
       r : Request
       r = asked 3 e f g change
 
-  remove-grows : StepGrows (suc m) (asked 4 e f g change) s (remove-step (suc m) (asked 4 e f g change) (desc_of f s) s)
+  pub remove-grows : StepGrows (suc m) (asked 4 e f g change) s (remove-step (suc m) (asked 4 e f g change) (desc_of f s) s)
   unfolding step_grants remove-step finished add_undo on_session
   remove-grows = guard-grows change_lock no_locks _ 0 (suc m) r s _
       (either (λ (o : Outcome). GrowsBy s o.next (upon o.answer change_lock no_locks)) (elem e (desc_of f s).members) _ _
@@ -272,31 +270,16 @@ module _ (m e f g : ℕ) (s : State) (K : Kept f s) where
 
 -- A locate at its next descriptor d, the lowest stored from x on, where second, g, is stored.
 module _ (n m e f g x : ℕ) (s : State) (d : Desc) (q : or_none (lowest_from x (stored s)) ≡ d) (K : Kept d.key s) (upto : d.key ≤ g) (stays : stored_in g (lvs s) ≡ true) where
-  abbrev r : Request
+  abbrev pub r : Request
   r = asked 5 e f g (take x)
 
-  abbrev from_key : ℕ → Ledger
+  abbrev pub from_key : ℕ → Ledger
   from_key k = lock L.group weak (suc m) k (key_from (suc k) (keys s))
 
-  abbrev second_lock : Ledger
+  abbrev pub second_lock : Ledger
   second_lock = lock_one L.group weak (suc m) g
 
-  pass-grows : d.key < g → GrowsBy s (goes_on (suc m) r (take (suc d.key)) (passed_state (suc m) d s)).next (from_key (key_from x (keys s)))
-  unfolding keys stored
-  pass-grows lt = goes-grows (suc m) r (take (suc d.key)) s (passed_state (suc m) d s) (from_key (key_from x (keys s)))
-      (subst (GrowsBy s (passed_state (suc m) d s)) (ap (lock L.group weak (suc m) d.key) next-is ∙ ap from_key here-is)
-      (passed-grows m d.key s K N.0 N.1 N.2 (subst (In (suc d.key) (suc top)) N.2 K.high).0.0))
-    where
-      N : (b : Desc) × (B : List Desc) × (K.B ≡ b ∷ B)
-      N = behind d.key g s K stays lt
-
-      here-is : d.key ≡ key_from x (keys s)
-      here-is = sym (key-from-is x (lvs s) ∙ ap (λ y. y.key) q)
-
-      next-is : N.0.key ≡ key_from (suc d.key) (keys s)
-      next-is = sym (ap (λ l. key_from (suc d.key) (map (λ y. y.key) l)) K.was ∙ next_key d.key K.d K.key K.A K.B K.low K.high ∙ ap first_key N.2)
-
-  last-grows : d.key ≡ g → (l : List (ℕ × ℕ)) → GrowsBy s (last_take n (suc m) r l d s).next (upon (last_take n (suc m) r l d s).answer second_lock (from_key (key_from x (keys s))))
+  pub last-grows : d.key ≡ g → (l : List (ℕ × ℕ)) → GrowsBy s (last_take n (suc m) r l d s).next (upon (last_take n (suc m) r l d s).answer second_lock (from_key (key_from x (keys s))))
   unfolding last_take
   last-grows w l = either (λ (o : Outcome). GrowsBy s o.next (upon o.answer second_lock (from_key (key_from x (keys s))))) (leb (2 * length l) n) _ _
       (grows_then s (located_state (suc m) d s) (ended (suc m) r (located_state (suc m) d s)) second_lock
@@ -304,35 +287,8 @@ module _ (n m e f g x : ℕ) (s : State) (d : Desc) (q : or_none (lowest_from x 
       (same-holders (located_state (suc m) d s) (ended (suc m) r (located_state (suc m) d s)) (ended_same (suc m) r (located_state (suc m) d s))))
       (alike-grows s (ended (suc m) r s) (same-holders s (ended (suc m) r s) (ended_same (suc m) r s)))
 
-  take-grows : StepGrows (suc m) r s (take_desc n (suc m) r d s)
-  unfolding step_grants take_desc goes_on
-  take-grows = guard-grows second_lock (from_key (key_from x (keys s))) _ 0 (suc m) r s _ (go (ltb d.key g) refl)
-    where
-      l : List (ℕ × ℕ)
-      l = memberships f g (stored s)
-
-      o : Bool → Outcome
-      o b = cond b (goes_on (suc m) r (take (suc d.key)) (passed_state (suc m) d s)) (last_take n (suc m) r l d s)
-
-      go : (b : Bool) → ltb d.key g ≡ b → GrowsBy s (o b).next (upon (o b).answer second_lock (from_key (key_from x (keys s))))
-      go true w = pass-grows (leb-is (suc d.key) g w)
-      go false w = last-grows (let u = leb-not (suc d.key) g w in omega (arith, u, upto)) l
-
-like-grows : (s t : State) → Like s t → GrowsBy s t no_locks
+pub like-grows : (s t : State) → Like s t → GrowsBy s t no_locks
 like-grows s t h = alike-grows s t (λ k m q z. ((like-unseen s t h).stays q).holds_kept k m z)
-
--- Every step of a session grows by what it grants.
-pub ready-grows : (n m : ℕ) (s : State) → Sound s → (r : Request) → (session_of (suc m) s).hand ≡ some r → Ready (suc m) s r → StepGrows (suc m) r s (next_step n (suc m) r s r.stage)
-unfolding next_step first_step change-step take_step step_grants
-ready-grows n m s S r h (reads i f g w) = read-grows m i f g s w
-ready-grows n m s S r h (writes i f g w) = write-grows m i f g s w
-ready-grows n m s S r h (to_insert i f g w) = exclude-grows m 3 i f g s w refl
-ready-grows n m s S r h (to_remove i f g w) = exclude-grows m 4 i f g s w refl
-ready-grows n m s S r h (enters c e f g x) = like-grows s _ (enter-step-like (suc m) (asked c e f g (enter x)) x s)
-ready-grows n m s S r h (descends c e f g x w) = like-grows s _ (at-step-like (suc m) (asked c e f g (at x)) x s (sound-ordered S) w (λ z. absurd (omega (arith, z))))
-ready-grows n m s S r h (inserts e f g K w) = insert-grows m e f g s K
-ready-grows n m s S r h (removes e f g K w) = remove-grows m e f g s K
-ready-grows n m s S r h (takes e f g x K q u needs) = take-grows n m e f g x s (or_none (lowest_from x (stored s))) refl K u (take-stored S (suc m) (asked 5 e f g (take x)) x h refl).1
 
 -- A wait grants nothing.
 pub wait-grows : (p : ℕ) (r : Request) (s : State) (b : ℕ) → StepGrows p r s (answer (wait (b ∷ [])) s)
@@ -345,13 +301,6 @@ wait-grows p r s b = go r.stage
     go (at x) = alike-grows s s (λ k m q z. refl)
     go change = alike-grows s s (λ k m q z. refl)
     go (take x) = alike-grows s s (λ k m q z. refl)
-
--- No step of the housekeeper grants anything.
-pub tidy-grows : (n : ℕ) (s : State) → Sound s → (r : Request) → Tidying s r → StepGrows 0 r s (next_step n 0 r s r.stage)
-unfolding next_step first_step step_grants finished
-tidy-grows n s S r (nothing_above e f g) = alike-grows s _ (same-holders s _ (ended_same 0 (asked 6 e f g start) s))
-tidy-grows n s S r (entering e f g x) = like-grows s _ (enter-step-like 0 (asked 6 e f g (enter x)) x s)
-tidy-grows n s S r (descending e f g x w q) = like-grows s _ (at-step-like 0 (asked 6 e f g (at x)) x s (sound-ordered S) w (λ z. q))
 
 pub refused-grants : (p n b : ℕ) (s : State) (h : Option Request) (k : Kind) (m : Mode) (q z : ℕ) → of_hand no_locks (λ r. step_grants p r (keys s) r.stage (refused n b)) h k m q z ≡ false
 unfolding step_grants

@@ -1,27 +1,25 @@
 -- Insert and remove, as the change step does them.
-use Rattle.std.specs.Prelude.{◌≡◌, Bool, true, false, cond, suc, ◌-◌, ◌≤◌, ℕ}
+use Rattle.std.specs.Prelude.{◌≡◌, Bool, true, false, cond, suc, ◌≤◌, ℕ}
 use Rattle.std.proofs.Math.Path.{refl, sym, ap}
 use Rattle.std.proofs.Common.{◌∙◌, subst, arith}
 use mathlib.Core.List.{List, [], ◌∷◌, ◌++◌, map}
 use Rattle.std.proofs.Math.Decide.{ℕ_discrete}
 use Rattle.serial.specs.Serial.{pick_yes, pick_no, pick}
 use Rattle.serial.specs.Rising.{has}
-use Rattle.serial.specs.Model.{Item, Item-discrete, Req, get, eff, ans, just, by_key}
+use Rattle.serial.specs.Model.{Item, Item-discrete, Req, get, eff, by_key}
 use Rattle.serial.specs.Model as R
-use Rattle.serial.specs.Footprints.{frame, cell-inserted, cell-removed, Good}
+use Rattle.serial.specs.Footprints.{Good}
 use Rattle.serial.specs.Locks.{Kind, Mode, strong, Needs, undo_of}
 use Rattle.serial.specs.Locks as L
-use Rattle.machine.specs.Holders.{width, holds, held_by, elem}
-use Rattle.machine.specs.State.{Desc, Stage, Request, Undo, added, taken, State, done, entry_of, session_of, desc_of, with_free, on_tree, on_desc, hold_desc, group_desc, same, with_member, without_member, on_session, add_undo}
-use Rattle.machine.specs.Steps.{group_blockers, ended, finished, guarded, insert-step, remove-step}
-use Rattle.machine.specs.View.{seen, group_in, log_entry, items, holders, Same, same-items, same-holders, ended_same, frame-holders, entry-same, entry-holders, frame-items}
+use Rattle.machine.specs.Holders.{width, holds, elem}
+use Rattle.machine.specs.State.{Desc, Undo, State, entry_of, session_of, desc_of, with_free, on_tree, on_desc, group_desc, on_session, add_undo}
+use Rattle.machine.specs.View.{seen, group_in, log_entry, items, holders, Same, same-items, same-holders, frame-holders, entry-same, entry-holders, frame-items}
 use Rattle.machine.specs.Model.{model, model_good, model_is, Listed, items-set, Up}
 use Rattle.machine.specs.Bits.{held_same}
 use Rattle.machine.specs.Table.{undo-put, undo-other, session-kept, with_undo}
-use Rattle.machine.specs.Keys.{elem-without-other, elem-without-same, Kept, put-update, put-group, put-group-other, was-group, listed_at, put-words, elem-with-same, elem-with-other}
+use Rattle.machine.specs.Keys.{Kept, put-update, put-group, put-group-other, was-group, listed_at, put-words}
 use Rattle.machine.specs.Entries.{Fit}
-use Rattle.machine.specs.Events.{Does, finishes, guard-does, asked}
-use Rattle.machine.specs.Changes.{hold_update, held_state, up-group, update-locked, held-rises, held-listed, Follows, follows-finished}
+use Rattle.machine.specs.Changes.{hold_update, held_state, up-group, held-rises, held-listed, Follows}
 
 -- The group changed with the lock.
 module _ (p k : ℕ) (s : State) (K : Kept k s) (F : Fit s) (M : List ℕ → List ℕ) where
@@ -31,7 +29,7 @@ module _ (p k : ℕ) (s : State) (K : Kept k s) (F : Fit s) (M : List ℕ → Li
   abbrev pub changed : State
   changed = on_desc k g s
 
-  abbrev held : State
+  abbrev pub held : State
   held = held_state p k s K
 
   pub changed-holders : (l : Kind) (n : Mode) (q z : ℕ) → holders changed l n q z ≡ holders held l n q z
@@ -76,7 +74,7 @@ module _ (k e : ℕ) (t : State) (q : Req) (b : Bool) (here : get (eff q (model 
       at (no n) = items-set k e b t u v i o w x (no n) ∙ sym (there x (λ y. n (sym y)))
 
 -- Whether e is a member, as the model counts.
-by-member : (k e : ℕ) (t : State) → ((x : Item) → get (model t) x ≡ items t x) → {A : Type 0} (b : Bool) → elem e (group_in k (seen t)) ≡ b → (x y : A)
+pub by-member : (k e : ℕ) (t : State) → ((x : Item) → get (model t) x ≡ items t x) → {A : Type 0} (b : Bool) → elem e (group_in k (seen t)) ≡ b → (x y : A)
     → pick (ℕ_discrete (has by_key (k, e) (model t).members) 0) x y ≡ cond b y x
 by-member k e t is true h x y = pick_no (ℕ_discrete (has by_key (k, e) (model t).members) 0) x y
     (λ z. let q : has by_key (k, e) (model t).members ≡ 1 = is (R.cell k e) ∙ ap (λ b. cond b 1 0) h in omega (arith, z, q))
@@ -85,34 +83,34 @@ by-member k e t is false h x y = pick_yes (ℕ_discrete (has by_key (k, e) (mode
 -- ---- the step
 
 module _ (n k e : ℕ) (s : State) (F : Fit s) (K : Kept k s) (b : (session_of (suc n) s).begun ≡ true) (le : suc n ≤ width) (x : holders s L.entry strong (suc n) e ≡ true) where
-  abbrev p : ℕ
+  abbrev pub p : ℕ
   p = suc n
 
-  abbrev ht : State
+  abbrev pub ht : State
   ht = held_state p k s K
 
   ht-entry : (q z : ℕ) → holders ht L.entry strong q z ≡ holders s L.entry strong q z
   unfolding on_tree
   ht-entry = entry-holders s ht refl strong
 
-  ht-needs : (holders ht L.group strong p k ≡ true) × (holders ht L.entry strong p e ≡ true)
+  pub ht-needs : (holders ht L.group strong p k ≡ true) × (holders ht L.entry strong p e ≡ true)
   ht-needs = (ap (λ w. holds w p) (put-update k s K (hold_update p) refl) ∙ held_same n K.d.update, ht-entry p e ∙ x)
 
-  ht-begun : (session_of p ht).begun ≡ true
+  pub ht-begun : (session_of p ht).begun ≡ true
   unfolding on_tree session_of
   ht-begun = b
 
-  ht-elem : elem e (group_in k (seen ht)) ≡ elem e (desc_of k s).members
+  pub ht-elem : elem e (group_in k (seen ht)) ≡ elem e (desc_of k s).members
   ht-elem = ap (elem e) (up-group p k s K k ∙ was-group k s K ∙ ap (λ d. d.members) (sym K.desc))
 
-  ht-good : Good (model ht)
+  pub ht-good : Good (model ht)
   ht-good = model_good 0 4294967296 ht (held-rises p k s K F) (held-listed p k s K F)
 
-  ht-is : (y : Item) → get (model ht) y ≡ items ht y
+  pub ht-is : (y : Item) → get (model ht) y ≡ items ht y
   ht-is = model_is 0 4294967296 ht (held-rises p k s K F)
 
   -- Nothing more than the lock.
-  none-follows : (q : Req) (u : State) → Same ht u → Needs (holders ht) p q → ((y : Item) → get (eff q (model ht)) y ≡ items ht y) → undo_of q (model ht) ≡ [] → Follows p k s K F q u
+  pub none-follows : (q : Req) (u : State) → Same ht u → Needs (holders ht) p q → ((y : Item) → get (eff q (model ht)) y ≡ items ht y) → undo_of q (model ht) ≡ [] → Follows p k s K F q u
   none-follows q u h nd ch bk = record {
     needs = nd;
     change = λ y. same-items ht u h y ∙ sym (ch y);
@@ -123,10 +121,10 @@ module _ (n k e : ℕ) (s : State) (F : Fit s) (K : Kept k s) (b : (session_of (
   }
 
   -- The group changed, and an undo record.
-  abbrev cu : (List ℕ → List ℕ) → Undo → ℕ → State
+  abbrev pub cu : (List ℕ → List ℕ) → Undo → ℕ → State
   cu M w f = add_undo p w (with_free f (changed p k s K F M))
 
-  one_follows : (q : Req) (M : List ℕ → List ℕ) (w : Undo) (f : ℕ) (u : State) → Same (cu M w f) u → Needs (holders ht) p q
+  pub one_follows : (q : Req) (M : List ℕ → List ℕ) (w : Undo) (f : ℕ) (u : State) → Same (cu M w f) u → Needs (holders ht) p q
       → ((y : Item) → items (changed p k s K F M) y ≡ get (eff q (model ht)) y) → undo_of q (model ht) ≡ log_entry w ∷ [] → Follows p k s K F q u
   unfolding add_undo on_session on_tree session_of
   one_follows q M w f u h nd ch bk = record {
@@ -139,69 +137,15 @@ module _ (n k e : ℕ) (s : State) (F : Fit s) (K : Kept k s) (b : (session_of (
   }
 
   -- The model's change of another item, and its answer.
-  ht-frame : (q : Req) → ((y : Item) → ¬ (y ≡ R.cell k e) → get (eff q (model ht)) y ≡ get (model ht) y) → (y : Item) → ¬ (y ≡ R.cell k e) → get (eff q (model ht)) y ≡ items ht y
+  pub ht-frame : (q : Req) → ((y : Item) → ¬ (y ≡ R.cell k e) → get (eff q (model ht)) y ≡ get (model ht) y) → (y : Item) → ¬ (y ≡ R.cell k e) → get (eff q (model ht)) y ≡ items ht y
   ht-frame q f y ne = f y ne ∙ ht-is y
 
-  ht-count : (o : Bool) → elem e (desc_of k s).members ≡ o → get (model ht) (R.cell k e) ≡ cond o 1 0
+  pub ht-count : (o : Bool) → elem e (desc_of k s).members ≡ o → get (model ht) (R.cell k e) ≡ cond o 1 0
   ht-count o h = ht-is (R.cell k e) ∙ ap (λ v. cond v 1 0) (ht-elem ∙ h)
 
   -- The group of k becomes as M says, and e a member or not by o.
-  ht-one : (q : Req) (M : List ℕ → List ℕ) (o : Bool) → get (eff q (model ht)) (R.cell k e) ≡ cond o 1 0 → ((y : Item) → ¬ (y ≡ R.cell k e) → get (eff q (model ht)) y ≡ get (model ht) y)
+  pub ht-one : (q : Req) (M : List ℕ → List ℕ) (o : Bool) → get (eff q (model ht)) (R.cell k e) ≡ cond o 1 0 → ((y : Item) → ¬ (y ≡ R.cell k e) → get (eff q (model ht)) y ≡ get (model ht) y)
       → elem e (M (group_in k (seen ht))) ≡ o → ((y : ℕ) → ¬ (y ≡ e) → elem y (M (group_in k (seen ht))) ≡ elem y (group_in k (seen ht)))
       → (y : Item) → items (changed p k s K F M) y ≡ get (eff q (model ht)) y
   ht-one q M o here f i j = set-one k e ht q o here (ht-frame q f) (changed p k s K F M) (changed-value p k s K F M) (ap (elem e) (changed-here p k s K F M) ∙ i)
       (λ y ne. ap (elem y) (changed-here p k s K F M) ∙ j y ne) (changed-there p k s K F M)
-
-  module _ (c g : ℕ) (st : Stage) where
-    abbrev r : Request
-    r = asked c e k g st
-
-    pub insert-does : Does p (R.insert e k) s (insert-step p r (desc_of k s) s)
-    unfolding insert-step finished
-    insert-does = go (elem e (desc_of k s).members) refl
-      where
-        hold : State
-        hold = on_desc k (hold_desc same (held_by p) same) s
-
-        add : State
-        add = on_desc k (λ d. group_desc (with_member e) (hold_desc same (held_by p) same d)) s
-
-        go : (o : Bool) → elem e (desc_of k s).members ≡ o → Does p (R.insert e k) s
-            (cond o (guarded (group_blockers strong p (desc_of k s)) 0 p r s (finished p r (0 ∷ []) hold))
-            (guarded (group_blockers strong p (desc_of k s)) 2 p r s (finished p r (1 ∷ []) (add_undo p (added e k) (with_free (s.free - 2) add)))))
-        go true h = guard-does p (R.insert e k) (group_blockers strong p (desc_of k s)) 0 r s (finished p r (0 ∷ []) hold) λ free.
-            finishes ht (ans (R.insert e k) (model ht)) (ap (λ a. done a.numbers) (sym (ap (λ v. just (1 - v)) (ht-count true h)))) refl (update-locked p k s K F free b)
-            (follows-finished p k s K F (R.insert e k) (ended p r ht)
-            (none-follows (R.insert e k) (ended p r ht) (ended_same p r ht) ht-needs (set-none k e ht (R.insert e k) true (cell-inserted e k (model ht)) (ht-frame (R.insert e k) (frame (R.insert e k) (model ht) ht-good)) (ht-elem ∙ h))
-            (by-member k e ht ht-is true (ht-elem ∙ h) ((R.cell k e, 0) ∷ []) [])) ht-begun)
-        go false h = guard-does p (R.insert e k) (group_blockers strong p (desc_of k s)) 2 r s (finished p r (1 ∷ []) (add_undo p (added e k) (with_free (s.free - 2) add))) λ free.
-            finishes ht (ans (R.insert e k) (model ht)) (ap (λ a. done a.numbers) (sym (ap (λ v. just (1 - v)) (ht-count false h)))) refl (update-locked p k s K F free b)
-            (follows-finished p k s K F (R.insert e k) (ended p r (cu (with_member e) (added e k) (s.free - 2)))
-            (one_follows (R.insert e k) (with_member e) (added e k) (s.free - 2) (ended p r (cu (with_member e) (added e k) (s.free - 2))) (ended_same p r (cu (with_member e) (added e k) (s.free - 2))) ht-needs
-            (ht-one (R.insert e k) (with_member e) true (cell-inserted e k (model ht)) (frame (R.insert e k) (model ht) ht-good) (elem-with-same e (group_in k (seen ht)))
-            (λ y ne. elem-with-other y e (group_in k (seen ht)) ne)) (by-member k e ht ht-is false (ht-elem ∙ h) ((R.cell k e, 0) ∷ []) [])) ht-begun)
-
-    pub remove-does : Does p (R.remove e k) s (remove-step p r (desc_of k s) s)
-    unfolding remove-step finished on_tree
-    remove-does = guard-does p (R.remove e k) (group_blockers strong p (desc_of k s)) 0 r s
-        (cond (elem e (desc_of k s).members) (finished p r (1 ∷ []) (add_undo p (taken e k) out)) (finished p r (0 ∷ []) hold)) λ free. go free (elem e (desc_of k s).members) refl
-      where
-        hold : State
-        hold = on_desc k (hold_desc same (held_by p) same) s
-
-        out : State
-        out = on_desc k (λ d. group_desc (without_member e) (hold_desc same (held_by p) same d)) s
-
-        go : group_blockers strong p (desc_of k s) ≡ [] → (o : Bool) → elem e (desc_of k s).members ≡ o → Does p (R.remove e k) s
-            (cond o (finished p r (1 ∷ []) (add_undo p (taken e k) out)) (finished p r (0 ∷ []) hold))
-        go free false h =
-            finishes ht (ans (R.remove e k) (model ht)) (ap (λ a. done a.numbers) (sym (ap just (ht-count false h)))) refl (update-locked p k s K F free b)
-            (follows-finished p k s K F (R.remove e k) (ended p r ht)
-            (none-follows (R.remove e k) (ended p r ht) (ended_same p r ht) ht-needs (set-none k e ht (R.remove e k) false (cell-removed e k (model ht)) (ht-frame (R.remove e k) (frame (R.remove e k) (model ht) ht-good)) (ht-elem ∙ h))
-            (by-member k e ht ht-is false (ht-elem ∙ h) [] ((R.cell k e, 1) ∷ []))) ht-begun)
-        go free true h =
-            finishes ht (ans (R.remove e k) (model ht)) (ap (λ a. done a.numbers) (sym (ap just (ht-count true h)))) refl (update-locked p k s K F free b)
-            (follows-finished p k s K F (R.remove e k) (ended p r (cu (without_member e) (taken e k) s.free))
-            (one_follows (R.remove e k) (without_member e) (taken e k) s.free (ended p r (cu (without_member e) (taken e k) s.free)) (ended_same p r (cu (without_member e) (taken e k) s.free)) ht-needs
-            (ht-one (R.remove e k) (without_member e) false (cell-removed e k (model ht)) (frame (R.remove e k) (model ht) ht-good) (elem-without-same e 1 (group_in k (seen ht)) (held_up p k s K F (without_member e)))
-            (λ y ne. elem-without-other y e (group_in k (seen ht)) ne)) (by-member k e ht ht-is true (ht-elem ∙ h) [] ((R.cell k e, 1) ∷ []))) ht-begun)

@@ -1,5 +1,5 @@
 -- Every success state of a descent keeps the latches of all parties: entering the root, one level down, and the last step at a lowest node.
-use Rattle.std.specs.Prelude.{◌≡◌, Bool, true, false, cond, List, [], ◌∷◌, ◌⊎◌, zero, suc, ◌+◌, ◌-◌, ◌≤◌, ◌<◌, ℕ, length}
+use Rattle.std.specs.Prelude.{◌≡◌, false, List, [], ◌∷◌, ◌⊎◌, zero, suc, ◌+◌, ◌-◌, ◌≤◌, ◌<◌, ℕ, length}
 use Rattle.std.proofs.Math.Path.{refl}
 use Rattle.std.proofs.Common.{sym, ◌∙◌, subst, ap, inl, inr}
 use Rattle.std.proofs.lemmas.Bool.{false≢true}
@@ -8,21 +8,21 @@ use native.Mathlib.Omega.{arith}
 use Rattle.machine.specs.Logic.{eqb_yes, eqb_no}
 use Rattle.machine.specs.Holders.{latch_word}
 use Rattle.machine.specs.Tree.{sum_e, Seg}
-use Rattle.machine.specs.State.{Tree, Root, Stage, enter, Request, State, top, session_of, stored, gap_below, with_free, on_tree, on_desc, pin_desc, set_hand, in_stage, at}
+use Rattle.machine.specs.State.{Tree, Root, Stage, Request, State, top, session_of, stored, gap_below, with_free, on_tree, on_desc, pin_desc, set_hand, in_stage, at}
 use Rattle.machine.specs.Descent.{Sons, sons_of, halves, put_in, taken_out, on_latch, unlatched, lone_son, drop_lone, node}
-use Rattle.machine.specs.Steps.{fills, pinned, unpin, unlatch, ended, goes_on, finished, root_left, root_splits, whole_root, halved_root, root_blockers, son-at, descended, level_state, level_blockers, pinned_state, made, on_lowest, made_state, tidied_state}
+use Rattle.machine.specs.Steps.{fills, pinned, unpin, unlatch, ended, goes_on, finished, root_left, root_splits, whole_root, pinned_state, made, on_lowest, made_state, tidied_state}
 use Rattle.machine.specs.Sound.{stands, Shaped, OnPath, Latched, latch_count, Room, Sound, Latches, latches-of, formed-of}
 use Rattle.machine.specs.Context.{Focus}
 use Rattle.machine.specs.Table.{hand-seat}
 use Rattle.machine.specs.Looks.{shaped-le}
-use Rattle.machine.specs.Focus.{least_in, Lens, shaped-plug, latches-plug, least-in-hole}
-use Rattle.machine.specs.Shape.{left-shaped, fills-is}
-use Rattle.machine.specs.Paths.{path-map, path-upto}
-use Rattle.machine.specs.Latched.{bit-yes, bit-no, latched-here, latched-under, under-latched, latched-map, latched-in, on-latch-plug, Others, others-trans}
+use Rattle.machine.specs.Focus.{least_in, least-in-hole}
+use Rattle.machine.specs.Shape.{left-shaped}
+use Rattle.machine.specs.Paths.{path-upto}
+use Rattle.machine.specs.Latched.{bit-yes, bit-no, latched-here, latched-under, under-latched, on-latch-plug, Others, others-trans}
 use Rattle.machine.specs.Regroup.{grouped-of, no-latches}
 use Rattle.machine.specs.InTheWay.{Free}
-use Rattle.machine.specs.Parts.{free-words, relatched-others, lowest-others, Fits, Swap, halves-swap, swap-paths, swap-counts, swap-own, Lowered, lowered}
-use Rattle.machine.specs.Latch.{hand_stands, Spared, fits-room, arrive-latches, focus-spared, desc-latches, Released, released-latches, released-unpin, own-once, focus-once, focus-released, unlatch-latches}
+use Rattle.machine.specs.Parts.{relatched-others, lowest-others, Fits, Swap, swap-paths, swap-counts}
+use Rattle.machine.specs.Latch.{arrive-latches, desc-latches, Released, released-latches, released-unpin, own-once, focus-released, unlatch-latches}
 
 -- ---- at the lowest node
 
@@ -61,7 +61,7 @@ tidy-latches r ns x s S e w xt u F =
 -- ---- one level down
 
 -- The housekeeper's node above the lowest has two sons or more.
-two-sons : (p x : ℕ) (s : State) (h lo hi : ℕ) (u : Tree (suc (suc h))) (F : Focus p x s (suc h) u) → Shaped (suc (suc h)) (least_in F.around 1) lo hi u → p ≡ 0 → 2 ≤ sons_of u
+pub two-sons : (p x : ℕ) (s : State) (h lo hi : ℕ) (u : Tree (suc (suc h))) (F : Focus p x s (suc h) u) → Shaped (suc (suc h)) (least_in F.around 1) lo hi u → p ≡ 0 → 2 ≤ sons_of u
 unfolding Shaped
 two-sons p x s h lo hi u F S e = go (omega (arith, S.0, (least-in-hole F.around).0)) (subst (λ q. Room s q (suc h) (sons_of u)) e F.room)
   where
@@ -70,45 +70,13 @@ two-sons p x s h lo hi u F S e = go (omega (arith, S.0, (least-in-hole F.around)
     go m (inr (l, inl z)) = absurd (omega (arith, z))
     go m (inr (l, inr n)) = omega arith
 
-pub level-latches : (p : ℕ) (r : Request) (x : ℕ) (s : State) → Sound s → (session_of p s).hand ≡ some r → r.stage ≡ at x → x ≤ top → p < length s.table
-    → (h : ℕ) (u : Tree (suc (suc h))) → Focus p x s (suc h) u → level_blockers p x h u.sons (son-at x h u.sons) ≡ []
-    → Latches (goes_on p r (at x) (level_state p x s h u.sons (son-at x h u.sons))).next
-unfolding goes_on on_tree session_of
-level-latches p r x s S e w xt seat h u F b = go (shaped-plug F.around 1 0 top u (subst (Shaped (suc s.root.height) 1 0 top) F.is S.shaped))
-  where
-    t : State
-    t = level_state p x s h u.sons (son-at x h u.sons)
-
-    v : Tree (suc (suc h))
-    v = descended p x (suc h) u
-
-    c : latch_count (latch_word p) (suc s.root.height) s.root.node ≡ 1
-    c = own-once p r x s (latches-of S) e w
-
-    low : Lowered p x (suc h) u v → Latches (goes_on p r (at x) t).next
-    low W =
-        let f = on_latch (latch_word p) x (descended p x) in
-        let A = focus-spared f s p x (suc h) u v F (F.changes (descended p x)) W.others in
-        let B : Spared p s t = record { others = A.others; root_kept = A.root_kept; hands = A.hands } in
-        let z = focus-once p x s (suc h) u F c in
-        arrive-latches p s t (latches-of S) B seat (in_stage (at x) r) x refl
-        (ap (latch_count (latch_word p) (suc s.root.height)) (F.changes (descended p x)) ∙ latches-plug (latch_word p) F.around v
-        ∙ omega (arith, z.0, W.once z.1))
-        (subst (Latched (latch_word p) x (Room t p) (suc s.root.height)) (sym (F.changes (descended p x)))
-        (latched-in (latch_word p) x (Room t p) F.around v F.way F.clear
-        (latched-map (latch_word p) x (λ _ n. Fits p n) (Room t p) (fits-room t p) (suc (suc h)) v W.there)))
-
-    go : Lens F.around 1 0 top u → Latches (goes_on p r (at x) t).next
-    go N = let i = N.inside x F.way (omega arith) xt in
-        low (lowered p x h (least_in F.around 1) N.lo' N.hi' u N.sub i.0 i.1 (two-sons p x s h N.lo' N.hi' u F N.sub) F.latch b)
-
 -- ---- enter the root
 
 -- The root left where a lone node above it is dropped; nobody has the dropped one's latch.
-record Left (p h : ℕ) (t : Tree (suc h)) (R : Root) : Type 1 where
-  others : Others p (suc h) t (suc R.height) R.node
-  none_own : latch_count (latch_word p) (suc R.height) R.node ≡ 0
-  not_lone : (R.height ≡ 0) ⊎ ¬ (sons_of R.node ≡ 1)
+pub record Left (p h : ℕ) (t : Tree (suc h)) (R : Root) : Type 1 where
+  pub others : Others p (suc h) t (suc R.height) R.node
+  pub none_own : latch_count (latch_word p) (suc R.height) R.node ≡ 0
+  pub not_lone : (R.height ≡ 0) ⊎ ¬ (sons_of R.node ≡ 1)
 
 stays-left : (p h : ℕ) (t : Tree (suc h)) → latch_count (latch_word p) (suc h) t ≡ 0 → (h ≡ 0) ⊎ ¬ (sons_of t ≡ 1) → Left p h t (record { height = h; node = t })
 stays-left p h t c n = record { others = record { counts = λ q m. refl; paths = λ q y F m l. l }; none_own = c; not_lone = n }
@@ -131,11 +99,11 @@ lone-left p h t (a ∷ []) e S c l = record {
     only q y F (inl o) = o.1
     only q y F (inr o) = absurd o.1
 
-left : (p h : ℕ) (t : Tree (suc h)) → Shaped (suc h) 1 0 top t → latch_count (latch_word p) (suc h) t ≡ 0 → t.latch ≡ 0 → Left p h t (drop_lone h t)
+pub left : (p h : ℕ) (t : Tree (suc h)) → Shaped (suc h) 1 0 top t → latch_count (latch_word p) (suc h) t ≡ 0 → t.latch ≡ 0 → Left p h t (drop_lone h t)
 left p zero t S c l = stays-left p zero t c (inl refl)
 left p (suc h) t S c l = lone-left p h t t.sons refl S c l
 
-free-zero : (p h : ℕ) (t : Tree (suc h)) → latch_count (latch_word p) (suc h) t ≡ 0 → Free p t.latch → t.latch ≡ 0
+pub free-zero : (p h : ℕ) (t : Tree (suc h)) → latch_count (latch_word p) (suc h) t ≡ 0 → Free p t.latch → t.latch ≡ 0
 unfolding latch_count
 free-zero p h t c (inl e) = e
 free-zero p h t c (inr e) = absurd (omega (arith, c, bit-yes t.latch (latch_word p) e))
@@ -147,22 +115,22 @@ whole_room (suc k) t h u e m l f =
     let w : ¬ (sons_of u ≡ 8) = λ w. false≢true (sym (rw (eqb_no (suc k) 0 (omega arith)) at e) ∙ eqb_yes (sons_of u) 8 w) in
     omega arith
 
-four-fits : (p : ℕ) → ¬ (p ≡ 0) → Fits p 4
+pub four-fits : (p : ℕ) → ¬ (p ≡ 0) → Fits p 4
 four-fits zero n = absurd (n refl)
 four-fits (suc k) n = omega arith
 
 module _ (p : ℕ) (r : Request) (x : ℕ) (s : State) (S : Sound s) (xt : x ≤ top) (seat : p < length s.table) (l : s.root.node.latch ≡ 0)
     (N : Left p s.root.height s.root.node (root_left s)) (m : (root_left s).node.latch ≡ 0) where
-  abbrev R : Root
+  abbrev pub R : Root
   R = root_left s
 
-  no-root : (t : State) (q : ℕ) → ¬ (p ≡ q) → s.root.node.latch ≡ latch_word q → t.root.node.latch ≡ latch_word q
+  pub no-root : (t : State) (q : ℕ) → ¬ (p ≡ q) → s.root.node.latch ≡ latch_word q → t.root.node.latch ≡ latch_word q
   no-root t q n e = absurd (omega (arith, l, e))
 
-  shape : Shaped (suc R.height) 1 0 top R.node
+  pub shape : Shaped (suc R.height) 1 0 top R.node
   shape = (left-shaped s (formed-of S)).0
 
-  whole-latches : root_splits p s ≡ false → Latches (goes_on p r (at x) (whole_root p s)).next
+  pub whole-latches : root_splits p s ≡ false → Latches (goes_on p r (at x) (whole_root p s)).next
   unfolding goes_on latch_count session_of Shaped
   whole-latches e =
       let h = R.height in
@@ -178,14 +146,14 @@ module _ (p : ℕ) (r : Request) (x : ℕ) (s : State) (S : Sound s) (xt : x ≤
       (omega (arith, N.none_own, bit-yes (latch_word p) (latch_word p) refl))
       (latched-here (latch_word p) x (Room t p) h u refl (whole_room p t h u e shape.1 refl N.not_lone))
 
-  abbrev old : Sons (suc R.height)
+  abbrev pub old : Sons (suc R.height)
   old = (R.node, top) ∷ []
 
-  abbrev new : Sons (suc R.height)
+  abbrev pub new : Sons (suc R.height)
   new = halves (latch_word p) x R.height R.node top
 
   -- The full root as the lone son of the new one.
-  halved-others : Swap p x R.height 0 (suc top) old new → Others p (suc R.height) R.node (suc (suc R.height)) (node 0 new)
+  pub halved-others : Swap p x R.height 0 (suc top) old new → Others p (suc R.height) R.node (suc (suc R.height)) (node 0 new)
   unfolding latch_count Shaped
   halved-others W =
       let h = R.height in
@@ -197,42 +165,3 @@ module _ (p : ℕ) (r : Request) (x : ℕ) (s : State) (S : Sound s) (xt : x ≤
             (under-latched (latch_word q) y F h R.node (λ w. omega (arith, w, m)) o) in
             latched-under (latch_word q) y F (suc h) (node 0 new) (omega arith) (swap-paths p x h 0 (suc top) old new (G, refl) (inl m, tt) W q y F n (inl (omega (arith, k), o)));
       }
-
-  halved-latches : root_splits p s ≡ true → Latches (goes_on p r (at x) (halved_root p x s)).next
-  unfolding goes_on latch_count session_of
-  halved-latches e =
-      let h = R.height in
-      let t = halved_root p x s in
-      let z = fills-is p h R.node e in
-      let W = halves-swap p x h 0 top R.node xt 1 shape z.1 (four-fits p z.0) in
-      arrive-latches p s t (latches-of S)
-      (record {
-        others = others-trans p (suc s.root.height) s.root.node (suc h) R.node (suc (suc h)) (node 0 new) N.others (halved-others W);
-        root_kept = no-root t;
-        hands = λ q n. refl;
-      })
-      seat (in_stage (at x) r) x refl
-      (omega (
-        arith,
-        bit-no 0 (latch_word p) (omega arith),
-        swap-own p x h 0 (suc top) old new (grouped-of h 1 0 top R.node (omega arith) shape, refl) (inl m, tt) W (omega (arith, N.none_own)),
-      ))
-      (latched-under (latch_word p) x (Room t p) (suc h) (node 0 new) (omega arith)
-      (path-map x (Latched (latch_word p) x (λ _ n. Fits p n) (suc h)) (Latched (latch_word p) x (Room t p) (suc h))
-      (latched-map (latch_word p) x (λ _ n. Fits p n) (Room t p) (fits-room t p) (suc h)) new W.there))
-
-pub enter-latches : (p : ℕ) (r : Request) (x : ℕ) (s : State) → Sound s → (session_of p s).hand ≡ some r → r.stage ≡ enter x → x ≤ top → p < length s.table → root_blockers p s ≡ []
-    → Latches (goes_on p r (at x) (cond (root_splits p s) (halved_root p x s) (whole_root p s))).next
-enter-latches p r x s S e w xt seat b =
-    let h = s.root.height in
-    let c : latch_count (latch_word p) (suc h) s.root.node ≡ 0 = (latches-of S).latches_match p ∙ ap hand_stands e ∙ ap stands w in
-    let f = free-words p (s.root.node.latch ∷ (root_left s).node.latch ∷ []) b in
-    let l = free-zero p h s.root.node c f.0 in
-    let N = left p h s.root.node S.shaped c l in
-    let m = free-zero p (root_left s).height (root_left s).node N.none_own f.1.0 in
-    go (root_splits p s) refl (halved-latches p r x s S xt seat l N m) (whole-latches p r x s S xt seat l N m)
-  where
-    go : (k : Bool) → root_splits p s ≡ k → (root_splits p s ≡ true → Latches (goes_on p r (at x) (halved_root p x s)).next)
-        → (root_splits p s ≡ false → Latches (goes_on p r (at x) (whole_root p s)).next) → Latches (goes_on p r (at x) (cond k (halved_root p x s) (whole_root p s))).next
-    go true q f g = f q
-    go false q f g = g q

@@ -13,7 +13,7 @@ use Rattle.machine.specs.Logic.{not-false}
 use Rattle.machine.specs.Holders.{holds, left_by, elem}
 use Rattle.machine.specs.State.{Desc, Request, Undo, Session, State, top, idle, session_of, with_free, with_table, on_session, on_tree, on_leaves, ok}
 use Rattle.machine.specs.Steps.{answer, pinned}
-use Rattle.machine.specs.Calls.{call, commit, abort, commit_checks, abort_checks, no_session, has_begun, in_hand, entry_left, leave, undo-all, end_hand, commits, aborts}
+use Rattle.machine.specs.Calls.{call, abort, abort_checks, no_session, has_begun, in_hand, entry_left, leave, undo-all, end_hand, commits, aborts}
 use Rattle.machine.specs.Calls as C
 use Rattle.machine.specs.Gaps.{reads-gap}
 use Rattle.machine.specs.View.{holders, group_in, seen, view, Same, same_refl, ended_same, frame-holders}
@@ -211,10 +211,6 @@ abort-sound p s S a b =
     (abort-from p us t.table t E.sound (begun-seat p t now) now E.empty (E.same.undos_same p))
 
 -- ---- the calls
-
-pub commit-keeps : (p : ℕ) (s : State) → Sound s → Sound (call (commit p) s).next
-unfolding call
-commit-keeps p s S = refusing-cases (λ o. Sound o.next) (commit_checks p s) s (answer ok (commits p s)) (λ n. S) (λ k. commit-sound p s S k.0 (not-false (has_begun p s) k.1.0) k.1.1.0)
 
 pub abort-keeps : (p : ℕ) (s : State) → Sound s → Sound (call (abort p) s).next
 unfolding call

@@ -1,6 +1,6 @@
 -- The order of begins over lists of calls: read off calls and answers alone, the begun sessions stand in a line, the one that began first in front; and by
 -- their numbers they stand in the same line.
-use Rattle.std.specs.Prelude.{◌≡◌, Bool, cond, not, ◌&&◌, ◌⊎◌, ◌≤◌, ◌<◌, ℕ, eqb, length}
+use Rattle.std.specs.Prelude.{◌≡◌, Bool, cond, not, ◌&&◌, ◌⊎◌, ◌<◌, ℕ, eqb}
 use Rattle.std.proofs.Math.Path.{refl, subst, ap}
 use Rattle.std.proofs.Common.{sym, ◌∙◌, arith}
 use Rattle.std.proofs.Math.Bool.{true, false}
@@ -9,22 +9,20 @@ use Rattle.std.proofs.Math.Logic.{inl, inr}
 use Rattle.std.proofs.Math.Option.{Option, none, some}
 use Rattle.std.proofs.Math.Decide.{ℕ_discrete}
 use Rattle.serial.specs.Serial.{true≢false, by_bool, In, Distinct}
-use Rattle.serial.specs.Calls.{Turn, Run, Told, nothing, tell, Knows}
+use Rattle.serial.specs.Calls.{Told}
 use Rattle.serial.specs.Calls as C
-use Rattle.serial.specs.Line.{those, out_of, line_ok, line_answer, in_line, line, Before}
+use Rattle.serial.specs.Line.{those, out_of, line_ok, line_answer, Before}
 use Rattle.machine.specs.Logic.{not-false, eqb_is, eqb-not}
 use Rattle.machine.specs.State.{Request, Session, State, Answer, ok, more, wait, done, refused, session_of, fresh}
-use Rattle.machine.specs.Steps.{answer}
-use Rattle.machine.specs.Calls.{call, steps, put_checks, step_checks, begin_checks, commit_checks, abort_checks, ask_checks, format_checks, records_for, accepted, begins, commits, aborts, asks, recovers, is_asked}
+use Rattle.machine.specs.Calls.{steps, commit_checks, abort_checks, commits, aborts, asks, recovers, is_asked}
 use Rattle.machine.specs.Sound.{Sound, Passes}
-use Rattle.machine.specs.Table.{tenure, as_asked, hand-tenure, hand-seat, session-kept, session-same, leave_own, leave-other}
-use Rattle.machine.specs.Checks.{refusing-cases, session-number, party-seat}
+use Rattle.machine.specs.Table.{tenure, as_asked, hand-seat, session-kept, session-same, leave_own, leave-other}
+use Rattle.machine.specs.Checks.{session-number, party-seat}
 use Rattle.machine.specs.Fresh.{fresh-session}
 use Rattle.machine.specs.Hands.{step-handed}
 use Rattle.machine.specs.Recover.{recovered, recovered-begun, recover-kept, abort-own, abort-other}
-use Rattle.machine.specs.Begins.{Begun, begins-begun}
-use Rattle.machine.specs.Demand.{Lent, call_of, Tells, Performs, machine}
-use Rattle.machine.specs.Demand3.{machine-laws, fresh_lent, fresh-known}
+use Rattle.machine.specs.Begins.{Begun}
+use Rattle.machine.specs.Demand.{Tells}
 
 -- ---- the line and the numbers
 
@@ -116,7 +114,7 @@ module _ (p : ℕ) (s t : State) (l : List ℕ) (L : Lined l s) (B : Begun p s t
   known q b (yes e) = inr (sym e)
   known q b (no n) = inl (L.stands q (sym (B.marks_same q n) ∙ b))
 
-  begun-line : Lined (l ++ p ∷ []) t
+  pub begun-line : Lined (l ++ p ∷ []) t
   begun-line = record {
     stands = λ q b. stood q (known q b (ℕ_discrete p q));
     begun = λ q i. marked q (in-longer q p l i);
@@ -193,7 +191,7 @@ module _ (f : ℕ → Bool) where
       go rest false e (inr h) = rest h
 
 -- Whether a session is begun, and its place in the order of begins.
-abbrev place : Session → Bool × ℕ
+abbrev pub place : Session → Bool × ℕ
 place x = (x.begun, x.order)
 
 -- Sessions end, and step out; the others, of whom f says so, stand as they stood.
@@ -234,7 +232,7 @@ ended-line p s t l L ended others = fewer-line (λ q. not (eqb p q)) s t l L
 
 -- ---- a line that stays
 
-kept_line : (s t : State) (l : List ℕ) → ((q : ℕ) → place (session_of q t) ≡ place (session_of q s)) → Lined l s → Lined l t
+pub kept_line : (s t : State) (l : List ℕ) → ((q : ℕ) → place (session_of q t) ≡ place (session_of q s)) → Lined l s → Lined l t
 kept_line s t l e L = record {
   stands = λ q b. L.stands q (sym (mark q) ∙ b);
   begun = λ q i. mark q ∙ L.begun q i;
@@ -251,21 +249,21 @@ kept_line s t l e L = record {
 -- ---- each call
 
 -- The line after an answer of the machine.
-abbrev line_of : Told → C.Call → Answer → List ℕ → List ℕ
+abbrev pub line_of : Told → C.Call → Answer → List ℕ → List ℕ
 line_of t c ok l = line_ok t c l
 line_of t c more l = l
 line_of t c (wait ps) l = l
 line_of t c (done ns) l = l
 line_of t c (refused n k) l = l
 
-tells-line : (t : Told) (c : C.Call) (a : Answer) (b : C.Answer) (l : List ℕ) → Tells a b → line_answer t c b l ≡ line_of t c a l
+pub tells-line : (t : Told) (c : C.Call) (a : Answer) (b : C.Answer) (l : List ℕ) → Tells a b → line_answer t c b l ≡ line_of t c a l
 tells-line t c ok b l e = ap (λ z. line_answer t c z l) e
 tells-line t c more b l e = ap (λ z. line_answer t c z l) e
 tells-line t c (wait ps) b l e = ap (λ z. line_answer t c z l) e.2
 tells-line t c (done ns) b l e = ap (λ z. line_answer t c z l) e
 tells-line t c (refused n k) b l e = ap (λ z. line_answer t c z l) e
 
-step_line : (t : Told) (p : ℕ) (v : List ℕ) (a : Answer) (l : List ℕ) → line_of t (C.step p v) a l ≡ l
+pub step_line : (t : Told) (p : ℕ) (v : List ℕ) (a : Answer) (l : List ℕ) → line_of t (C.step p v) a l ≡ l
 step_line t p v ok l = refl
 step_line t p v more l = refl
 step_line t p v (wait ps) l = refl
@@ -273,31 +271,31 @@ step_line t p v (done ns) l = refl
 step_line t p v (refused n k) l = refl
 
 -- A step keeps every session's mark and number.
-steps-tenure : (p n : ℕ) (s : State) (h : Option Request) → (session_of p s).hand ≡ h → (q : ℕ) → tenure (session_of q (steps p n h s).next) ≡ tenure (session_of q s)
+pub steps-tenure : (p n : ℕ) (s : State) (h : Option Request) → (session_of p s).hand ≡ h → (q : ℕ) → tenure (session_of q (steps p n h s).next) ≡ tenure (session_of q s)
 unfolding steps
 steps-tenure p n s none e q = refl
 steps-tenure p n s (some r) e q = (step-handed p r s (hand-seat p r s e) e n).tenures q
 
 -- Of a tenure the place.
-placed : {x y : Bool × ℕ × Bool} → x ≡ y → ◌≡◌ {A = Bool × ℕ} (x.0, x.1) (y.0, y.1)
+pub placed : {x y : Bool × ℕ × Bool} → x ≡ y → ◌≡◌ {A = Bool × ℕ} (x.0, x.1) (y.0, y.1)
 placed e = ap (λ z. (z.0, z.1)) e
 
 module _ (s : State) (S : Sound s) (l : List ℕ) (L : Lined l s) (t : Told) (asked : (q : ℕ) → is_asked q s ≡ t.asked q) where
-  commit_line : (p : ℕ) → Passes (commit_checks p s) → Lined (out_of p l) (commits p s)
+  pub commit_line : (p : ℕ) → Passes (commit_checks p s) → Lined (out_of p l) (commits p s)
   unfolding commits
   commit_line p k = ended-line p s (commits p s) l L
       (ap (λ x. x.begun) (leave_own p _ (party-seat p s S.seats (session-number p k.0).1)))
       (λ q n. leave-other p q _ n ∙ session-same s _ refl q)
 
-  abort-line : (p : ℕ) → Passes (abort_checks p s) → Lined (out_of p l) (aborts p s)
+  pub abort-line : (p : ℕ) → Passes (abort_checks p s) → Lined (out_of p l) (aborts p s)
   abort-line p k = ended-line p s (aborts p s) l L (ap (λ x. x.begun) (abort-own p s (party-seat p s S.seats (session-number p k.0).1))) (λ q n. abort-other p q s n)
 
-  ask-line : (p : ℕ) → Lined l (asks p s)
+  pub ask-line : (p : ℕ) → Lined l (asks p s)
   unfolding asks
   ask-line p = kept_line s (asks p s) l (session-kept place p as_asked s (λ x. refl)) L
 
   -- Those that were asked stay where they stood.
-  recover-line : Lined (those t.asked l) (recovers s)
+  pub recover-line : Lined (those t.asked l) (recovers s)
   recover-line = fewer-line t.asked s (recovers s) l L
       (λ q e. recovered-begun s (recovers s) (recovered s S) q ∙ ap (λ b. (session_of q s).begun && b) (asked q ∙ e) ∙ and-false (session_of q s).begun)
       (λ q e. ap place (recover-kept s S q (asked q ∙ e)))
@@ -305,39 +303,3 @@ module _ (s : State) (S : Sound s) (l : List ℕ) (L : Lined l s) (t : Told) (as
       and-false : (b : Bool) → (b && false) ≡ false
       and-false true = refl
       and-false false = refl
-
-  -- Every call, from every sound state.
-  call_line : (c : C.Call) (w : ℕ) → Lined (line_of t c (call (call_of c w) s).answer l) (call (call_of c w) s).next
-  unfolding call accepted
-  call_line (C.format m) w = refusing-cases (λ o. Lined (line_of t (C.format m) o.answer l) o.next) (format_checks m w) s (answer ok (fresh m (records_for m w))) (λ n. L)
-      (λ k. fresh-lined m (records_for m w))
-  call_line (C.begin p) w = refusing-cases (λ o. Lined (line_of t (C.begin p) o.answer l) o.next) (begin_checks p s) s (answer ok (begins p s)) (λ n. L)
-      (λ k. begun-line p s (begins p s) l L (begins-begun p s S k))
-  call_line (C.put p c e f g) w = refusing-cases (λ o. Lined (line_of t (C.put p c e f g) o.answer l) o.next) (put_checks p c e f g s) s (answer ok (accepted p c e f g s)) (λ n. L)
-      (λ k. kept_line s (accepted p c e f g s) l (λ q. placed (hand-tenure p q _ s)) L)
-  call_line (C.step p v) w = refusing-cases (λ o. Lined (line_of t (C.step p v) o.answer l) o.next) (step_checks p s) s (steps p (length v) (session_of p s).hand s) (λ n. L)
-      (λ k. let o = steps p (length v) (session_of p s).hand s in
-      subst (λ l. Lined l o.next) (sym (step_line t p v o.answer l)) (kept_line s o.next l (λ q. placed (steps-tenure p (length v) s (session_of p s).hand refl q)) L))
-  call_line (C.commit p) w = refusing-cases (λ o. Lined (line_of t (C.commit p) o.answer l) o.next) (commit_checks p s) s (answer ok (commits p s)) (λ n. L) (commit_line p)
-  call_line (C.abort p) w = refusing-cases (λ o. Lined (line_of t (C.abort p) o.answer l) o.next) (abort_checks p s) s (answer ok (aborts p s)) (λ n. L) (abort-line p)
-  call_line (C.ask p) w = refusing-cases (λ o. Lined (line_of t (C.ask p) o.answer l) o.next) (ask_checks p s) s (answer ok (asks p s)) (λ n. L) (λ k. ask-line p)
-  call_line C.recover w = recover-line
-
--- ---- the theorem
-
-turn-line : (k : Turn) (x y : Lent) (l : List ℕ) (t : Told) → Performs x k y → Knows machine t x → Lined l x.state → Lined (in_line t l k) y.state
-turn-line k x y l t d w L =
-    let o = call (call_of k.call x.words) x.state in
-    subst (Lined (in_line t l k)) (sym d.state_is)
-    (subst (λ l. Lined l o.next) (sym (tells-line t k.call o.answer k.answer l d.tells)) (call_line x.state w.sound l L t w.asked_told k.call x.words))
-
--- Any list of turns from a sound state whose begun sessions stand in a line.
-pub line-run : {x y : Lent} {ks : List Turn} → Run machine x ks y → (t : Told) → Knows machine t x → (l : List ℕ) → Lined l x.state → Lined (line t l ks) y.state
-line-run C.stop t w l L = L
-line-run (C.next {x} {y} {z} {k} {ks} d r) t w l L = line-run r (tell k t) (machine-laws.knows k x y t d w) (in_line t l k) (turn-line k x y l t d w L)
-
--- Any list of turns from a fresh store: a session is begun exactly if its last accepted begin was followed by no accepted commit or abort of it, recover while
--- it was not asked, or format, and of two begun ones the one whose begin was accepted first has the lower number.
-pub fresh-line-run : (entries records words : ℕ) → 1 ≤ entries → entries ≤ 1024 → 8 ≤ records → records ≤ 4096 → (ks : List Turn) (y : Lent)
-    → Run machine (fresh_lent entries records words) ks y → Lined (line nothing [] ks) y.state
-fresh-line-run m r words a b c d ks y run = line-run run nothing (fresh-known m r words a b c d) [] (fresh-lined m r)

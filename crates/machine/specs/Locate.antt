@@ -1,35 +1,28 @@
 -- The steps of a locate that take a descriptor, with or without its gap, are events of the lock machine.
-use Rattle.std.specs.Prelude.{◌≡◌, Bool, true, false, List, [], ◌∷◌, ◌++◌, ◌⊎◌, suc, ◌*◌, ◌≤◌, ◌<◌, ℕ, leb, ltb, length}
+use Rattle.std.specs.Prelude.{◌≡◌, true, List, [], ◌∷◌, ◌++◌, ◌⊎◌, suc, ◌≤◌, ◌<◌, ℕ}
 use Rattle.std.proofs.Math.Path.{refl, ap}
-use Rattle.std.proofs.Common.{sym, ap₂, ◌∙◌, subst, arith}
+use Rattle.std.proofs.Common.{sym, ap₂, ◌∙◌, subst}
 use Rattle.std.proofs.Math.Bool.{cond}
 use Rattle.std.proofs.Math.Logic.{inl, inr}
 use Rattle.std.proofs.Math.Decide.{ℕ_discrete}
-use Rattle.serial.specs.Serial.{true≢false}
-use Rattle.serial.specs.Rising.{Tri, less, equal, greater, only}
-use Rattle.serial.specs.Model.{Item, ans, located, ℕ-tri}
+use Rattle.serial.specs.Rising.{Tri, less, equal, greater}
+use Rattle.serial.specs.Model.{Item, ℕ-tri}
 use Rattle.serial.specs.Model as R
 use Rattle.serial.specs.Locks.{Kind, Mode, weak, strong}
 use Rattle.serial.specs.Locks as L
-use Rattle.serial.specs.LockMachine.{Locked}
-use Rattle.machine.specs.Logic.{leb-not}
 use Rattle.machine.specs.Holders.{width, holds, held_by, elem}
-use Rattle.machine.specs.State.{Desc, Stage, take, Request, State, done, refused, Outcome, session_of, stored, on_tree, on_desc, hold_desc, same}
-use Rattle.machine.specs.Steps.{rule, group_blockers, ended, goes_on, memberships, last_take, take_desc, passed_state, pairs_of, answer}
+use Rattle.machine.specs.State.{Desc, State, session_of, on_tree, on_desc, hold_desc, same}
+use Rattle.machine.specs.Steps.{group_blockers, passed_state, pairs_of}
 use Rattle.machine.specs.Gaps.{by_tri, locators, updaters}
-use Rattle.machine.specs.View.{seen, locate_word, update_word, items, holders, view, same_refl, same-unseen, ended_same, entry-same, entry-holders}
+use Rattle.machine.specs.View.{seen, locate_word, update_word, items, holders, entry-same, entry-holders}
 use Rattle.machine.specs.Sound.{gap_word}
-use Rattle.machine.specs.Model.{Listed, pairs, model, memberships-are}
-use Rattle.machine.specs.Bits.{held_same, held-other, held_more, holds-none}
-use Rattle.machine.specs.Descents.{goes_same}
+use Rattle.machine.specs.Model.{Listed, pairs}
+use Rattle.machine.specs.Bits.{held_same, held-other, held_more}
 use Rattle.machine.specs.Groups.{words, Rises}
 use Rattle.machine.specs.Housekeeping.{lvs}
-use Rattle.machine.specs.Blocking.{group-free}
-use Rattle.machine.specs.Keys.{Kept, was_shown, was-locate, was-update, put_shown, put-locate-here, put-locate-below, put-update-kept, put-group-kept, put-rises, put-listed-kept, above-locate, above-update}
+use Rattle.machine.specs.Keys.{Kept, was_shown, was-locate, put_shown, put-locate-here, put-locate-below, put-update-kept, put-group-kept, put-rises, put-listed-kept, above-locate, above-update}
 use Rattle.machine.specs.Looks.{put-gap}
-use Rattle.machine.specs.Agreement.{grown-agree}
 use Rattle.machine.specs.Entries.{Fit}
-use Rattle.machine.specs.Events.{Does, unseen, locks, finishes, guard-does, asked, locked-then, finished-quiet}
 
 -- A word changed for session p alone, and never against it.
 pub record Adds (p : ℕ) (f : ℕ → ℕ) : Type 0 where
@@ -67,7 +60,7 @@ module _ (p k : ℕ) (s : State) (K : Kept k s) (γ : ℕ → ℕ) (Γ : Adds p 
   abbrev pub located_state : State
   located_state = on_desc k f s
 
-  abbrev Z : ℕ → Type 0
+  abbrev pub Z : ℕ → Type 0
   Z z = (k ≡ z) ⊎ ((k < z) × InGap K.B z)
 
   record Word (z : ℕ) : Type 0 where
@@ -104,7 +97,7 @@ module _ (p k : ℕ) (s : State) (K : Kept k s) (γ : ℕ → ℕ) (Γ : Adds p 
   t-update : (z : ℕ) → update_word z (seen located_state) ≡ update_word z (seen s)
   t-update = put-update-kept k s K f refl refl
 
-  t-items : (x : Item) → items located_state x ≡ items s x
+  pub t-items : (x : Item) → items located_state x ≡ items s x
   unfolding on_tree
   t-items (R.value z) = ap (λ x. x.value) (entry-same s located_state refl z)
   t-items (R.cell j e) = ap (λ g. cond (elem e g) 1 0) (put-group-kept k s K f refl refl j)
@@ -121,7 +114,7 @@ module _ (p k : ℕ) (s : State) (K : Kept k s) (γ : ℕ → ℕ) (Γ : Adds p 
   loc-old L.group weak q z h = let W = word_at z in ap (λ w. holds w q) W.is ∙ W.adds.more q (locate_word z (seen s)) h
   loc-old L.group strong q z h = ap (λ w. holds w q) (t-update z) ∙ h
 
-  loc-new : (l : Kind) (n : Mode) (q z : ℕ) → holders located_state l n q z ≡ true → (holders s l n q z ≡ true) ⊎ ((p ≡ q) × (L.group ≡ l) × (weak ≡ n) × Z z)
+  pub loc-new : (l : Kind) (n : Mode) (q z : ℕ) → holders located_state l n q z ≡ true → (holders s l n q z ≡ true) ⊎ ((p ≡ q) × (L.group ≡ l) × (weak ≡ n) × Z z)
   unfolding on_tree
   loc-new L.entry n q z h = inl (sym (entry-holders s located_state refl n q z) ∙ h)
   loc-new L.group strong q z h = inl (sym (ap (λ w. holds w q) (t-update z)) ∙ h)
@@ -136,27 +129,8 @@ module _ (p k : ℕ) (s : State) (K : Kept k s) (γ : ℕ → ℕ) (Γ : Adds p 
       at W (no e) = inl (sym (loc-others L.group weak q z e) ∙ h)
 
   module _ (F : Fit s) (free : group_blockers weak p K.d ≡ []) where
-    gap-update : (z : ℕ) → k < z → InGap K.B z → update_word z (seen s) ≡ 0
+    pub gap-update : (z : ℕ) → k < z → InGap K.B z → update_word z (seen s) ≡ 0
     gap-update z h G = above-update (was_shown k s K) z h ∙ G.1
-
-    loc-clear : (n : Mode) (q z : ℕ) → Z z → ¬ (p ≡ q) → holders s L.group n q z ≡ true → rule L.group n weak ≡ true
-    loc-clear weak q z y ne h = refl
-    loc-clear strong q z (inl e) ne h = let b = F.few L.group strong q z h in
-        (group-free weak p K.d free q b.0 b.1 ne).1 (ap (λ w. holds w q) (sym (was-update k s K)) ∙ subst (λ w. holds (update_word w (seen s)) q ≡ true) (sym e) h)
-    loc-clear strong q z (inr y) ne h = absurd (true≢false h (ap (λ w. holds w q) (gap-update z y.0 y.1) ∙ holds-none q))
-
-    -- It is a lock of the lock machine.
-    pub locate-locked : (session_of p s).begun ≡ true → Locked rule p (view s) (view located_state)
-    unfolding on_tree session_of
-    locate-locked b = record {
-      was = b;
-      more = λ l n z. loc-old l n p z;
-      log_same = refl;
-      others = λ t n. record { holds_kept = λ l o z. loc-others l o t z n; log_kept = refl };
-      begun_same = λ t. refl;
-      db_kept = t-items;
-      agree = grown-agree (holders s) (holders located_state) p L.group weak Z (record { old = loc-old; new = loc-new; clear = loc-clear }) F.agree;
-    }
 
 -- ---- the step
 
@@ -170,63 +144,20 @@ pub gap-taken : (m : ℕ) (s : State) (d : Desc) → Kept d.key s → holds (gap
 gap-taken m s d K = ap (λ w. holds w (suc m)) (put-gap d.key s K (hold_desc (held_by (suc m)) same (held_by (suc m))) refl) ∙ held_same m K.d.gap
 
 module _ (m : ℕ) (s : State) (F : Fit s) (b : (session_of (suc m) s).begun ≡ true) (le : suc m ≤ width) (d : Desc) (K : Kept d.key s) (q : K.d ≡ d) where
-  abbrev p : ℕ
+  abbrev pub p : ℕ
   p = suc m
 
-  abbrev lt : State
+  abbrev pub lt : State
   lt = located_state p d.key s K same (adds_same p)
 
-  lt-pairs : pairs (lvs lt) ≡ pairs (lvs s)
+  pub lt-pairs : pairs (lvs lt) ≡ pairs (lvs s)
   lt-pairs = ap pairs (K.put (hold_desc (held_by p) same same)) ∙ pairs-kept K.d (hold_desc (held_by p) same same K.d) refl refl K.A K.B ∙ sym (ap pairs K.was)
 
-  lt-rises : Rises 0 4294967296 (lvs lt)
+  pub lt-rises : Rises 0 4294967296 (lvs lt)
   lt-rises = put-rises d.key s K (hold_desc (held_by p) same same) refl F.rises
 
-  lt-listed : Listed (lvs lt)
+  pub lt-listed : Listed (lvs lt)
   lt-listed = put-listed-kept d.key s K (hold_desc (held_by p) same same) refl refl F.listed
 
-  free-at : group_blockers weak p d ≡ [] → group_blockers weak p K.d ≡ []
+  pub free-at : group_blockers weak p d ≡ [] → group_blockers weak p K.d ≡ []
   free-at e = ap (group_blockers weak p) q ∙ e
-
-  module _ (n c e f g : ℕ) (st : Stage) (upto : d.key ≤ g) (needs : (z : ℕ) → f ≤ z → z < d.key → holders s L.group weak p z ≡ true) where
-    abbrev r : Request
-    r = asked c e f g st
-
-    pub take-does : Does p (R.locate f g) s (take_desc n p r d s)
-    unfolding take_desc last_take goes_on stored
-    take-does = guard-does p (R.locate f g) (group_blockers weak p d) 0 r s (cond (ltb d.key g) pass last) λ free. go free (ltb d.key g) refl
-      where
-        passed : State
-        passed = on_desc d.key (hold_desc (held_by p) same (held_by p)) s
-
-        l : List (ℕ × ℕ)
-        l = memberships f g (lvs s)
-
-        pass : Outcome
-        pass = goes_on p r (take (suc d.key)) passed
-
-        last : Outcome
-        last = cond (leb (2 * length l) n) (record { answer = done (length l ∷ []); next = ended p r lt; written = l }) (answer (refused 12 (length l)) (ended p r s))
-
-        found : l ≡ located f g (model lt)
-        found = memberships-are f g (lvs s) ∙ ap (only R.by_key (R.in_range f g)) (sym lt-pairs)
-
-        all_held : d.key ≡ g → (z : ℕ) → f ≤ z → z ≤ g → holders lt L.group weak p z ≡ true
-        all_held w z lo hi = at (ℕ_discrete d.key z)
-          where
-            at : Dec (d.key ≡ z) → holders lt L.group weak p z ≡ true
-            at (yes y) = subst (λ i. holds (locate_word i (seen lt)) p ≡ true) y (ap (λ v. holds v p) (here-word p d.key s K same (adds_same p)) ∙ held_same m (locate_word d.key (seen s)))
-            at (no y) = loc-old p d.key s K same (adds_same p) L.group weak p z (needs z lo (omega (arith, y, w, hi)))
-
-        ends : group_blockers weak p d ≡ [] → d.key ≡ g → (o : Bool) → leb (2 * length l) n ≡ o
-            → Does p (R.locate f g) s (cond o (record { answer = done (length l ∷ []); next = ended p r lt; written = l }) (answer (refused 12 (length l)) (ended p r s)))
-        ends free w false y = unseen refl (same-unseen s (ended p r s) (ended_same p r s))
-        ends free w true y = finishes lt (ans (R.locate f g) (model lt)) (ap (λ v. done (length v ∷ [])) found) (ap R.two_words found)
-            (locate-locked p d.key s K same (adds_same p) F (free-at free) b)
-            (finished-quiet p (R.locate f g) lt (ended p r lt) (λ v. refl) (λ v. refl) lt-rises lt-listed (ended_same p r lt)
-            ((locate-locked p d.key s K same (adds_same p) F (free-at free) b).begun_same p ∙ b) (all_held w))
-
-        go : group_blockers weak p d ≡ [] → (o : Bool) → ltb d.key g ≡ o → Does p (R.locate f g) s (cond o pass last)
-        go free true y = locks refl (locked-then p s passed pass.next (locate-locked p d.key s K (held_by p) (adds-held p) F (free-at free) b)
-            (goes_same p r (take (suc d.key)) passed passed (same_refl passed)))
-        go free false y = let w = leb-not (suc d.key) g y in ends free (omega arith) (leb (2 * length l) n) refl

@@ -1,26 +1,23 @@
 -- Every call, refused or accepted, moves the lock machine as its answer says. What is asked of a state is one record, Safe.
-use Rattle.std.specs.Prelude.{◌≡◌, refl, Bool, true, false, [], ◌∷◌, map, zero, suc, ◌≤◌, ◌<◌, ℕ, length}
+use Rattle.std.specs.Prelude.{◌≡◌, refl, Bool, true, false, map, zero, suc, ◌≤◌, ◌<◌, ℕ, length}
 use Rattle.std.proofs.Common.{ap, arith}
-use Rattle.std.proofs.Math.Option.{Option, none, some}
+use Rattle.std.proofs.Math.Option.{none, some}
 use Rattle.std.proofs.Math.Dec.{eqb-suc-zero}
 use Rattle.serial.specs.LockMachine.{Opened, Committed, Aborted, Unseen}
 use Rattle.machine.specs.Logic.{not-false, leb_no}
 use Rattle.machine.specs.Holders.{width}
-use Rattle.machine.specs.State.{start, enter, Request, State, Answer, more, wait, done, refused, Outcome, top, desc_of, session_of, on_session, fresh, at, ok, Session}
-use Rattle.machine.specs.Steps.{finished, next_step, first_step, enter_step, at_step, answer}
-use Rattle.machine.specs.Calls.{Call, format, begin, put, step, commit, abort, ask, recover, call, refusing, has_begun, put_checks, step_checks, begin_checks, commit_checks, abort_checks, ask_checks, format_checks, records_for, accepted, begins, commits, aborts, asks, recovers, steps, end_hand, first_stage}
+use Rattle.machine.specs.State.{start, enter, Request, State, Answer, more, wait, done, refused, Outcome, top, desc_of, session_of, on_session, fresh, at, ok}
+use Rattle.machine.specs.Steps.{answer}
+use Rattle.machine.specs.Calls.{Call, format, begin, put, step, commit, abort, ask, recover, call, refusing, has_begun, put_checks, begin_checks, abort_checks, ask_checks, format_checks, records_for, accepted, begins, aborts, asks, recovers, end_hand, first_stage}
 use Rattle.machine.specs.View.{view, same_refl, same-unseen, set-hand-same, log_entry, frame-holders, frame-items}
 use Rattle.machine.specs.Table.{as_asked, session-kept}
 use Rattle.machine.specs.Recover.{Recovered}
-use Rattle.machine.specs.Descents.{finished-same}
-use Rattle.machine.specs.Housekeeping.{like-unseen, at-step-like, enter-step-like}
-use Rattle.machine.specs.Checks.{refusing-cases, party-number, session-number, party-seat, session-begun, session-unbegun}
+use Rattle.machine.specs.Checks.{refusing-cases, session-number, party-seat, session-begun, session-unbegun}
 use Rattle.machine.specs.Entries.{Fit}
 use Rattle.machine.specs.Events.{Does, unfinished, asked}
-use Rattle.machine.specs.Ends.{begin-opened, commit-committed}
+use Rattle.machine.specs.Ends.{begin-opened}
 use Rattle.machine.specs.Abort.{Chain, abort-aborted}
-use Rattle.machine.specs.Session.{Ready, req_of, session-step}
-use Rattle.machine.specs.Waits.{settled-step}
+use Rattle.machine.specs.Session.{Ready, req_of}
 
 -- Where the housekeeper's tidy stands: its choice, if any, is stored.
 pub data Tidying (s : State) : Request → Type 0 where
@@ -70,7 +67,7 @@ pub data Moves (s : State) (o : Outcome) : Call → Type 0 where
 
 -- ---- refusals
 
-refused-quiet : (c : Call) (s : State) (n : ℕ) → Moves s (answer (refused n 0) s) c
+pub refused-quiet : (c : Call) (s : State) (n : ℕ) → Moves s (answer (refused n 0) s) c
 refused-quiet c s n = quiet c (told c) (same-unseen s s (same_refl s))
   where
     told : (d : Call) → silent d (refused n 0) ≡ true
@@ -85,18 +82,12 @@ refused-quiet c s n = quiet c (told c) (same-unseen s s (same_refl s))
 
 -- ---- the calls
 
-begin-moves : (p : ℕ) (s : State) → Safe s → Moves s (call (begin p) s) (begin p)
+pub begin-moves : (p : ℕ) (s : State) → Safe s → Moves s (call (begin p) s) (begin p)
 unfolding call
 begin-moves p s S = refusing-cases (λ o. Moves s o (begin p)) (begin_checks p s) s (answer ok (begins p s)) (refused-quiet (begin p) s)
     λ k. began p refl (begin-opened p s (party-seat p s S.fit.seats (session-number p k.0).1) (session-unbegun p s k.1.0))
 
-commit-moves : (p : ℕ) (s : State) → Safe s → Moves s (call (commit p) s) (commit p)
-unfolding call
-commit-moves p s S = refusing-cases (λ o. Moves s o (commit p)) (commit_checks p s) s (answer ok (commits p s)) (refused-quiet (commit p) s) λ k.
-    let n = session-number p k.0 in
-    committed p refl (commit-committed p s (party-seat p s S.fit.seats n.1) (session-begun p s n.0 (not-false (has_begun p s) k.1.0)))
-
-abort-moves : (p : ℕ) (s : State) → Safe s → Moves s (call (abort p) s) (abort p)
+pub abort-moves : (p : ℕ) (s : State) → Safe s → Moves s (call (abort p) s) (abort p)
 unfolding call
 abort-moves p s S = refusing-cases (λ o. Moves s o (abort p)) (abort_checks p s) s (answer ok (aborts p s)) (refused-quiet (abort p) s) λ k.
     go p (session-number p k.0) (not-false (has_begun p s) k.1.0)
@@ -115,11 +106,11 @@ ask-unseen p s =
       db_kept = frame-items s (asks p s) refl refl;
     }
 
-ask-moves : (p : ℕ) (s : State) → Safe s → Moves s (call (ask p) s) (ask p)
+pub ask-moves : (p : ℕ) (s : State) → Safe s → Moves s (call (ask p) s) (ask p)
 unfolding call
 ask-moves p s S = refusing-cases (λ o. Moves s o (ask p)) (ask_checks p s) s (answer ok (asks p s)) (refused-quiet (ask p) s) λ k. quiet (ask p) refl (ask-unseen p s)
 
-recover-moves : (s : State) → Safe s → Moves s (call recover s) recover
+pub recover-moves : (s : State) → Safe s → Moves s (call recover s) recover
 unfolding call
 recover-moves s S = recovered refl S.recovery
 
@@ -133,42 +124,11 @@ pub abort-accepted : (m : ℕ) (s : State) → suc m ≤ width → (session_of (
 unfolding call refusing
 abort-accepted m s h e = rw (eqb-suc-zero m, leb_no (suc width) (suc m) (omega (arith, h)), e) refl
 
-put-moves : (p c e f g : ℕ) (s : State) → Moves s (call (put p c e f g) s) (put p c e f g)
+pub put-moves : (p c e f g : ℕ) (s : State) → Moves s (call (put p c e f g) s) (put p c e f g)
 unfolding call accepted
 put-moves p c e f g s = refusing-cases (λ o. Moves s o (put p c e f g)) (put_checks p c e f g s) s (answer ok (accepted p c e f g s)) (refused-quiet (put p c e f g) s) λ k.
     quiet (put p c e f g) refl (same-unseen s (accepted p c e f g s) (set-hand-same p (some (record { code = c; entry = e; first = f; second = g; stage = first_stage c f s })) s))
 
-tidy-unseen : (n : ℕ) (s : State) → Fit s → (r : Request) → Tidying s r → Unseen (view s) (view (next_step n 0 r s r.stage).next)
-unfolding next_step first_step
-tidy-unseen n s F r (nothing_above e f g) = same-unseen s (finished 0 (asked 6 e f g start) (0 ∷ 0 ∷ []) s).next (finished-same 0 (asked 6 e f g start) (0 ∷ 0 ∷ []) s s (same_refl s))
-tidy-unseen n s F r (entering e f g x) = like-unseen s (enter_step 0 (asked 6 e f g (enter x)) x s).next (enter-step-like 0 (asked 6 e f g (enter x)) x s)
-tidy-unseen n s F r (descending e f g x h q) = like-unseen s (at_step 0 (asked 6 e f g (at x)) x s).next (at-step-like 0 (asked 6 e f g (at x)) x s F.ordered h (λ z. q))
-
-step-moves : (p n : ℕ) (s : State) → Safe s → Moves s (call (step p n) s) (step p n)
-unfolding call steps
-step-moves p n s S = refusing-cases (λ o. Moves s o (step p n)) (step_checks p s) s (steps p n (session_of p s).hand s) (refused-quiet (step p n) s) λ k.
-    go p (party-number p k.0) (not-false (has_begun p s) k.1.0) (session_of p s).hand refl
-  where
-    go : (q : ℕ) → q ≤ width → has_begun q s ≡ true → (h : Option Request) → (session_of q s).hand ≡ h → Moves s (steps q n h s) (step q n)
-    go q le b none e = quiet (step q n) refl (same-unseen s s (same_refl s))
-    go zero le b (some r) e =
-        settled-step (λ o. Moves s o (step 0 n)) n 0 r s (tidied n (tidy-unseen n s S.fit r (S.tidying r e))) (λ c _. quiet (step 0 n) refl (same-unseen s s (same_refl s)))
-    go (suc m) le b (some r) e =
-        let w = session-begun (suc m) s (λ z. omega (arith, z)) b in
-        settled-step (λ o. Moves s o (step (suc m) n)) n (suc m) r s (stepped m n r e (session-step n m s S.fit w le r (S.ready m r w le e)))
-        (λ c _. quiet (step (suc m) n) refl (same-unseen s s (same_refl s)))
-
-format-moves : (m words : ℕ) (s : State) → Moves s (call (format m words) s) (format m words)
+pub format-moves : (m words : ℕ) (s : State) → Moves s (call (format m words) s) (format m words)
 unfolding call
 format-moves m words s = refusing-cases (λ o. Moves s o (format m words)) (format_checks m words) s (answer ok (fresh m (records_for m words))) (refused-quiet (format m words) s) λ k. formatted m words refl refl
-
--- Every call.
-pub moves : (c : Call) (s : State) → Safe s → Moves s (call c s) c
-moves (format m words) s S = format-moves m words s
-moves (begin p) s S = begin-moves p s S
-moves (put p c e f g) s S = put-moves p c e f g s
-moves (step p n) s S = step-moves p n s S
-moves (commit p) s S = commit-moves p s S
-moves (abort p) s S = abort-moves p s S
-moves (ask p) s S = ask-moves p s S
-moves recover s S = recover-moves s S

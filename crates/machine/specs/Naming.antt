@@ -16,13 +16,13 @@ use Rattle.machine.specs.Holders.{latch_word, elem, latch_blockers}
 use Rattle.machine.specs.Tree.{Seg, Below}
 use Rattle.machine.specs.State.{Tree, Stage, start, enter, change, take, Request, State, wait, Outcome, session_of, at}
 use Rattle.machine.specs.Descent.{Sons, pick_pair, sons_of, lone_son, drop_lone}
-use Rattle.machine.specs.Steps.{taking_part, son-at, is_empty, next_step, oldest, named, settled}
+use Rattle.machine.specs.Steps.{son-at, is_empty, oldest}
 use Rattle.machine.specs.Sound.{Sound, Shaped}
 use Rattle.machine.specs.InTheWay.{LongLock, Son, LeftOf, RightOf, ShortLock, InTheWay, RootWords, Mends, LevelWords, Latching, Free, AllFree, FirstOf, Named}
 use Rattle.machine.specs.Blocking.{latch-blocks, two-are, words_of, son-hit, left-pair, right-pair, snoc_of}
 use Rattle.machine.specs.Looks.{shaped-le}
-use Rattle.machine.specs.Waits.{WaitsFor, waiting, step_blockers, step_waits, elem-first, elem-later, named-member, only_named, named_of, whom, settled-waits, settled-whom}
-use Rattle.machine.specs.Conflicts.{blockers-exactly, sons-follow, not_lone, level-guard}
+use Rattle.machine.specs.Waits.{elem-first, elem-later, whom}
+use Rattle.machine.specs.Conflicts.{sons-follow, not_lone}
 
 -- ---- of long locks: the session that began first
 
@@ -34,11 +34,11 @@ alone q b i = go (eqb q b) refl i
     go false j k = absurd (true≢false k refl)
 
 module _ (s : State) where
-  abbrev place : ℕ → ℕ
+  abbrev pub place : ℕ → ℕ
   place q = (session_of q s).order
 
   -- Nobody has a lower number.
-  least : (b : ℕ) (bs : List ℕ) (q : ℕ) → elem q (b ∷ bs) ≡ true → place (oldest s b bs) ≤ place q
+  pub least : (b : ℕ) (bs : List ℕ) (q : ℕ) → elem q (b ∷ bs) ≡ true → place (oldest s b bs) ≤ place q
   unfolding oldest
   least b [] q i = let z = ap place (alone q b i) in omega (arith, z)
   least b (c ∷ cs) q i = go (ltb (place c) (place b)) refl (least (cond (ltb (place c) (place b)) c b) cs) (eqb q b) refl (eqb q c) refl i
@@ -87,7 +87,7 @@ first_two p v w b bs e = go (eqb v 0) refl (eqb v (latch_word p)) refl (elem (v 
         first (omega (arith, n, u, o))
     go false i false j false k m = let n = eqb-not v 0 i in let u = head (v - 1) l m in first (omega (arith, n, u))
 
-first_short : (p : ℕ) (ws : List ℕ) → length ws ≤ 2 → (b : ℕ) (bs : List ℕ) → latch_blockers p ws ≡ b ∷ bs → FirstOf p ws b
+pub first_short : (p : ℕ) (ws : List ℕ) → length ws ≤ 2 → (b : ℕ) (bs : List ℕ) → latch_blockers p ws ≡ b ∷ bs → FirstOf p ws b
 unfolding latch_blockers
 first_short p [] n b bs e = absurd (true≢false {b = true} refl (ap is_empty e))
 first_short p (v ∷ []) n b bs e = first_one p v b bs e
@@ -111,7 +111,7 @@ first-same p v b bs e = ([], [], ap (λ w. w ∷ []) (twice (two-are (latch_word
     twice (inl i) = i
     twice (inr i) = i
 
-root-first : (p h : ℕ) (t : Tree (suc h)) (ws : List ℕ) → RootWords h t ws → (b : ℕ) (bs : List ℕ) → latch_blockers p (t.latch ∷ (drop_lone h t).node.latch ∷ []) ≡ b ∷ bs → FirstOf p ws b
+pub root-first : (p h : ℕ) (t : Tree (suc h)) (ws : List ℕ) → RootWords h t ws → (b : ℕ) (bs : List ℕ) → latch_blockers p (t.latch ∷ (drop_lone h t).node.latch ∷ []) ≡ b ∷ bs → FirstOf p ws b
 root-first p zero t ws i b bs e = subst (λ l. FirstOf p l b) (sym i) (first-same p t.latch b bs e)
 root-first p (suc h) t ws (inl i) b bs e = subst (λ l. FirstOf p l b) (sym i.3) (first_two p t.latch i.0.latch b bs (rw i.2 at e))
 root-first p (suc h) t ws (inr i) b bs e =
@@ -119,23 +119,23 @@ root-first p (suc h) t ws (inr i) b bs e =
 
 -- One level down: the guard looks at these words, in this order.
 module _ (p x h lo hi : ℕ) (es : Sons (suc h)) (G : Seg (Shaped (suc h) 3) lo hi es) where
-  abbrev u : Tree (suc h)
+  abbrev pub u : Tree (suc h)
   u = son-at x h es
 
-  mends-is : (S : Son x es) → Mends p x h S → (eqb p 0 && eqb (sons_of u) 3) ≡ true
+  pub mends-is : (S : Son x es) → Mends p x h S → (eqb p 0 && eqb (sons_of u) 3) ≡ true
   mends-is S m = rw (eqb_yes p 0 m.0, eqb_yes (sons_of u) 3 (ap (λ t. sons_of t) (son-hit x h es S) ∙ m.1)) refl
 
-  mends-not : (S : Son x es) → ¬ Mends p x h S → (eqb p 0 && eqb (sons_of u) 3) ≡ false
+  pub mends-not : (S : Son x es) → ¬ Mends p x h S → (eqb p 0 && eqb (sons_of u) 3) ≡ false
   mends-not S n = go (eqb p 0 && eqb (sons_of u) 3) refl
     where
       go : (c : Bool) → (eqb p 0 && eqb (sons_of u) 3) ≡ c → c ≡ false
       go true i = let z = both (eqb p 0) (eqb (sons_of u) 3) i in absurd (n (eqb_is p 0 z.0, ap (λ t. sons_of t) (sym (son-hit x h es S)) ∙ eqb_is (sons_of u) 3 z.1))
       go false i = refl
 
-  abbrev pair_words : Sons (suc h) → List ℕ
+  abbrev pub pair_words : Sons (suc h) → List ℕ
   pair_words l = pick_pair x [] (words_of h) l
 
-  pair_is : (S : Son x es) (t : Tree (suc h)) (ws : List ℕ)
+  pub pair_is : (S : Son x es) (t : Tree (suc h)) (ws : List ℕ)
       → (LeftOf S t × (ws ≡ t.latch ∷ S.son.latch ∷ [])) ⊎ (RightOf S t × (ws ≡ S.son.latch ∷ t.latch ∷ [])) → pair_words es ≡ ws
   pair_is S t ws (inl (c, i)) =
       ap pair_words (S.among ∙ ap (λ l. l ++ (S.son, S.bound) ∷ S.behind) c.2)
@@ -145,21 +145,6 @@ module _ (p x h lo hi : ℕ) (es : Sons (suc h)) (G : Seg (Shaped (suc h) 3) lo 
       let f : es ≡ d ∷ (t, c.1.0) ∷ c.1.1 = S.among ∙ ap (λ l. l ++ d ∷ S.behind) c.0 ∙ ap (λ l. d ∷ l) c.1.2 in
       ap pair_words f
       ∙ right-pair (λ h. Shaped (suc h) 3) (λ h. shaped-le (suc h) 3) x h lo hi d (t, c.1.0) c.1.1 (subst (Seg (Shaped (suc h) 3) lo hi) f G) S.reached ∙ sym i
-
-  words-taken : (ws : List ℕ) → LevelWords p x h es ws → (taking_part p x h u es ≡ ws) × (length ws ≤ 2)
-  unfolding taking_part
-  words-taken ws (S, inl (n, i)) = (
-    ap (λ c. cond c (pair_words es) (u.latch ∷ [])) (mends-not S n) ∙ ap (λ t. t.latch ∷ []) (son-hit x h es S) ∙ sym i,
-    let z = ap length i in omega (arith, z),
-  )
-  words-taken ws (S, inr (m, (t, k))) = (ap (λ c. cond c (pair_words es) (u.latch ∷ [])) (mends-is S m) ∙ pair_is S t ws k, two k)
-    where
-      two : (LeftOf S t × (ws ≡ t.latch ∷ S.son.latch ∷ [])) ⊎ (RightOf S t × (ws ≡ S.son.latch ∷ t.latch ∷ [])) → length ws ≤ 2
-      two (inl (c, i)) = let z = ap length i in omega (arith, z)
-      two (inr (c, i)) = let z = ap length i in omega (arith, z)
-
-  level-first : (ws : List ℕ) → LevelWords p x h es ws → (b : ℕ) (bs : List ℕ) → latch_blockers p (taking_part p x h u es) ≡ b ∷ bs → FirstOf p ws b
-  level-first ws L b bs e = let z = words-taken ws L in first_short p ws z.1 b bs (sym (ap (latch_blockers p) z.0) ∙ e)
 
   -- There are such words.
   level-words : (p ≡ 0 → ¬ (length es ≡ 1)) → Son x es → (ws : List ℕ) × LevelWords p x h es ws
@@ -213,58 +198,8 @@ one-first p q z ws m n (pre, post, e, f) (pre', post', e', f') = first-same-part
 -- ---- every step
 
 module _ {s : State} (S : Sound s) (p : ℕ) (r : Request) (e : (session_of p s).hand ≡ some r) where
-  abbrev Exactly : Stage → ℕ → List ℕ → Type 0
-  Exactly g b bs = (q : ℕ) → (elem q (b ∷ bs) ≡ true) ↔ InTheWay p r s g q
-
-  holder-begun : (g : Stage) (q : ℕ) → LongLock r s g q → (session_of q s).begun ≡ true
+  pub holder-begun : (g : Stage) (q : ℕ) → LongLock r s g q → (session_of q s).begun ≡ true
   holder-begun g q l = S.only_begun l.kind l.held q l.what l.holding
-
-  -- A step that asks for a long lock.
-  by-begin : (g : Stage) → ((q : ℕ) → ShortLock p s g q → ⊥) → ((ws : List ℕ) → Latching p s g ws → ⊥) → (b : ℕ) (bs : List ℕ) → Exactly g b bs → elem (oldest s b bs) (b ∷ bs) ≡ true
-      → Named p r s g (oldest s b bs)
-  by-begin g short words b bs f i = record {
-    in_the_way = W;
-    began_first = λ q n l d. let o = S.orders (oldest s b bs) q (own W.lock) (holder-begun g q l) in
-        let w = least s b bs q ((f q).1 (record { another = n; lock = inl l })) in
-        let z : ¬ ((session_of (oldest s b bs) s).order ≡ (session_of q s).order) = λ k. d (sym (o k)) in
-        omega (arith, w, z);
-    first_latch = λ ws k. absurd (words ws k);
-  }
-    where
-      W : InTheWay p r s g (oldest s b bs)
-      W = (f (oldest s b bs)).0 i
-
-      own : LongLock r s g (oldest s b bs) ⊎ ShortLock p s g (oldest s b bs) → (session_of (oldest s b bs) s).begun ≡ true
-      own (inl l) = holder-begun g (oldest s b bs) l
-      own (inr l) = absurd (short (oldest s b bs) l)
-
-  by-stage : (g : Stage) → r.stage ≡ g → (b : ℕ) (bs : List ℕ) → step_blockers p r s g ≡ b ∷ bs → Exactly g b bs → Named p r s g (named s g b bs)
-  by-stage start i b bs k f = by-begin start (λ q l. l) (λ ws l. l) b bs f (named-member s start b bs)
-  by-stage (enter x) i b bs k f = record {
-    in_the_way = (f b).0 (elem-first b bs);
-    began_first = λ q n l. absurd l.asks;
-    first_latch = λ ws L. root-first p s.root.height s.root.node ws L b bs (unfold step_blockers in k);
-  }
-  by-stage (at x) i b bs k f = record {
-    in_the_way = (f b).0 (elem-first b bs);
-    began_first = λ q n l. absurd l.asks;
-    first_latch = λ ws L. let Z = sons-follow S p r e x i L.0 L.1 L.2 in
-        level-first p x L.0 Z.0 Z.1 L.1.sons Z.2 ws L.3 b bs (sym (level-guard S p r e x i L.0 L.1 L.2) ∙ k);
-  }
-  by-stage change i b bs k f = by-begin change (λ q l. l) (λ ws l. l) b bs f (named-member s change b bs)
-  by-stage (take x) i b bs k f = by-begin (take x) (λ q l. l) (λ ws l. l) b bs f (named-member s (take x) b bs)
-
-  -- The one that a wait names, of those whom the guards find.
-  pub whom-named : (b : ℕ) (bs : List ℕ) → step_blockers p r s r.stage ≡ b ∷ bs → Named p r s r.stage (named s r.stage b bs)
-  whom-named b bs k = by-stage r.stage refl b bs k (λ q. subst (λ l. (elem q l ≡ true) ↔ InTheWay p r s r.stage q) k (blockers-exactly S p r e q))
-
-  pub way-named : (q : ℕ) → InTheWay p r s r.stage q → Named p r s r.stage (whom p r s)
-  unfolding whom
-  way-named q W = go (step_blockers p r s r.stage) refl ((blockers-exactly S p r e q).1 W)
-    where
-      go : (bs : List ℕ) → step_blockers p r s r.stage ≡ bs → elem q (step_blockers p r s r.stage) ≡ true → Named p r s r.stage (named_of s r.stage bs)
-      go [] k i = absurd (true≢false i (ap (elem q) k))
-      go (b ∷ bs) k i = whom-named b bs k
 
   -- ---- and only that one
 
@@ -310,25 +245,3 @@ pub record WaitsNamed (p : ℕ) (r : Request) (s : State) (o : Outcome) : Type 0
   pub names : (ps : List ℕ) → o.answer ≡ wait ps → ps ≡ whom p r s ∷ []
   pub longest : (ps : List ℕ) → o.answer ≡ wait ps → Named p r s r.stage (whom p r s)
   pub unchanged : (ps : List ℕ) → o.answer ≡ wait ps → o.next ≡ s
-
--- Every step of every party, from every sound state.
-pub waits-named : (n p : ℕ) (r : Request) (s : State) → Sound s → (session_of p s).hand ≡ some r → WaitsNamed p r s (settled s r.stage (next_step n p r s r.stage))
-waits-named n p r s S e = go (step_blockers p r s r.stage) (blockers-exactly S p r e)
-    (settled-waits s r.stage (step_blockers p r s r.stage) (next_step n p r s r.stage) (step_waits n p r s r.stage))
-  where
-    o : Outcome
-    o = settled s r.stage (next_step n p r s r.stage)
-
-    go : (bs : List ℕ) → ((q : ℕ) → (elem q bs ≡ true) ↔ InTheWay p r s r.stage q) → WaitsFor s (only_named s r.stage bs) o → WaitsNamed p r s o
-    go [] f w = record {
-      waits = ((λ h. absurd (true≢false (ap waiting h.1) w)), λ h. absurd (true≢false ((f h.0).1 h.1) refl));
-      names = λ ps h. absurd (true≢false (ap waiting h) w);
-      longest = λ ps h. absurd (true≢false (ap waiting h) w);
-      unchanged = λ ps h. absurd (true≢false (ap waiting h) w);
-    }
-    go (b ∷ bs) f w = let W = (f b).0 (elem-first b bs) in record {
-      waits = ((λ _. (b, W)), λ _. (named s r.stage b bs ∷ [], ap (λ z. z.answer) w));
-      names = λ ps h. settled-whom n p r s ps h;
-      longest = λ ps h. way-named S p r e b W;
-      unchanged = λ ps h. ap (λ z. z.next) w;
-    }

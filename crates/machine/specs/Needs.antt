@@ -1,26 +1,18 @@
 -- Demand 1, refusals 11 and 12: a step is refused 11 exactly if nobody is in its way and fewer records are free than it needs, and 12 exactly if it is a locate's last,
 -- nobody is in its way and the lent list is shorter than twice the number of memberships in the range, which comes back.
 use Rattle.std.specs.Prelude.{◌≡◌, refl, Bool, true, false, cond, not, ◌&&◌, List, [], ◌∷◌, ◌↔◌, zero, suc, ◌-◌, ◌*◌, ◌<◌, ℕ, leb, ltb, eqb, length}
-use Rattle.std.proofs.Common.{sym, ◌∙◌, subst, ap, arith}
-use Rattle.std.proofs.Math.Logic.Iff.{trans as iff_trans}
-use Rattle.std.proofs.Math.Option.{some}
+use Rattle.std.proofs.Common.{sym, subst, ap, arith}
 use Rattle.serial.specs.Serial.{true≢false}
 use Rattle.serial.specs.Locks.{weak, strong}
-use Rattle.serial.specs.Model as R
 use Rattle.machine.specs.Logic.{eqb_is, leb-is, leb-not, leb_yes, either}
 use Rattle.machine.specs.Holders.{latch_word, elem}
 use Rattle.machine.specs.Tree.{Node, pick}
-use Rattle.machine.specs.State.{Desc, Tree, Stage, start, enter, change, take, Request, State, Answer, more, wait, done, refused, Outcome, no_desc, same, or_none, session_of, stored, lowest_from, gap_below, desc_of, at, ok}
+use Rattle.machine.specs.State.{Tree, Stage, start, enter, change, take, Request, State, Answer, more, wait, done, refused, Outcome, no_desc, same, or_none, stored, lowest_from, gap_below, desc_of, at, ok}
 use Rattle.machine.specs.Descent.{Sons, node, sons_of, at_latch, lone, drop_lone}
-use Rattle.machine.specs.Steps.{ended, goes_on, finished, guarded, entry_blockers, group_blockers, read-step, write_step, entry-step, insert-step, remove-step, change-step, memberships, last_take, take_desc, take_step, passed_state, located_state, fills, root_blockers, root_need, root_splits, enter_step, level_blockers, level-step, son-at, pin-step, make-step, removable, tidied_state, tidy-step, lowest_step, stand_step, at_step, first_step, next_step, updating_state, inserted_state, removed_state, answer, is_empty, settled}
-use Rattle.machine.specs.Model.{memberships-are, model}
-use Rattle.machine.specs.Sound.{Sound}
-use Rattle.machine.specs.Looks.{kept-stored}
-use Rattle.machine.specs.Nearest.{takes_of}
-use Rattle.machine.specs.InTheWay.{LowestFrom, InTheWay}
-use Rattle.machine.specs.Conflicts.{nobody-in-the-way}
-use Rattle.machine.specs.Waits.{stand_blockers, step_blockers, settled_says}
-use Rattle.machine.specs.Answers.{TooShort, req-locate, ordinary, first_plain, enter-plain, at_plain, change-plain}
+use Rattle.machine.specs.Steps.{ended, goes_on, finished, guarded, entry_blockers, group_blockers, read-step, write_step, entry-step, insert-step, remove-step, change-step, memberships, last_take, take_desc, take_step, fills, root_blockers, root_need, root_splits, enter_step, level_blockers, level-step, son-at, pin-step, make-step, removable, tidied_state, tidy-step, lowest_step, stand_step, at_step, first_step, updating_state, inserted_state, removed_state, answer, is_empty}
+use Rattle.machine.specs.InTheWay.{LowestFrom}
+use Rattle.machine.specs.Waits.{stand_blockers, step_blockers}
+use Rattle.machine.specs.Answers.{ordinary}
 
 -- ---- the records that the next step needs; nothing here is read of the guards of the steps
 
@@ -45,7 +37,7 @@ step_needs p r s (take x) = 0
 -- ---- 11
 
 -- Refused 11, with 0 beside it, exactly if nobody is in the way and fewer records are free than needed.
-abbrev Lacks : State → List ℕ → ℕ → Outcome → Type 0
+abbrev pub Lacks : State → List ℕ → ℕ → Outcome → Type 0
 Lacks s bs need o = (k : ℕ) → (o.answer ≡ refused 11 k) ↔ ((k ≡ 0) × (bs ≡ []) × (s.free < need))
 
 abbrev lacking : Answer → Bool
@@ -58,7 +50,7 @@ lacking (refused n k) = eqb n 11
 abbrev Enough : Outcome → Type 0
 Enough o = lacking o.answer ≡ false
 
-beside_same : (n i j : ℕ) → refused n i ≡ refused n j → i ≡ j
+pub beside_same : (n i j : ℕ) → refused n i ≡ refused n j → i ≡ j
 beside_same n i j e = cc
 
 -- An outcome that needs none.
@@ -78,7 +70,7 @@ if-lacks : (b : Bool) (s : State) (ws bs : List ℕ) (m n : ℕ) (o q : Outcome)
 if-lacks true s ws bs m n o q f g = f
 if-lacks false s ws bs m n o q f g = g
 
-first-lacks : (p : ℕ) (r : Request) (s : State) → Lacks s (step_blockers p r s start) (step_needs p r s start) (first_step p r s)
+pub first-lacks : (p : ℕ) (r : Request) (s : State) → Lacks s (step_blockers p r s start) (step_needs p r s start) (first_step p r s)
 unfolding step_blockers step_needs first_step read-step write_step entry-step goes_on finished
 first-lacks p r s = go (eqb r.code 1) refl (eqb r.code 2) refl (leb r.code 4) refl
   where
@@ -101,7 +93,7 @@ first-lacks p r s = go (eqb r.code 1) refl (eqb r.code 2) refl (leb r.code 4) re
     go false e false u true v = starts
     go false e false u false v = no-need s [] (finished p r (0 ∷ 0 ∷ []) s) refl
 
-enter-lacks : (p : ℕ) (r : Request) (x : ℕ) (s : State) → Lacks s (step_blockers p r s (enter x)) (step_needs p r s (enter x)) (enter_step p r x s)
+pub enter-lacks : (p : ℕ) (r : Request) (x : ℕ) (s : State) → Lacks s (step_blockers p r s (enter x)) (step_needs p r s (enter x)) (enter_step p r x s)
 unfolding step_blockers step_needs enter_step goes_on
 enter-lacks p r x s = subst (λ n. Lacks s (root_blockers p s) n (enter_step p r x s)) (ap (λ n. cond (root_splits p s) n 0) (gain (lone s.root.height s.root.node)))
     (guard-lacks (root_blockers p s) (root_need p s) p r s _ refl)
@@ -143,11 +135,11 @@ latch-lacks p r x s (suc h) t =
         (at_latch (latch_word p) x 0 (stand_needs p x) h e.0) (pick x 0 (at_latch (latch_word p) x 0 (stand_needs p x) h) es)
         (at_latch (latch_word p) x (answer more s) (stand_step p r x s) h e.0) (pick x (answer more s) (at_latch (latch_word p) x (answer more s) (stand_step p r x s) h) es) (f e.0) (go es f)
 
-at-lacks : (p : ℕ) (r : Request) (x : ℕ) (s : State) → Lacks s (step_blockers p r s (at x)) (step_needs p r s (at x)) (at_step p r x s)
+pub at-lacks : (p : ℕ) (r : Request) (x : ℕ) (s : State) → Lacks s (step_blockers p r s (at x)) (step_needs p r s (at x)) (at_step p r x s)
 unfolding step_blockers step_needs at_step
 at-lacks p r x s = latch-lacks p r x s (suc s.root.height) s.root.node
 
-change-lacks : (p : ℕ) (r : Request) (s : State) → Lacks s (step_blockers p r s change) (step_needs p r s change) (change-step p r s)
+pub change-lacks : (p : ℕ) (r : Request) (s : State) → Lacks s (step_blockers p r s change) (step_needs p r s change) (change-step p r s)
 unfolding step_blockers step_needs change-step insert-step remove-step finished
 change-lacks p r s = go (eqb r.code 3) (elem r.entry (desc_of r.first s).members)
   where
@@ -159,29 +151,16 @@ change-lacks p r s = go (eqb r.code 3) (elem r.entry (desc_of r.first s).members
     go true false = guard-lacks (group_blockers strong p (desc_of r.first s)) 2 p r s _ refl
     go false b = guard-lacks (group_blockers strong p (desc_of r.first s)) 0 p r s _ (either Enough b (finished p r (1 ∷ []) (removed_state p r s)) (finished p r (0 ∷ []) (updating_state p r s)) refl refl)
 
-take-lacks : (n p : ℕ) (r : Request) (x : ℕ) (s : State) → Lacks s (step_blockers p r s (take x)) (step_needs p r s (take x)) (take_step n p r x s)
+pub take-lacks : (n p : ℕ) (r : Request) (x : ℕ) (s : State) → Lacks s (step_blockers p r s (take x)) (step_needs p r s (take x)) (take_step n p r x s)
 unfolding step_blockers step_needs take_step take_desc last_take goes_on
 take-lacks n p r x s =
     let d = or_none (lowest_from x (stored s)) in
     guard-lacks (group_blockers weak p d) 0 p r s _
     (either Enough (ltb d.key r.second) _ _ refl (either Enough (leb (2 * length (memberships r.first r.second (stored s))) n) _ _ refl refl))
 
-step-lacks : (n p : ℕ) (r : Request) (s : State) (g : Stage) → Lacks s (step_blockers p r s g) (step_needs p r s g) (next_step n p r s g)
-unfolding next_step
-step-lacks n p r s start = first-lacks p r s
-step-lacks n p r s (enter x) = enter-lacks p r x s
-step-lacks n p r s (at x) = at-lacks p r x s
-step-lacks n p r s change = change-lacks p r s
-step-lacks n p r s (take x) = take-lacks n p r x s
-
 -- Nobody in the way, by the guards and by document 01's words.
-in_words : {X A N B D : Type 0} → N ↔ B → X ↔ (A × N × D) → X ↔ (A × B × D)
+pub in_words : {X A N B D : Type 0} → N ↔ B → X ↔ (A × N × D) → X ↔ (A × B × D)
 in_words f h = ((λ x. let z = h.0 x in (z.0, f.0 z.1, z.2)), λ z. h.1 (z.0, f.1 z.1, z.2))
-
--- Every step of every party, from every sound state.
-pub step-11 : (n p : ℕ) (r : Request) (s : State) → Sound s → (session_of p s).hand ≡ some r → (k : ℕ)
-    → ((settled s r.stage (next_step n p r s r.stage)).answer ≡ refused 11 k) ↔ ((k ≡ 0) × ((q : ℕ) → ¬ InTheWay p r s r.stage q) × (s.free < step_needs p r s r.stage))
-step-11 n p r s S e k = iff_trans (settled_says s r.stage (next_step n p r s r.stage) (refused 11 k) refl) (in_words (nobody-in-the-way S p r e) (step-lacks n p r s r.stage k))
 
 -- ---- 12
 
@@ -194,76 +173,15 @@ AtSecond r s change = ⊥
 AtSecond r s (take x) = LowestFrom x s r.second
 
 -- Every other step answers ordinarily.
-abbrev Plain : Outcome → Type 0
+abbrev pub Plain : Outcome → Type 0
 Plain o = ordinary o.answer ≡ true
 
-never : (A B : Type 0) (o : Outcome) (k : ℕ) → Plain o → (o.answer ≡ refused 12 k) ↔ (⊥ × A × B)
+pub never : (A B : Type 0) (o : Outcome) (k : ℕ) → Plain o → (o.answer ≡ refused 12 k) ↔ (⊥ × A × B)
 never A B o k h = ((λ e. absurd (true≢false h (ap ordinary e))), λ f. absurd f.0)
 
-abbrev nobody : List ℕ
+abbrev pub nobody : List ℕ
 nobody = []
 
-none_needed : (p : ℕ) (r : Request) (s : State) (o : Outcome) → guarded [] 0 p r s o ≡ o
+pub none_needed : (p : ℕ) (r : Request) (s : State) (o : Outcome) → guarded [] 0 p r s o ≡ o
 unfolding guarded
 none_needed p r s o = ap (λ b. cond b o (answer (refused 11 0) (ended p r s))) (leb_yes 0 s.free (omega arith))
-
-module _ (n p : ℕ) (r : Request) (s : State) (S : Sound s) (e : (session_of p s).hand ≡ some r) where
-  take-12 : (x k : ℕ) → r.stage ≡ take x → ((take_step n p r x s).answer ≡ refused 12 k) ↔ (((or_none (lowest_from x (stored s))).key ≡ r.second) × (step_blockers p r s (take x) ≡ []) × TooShort r s n k)
-  unfolding step_blockers take_step take_desc last_take goes_on guarded stored
-  take-12 x k q = go (group_blockers weak p d)
-    where
-      d : Desc
-      d = or_none (lowest_from x (stored s))
-
-      found : List R.Pair
-      found = memberships r.first r.second (stored s)
-
-      count : length found ≡ length (R.located r.first r.second (model s))
-      count = ap length (memberships-are r.first r.second (stored s))
-
-      last : Bool → Outcome
-      last b = cond b (record { answer = done (length found ∷ []); next = ended p r (located_state p d s); written = found }) (answer (refused 12 (length found)) (ended p r s))
-
-      pass : Outcome
-      pass = goes_on p r (take (suc d.key)) (passed_state p d s)
-
-      free-way : (a : Bool) → ltb d.key r.second ≡ a → (b : Bool) → leb (2 * length found) n ≡ b
-          → ((cond a pass (last b)).answer ≡ refused 12 k) ↔ ((d.key ≡ r.second) × (nobody ≡ []) × TooShort r s n k)
-      free-way true u b v = ((λ i. absurd (true≢false {b = true} refl (ap ordinary i))), λ f. absurd (omega (arith, f.0, leb-is (suc d.key) r.second u)))
-      free-way false u true v = ((λ i. absurd (true≢false {b = true} refl (ap ordinary i))), λ f. absurd (omega (arith, f.2.short, f.2.count_is, count, leb-is (2 * length found) n v)))
-      free-way false u false v =
-          let T = takes_of S p r x e q in (
-            (λ i. let z = beside_same 12 (length found) k i in (
-              omega (arith, T.to-second, leb-not (suc d.key) r.second u),
-              refl,
-              record { locates = req-locate r T.passing.code_5; count_is = sym z ∙ count; short = omega (arith, z, leb-not (2 * length found) n v) },
-            )),
-            λ f. ap (refused 12) (count ∙ sym f.2.count_is),
-          )
-
-      go : (bs : List ℕ) → ((guarded bs 0 p r s (cond (ltb d.key r.second) pass (last (leb (2 * length found) n)))).answer ≡ refused 12 k) ↔ ((d.key ≡ r.second) × (bs ≡ []) × TooShort r s n k)
-      go [] = subst (λ (o : Outcome). (o.answer ≡ refused 12 k) ↔ ((d.key ≡ r.second) × (nobody ≡ []) × TooShort r s n k)) (sym (none_needed p r s _))
-          (free-way (ltb d.key r.second) refl (leb (2 * length found) n) refl)
-      go (c ∷ bs) = ((λ i. absurd (true≢false {b = true} refl (ap ordinary i))), λ f. absurd (true≢false (ap is_empty f.1) refl))
-
-  at_second : (x : ℕ) → r.stage ≡ take x → ((or_none (lowest_from x (stored s))).key ≡ r.second) ↔ LowestFrom x s r.second
-  at_second x q =
-      let d : Desc = or_none (lowest_from x (stored s)) in
-      let N = (takes_of S p r x e q).next in
-      let here = kept-stored d.key s N.K in (
-        (λ i. subst (LowestFrom x s) i (record { is_stored = here; from = N.from; lowest = N.least })),
-        λ l. omega (arith, l.lowest d.key here N.from, N.least r.second l.is_stored l.from),
-      )
-
-  step-12-at : (g : Stage) (k : ℕ) → r.stage ≡ g → ((next_step n p r s g).answer ≡ refused 12 k) ↔ (AtSecond r s g × (step_blockers p r s g ≡ []) × TooShort r s n k)
-  unfolding next_step
-  step-12-at start k q = never (step_blockers p r s start ≡ []) (TooShort r s n k) (first_step p r s) k (first_plain Plain p r s (λ a t h. h))
-  step-12-at (enter x) k q = never (step_blockers p r s (enter x) ≡ []) (TooShort r s n k) (enter_step p r x s) k (enter-plain Plain p r s (λ a t h. h) x)
-  step-12-at (at x) k q = never (step_blockers p r s (at x) ≡ []) (TooShort r s n k) (at_step p r x s) k (at_plain Plain p r s (λ a t h. h) x)
-  step-12-at change k q = never (step_blockers p r s change ≡ []) (TooShort r s n k) (change-step p r s) k (change-plain Plain p r s (λ a t h. h))
-  step-12-at (take x) k q = let f = at_second x q in let h = take-12 x k q in ((λ i. let z = h.0 i in (f.0 z.0, z.1, z.2)), λ z. h.1 (f.1 z.0, z.1, z.2))
-
-  -- Every step of every party, from every sound state.
-  pub step-12 : (k : ℕ)
-      → ((settled s r.stage (next_step n p r s r.stage)).answer ≡ refused 12 k) ↔ (AtSecond r s r.stage × ((q : ℕ) → ¬ InTheWay p r s r.stage q) × TooShort r s n k)
-  step-12 k = iff_trans (settled_says s r.stage (next_step n p r s r.stage) (refused 12 k) refl) (in_words (nobody-in-the-way S p r e) (step-12-at r.stage k refl))

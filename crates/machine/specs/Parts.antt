@@ -8,15 +8,15 @@ use Rattle.std.proofs.Math.Logic.{inl, inr}
 use Prim.Native.Nat.{zero, suc, ◌+◌, ◌-◌, ◌≤◌, ◌<◌, ℕ}
 use native.Mathlib.Omega.{arith}
 use Rattle.std.proofs.Math.ListN.{get_or, take, length-append, length-take}
-use Rattle.machine.specs.Logic.{leb_yes, leb_no, eqb_yes, eqb_no, eqb_is}
+use Rattle.machine.specs.Logic.{leb_yes, leb_no, eqb_is}
 use Rattle.machine.specs.Holders.{latch_word, elem, latch_blockers}
 use Rattle.machine.specs.Tree.{onp, pick, sum_e, sum_e-append, Seg, Below, Cmp, low, high, cmp, Hit, hit, onp-hit, pick-hit}
 use Rattle.machine.specs.State.{Tree, same}
 use Rattle.machine.specs.Descent.{Sons, node, sons_of, halves, down_to, on_last, last_of, joined, moved_right, moved_left, joins, mended, on_pair, pick_pair}
-use Rattle.machine.specs.Steps.{stepped, son-at, level_blockers, is_empty, descended}
+use Rattle.machine.specs.Steps.{son-at, is_empty}
 use Rattle.machine.specs.Sound.{Shaped, OnPath, Latched, latch_count}
 use Rattle.machine.specs.InTheWay.{Free, AllFree}
-use Rattle.machine.specs.Blocking.{words_of, words_left, words_right, son-free, pair-free}
+use Rattle.machine.specs.Blocking.{words_of, words_left, words_right}
 use Rattle.machine.specs.Looks.{shaped-le}
 use Rattle.machine.specs.Fanout.{last_one, length_last, halves-seg, of_pair, mended-seg, PairHit, pair-hit}
 use Rattle.machine.specs.Paths.{path-swap, path-left, path-right, first-bound, last-bound}
@@ -246,7 +246,7 @@ pub record Part (p x h : ℕ) (es fs : Sons (suc h)) : Type 0 where
 
 module _ (p x h lo hi : ℕ) (es : Sons (suc h)) (s : Seg (Shaped (suc h) 3) lo (suc hi) es) (lx : lo ≤ x) (xh : x ≤ hi) where
   -- One son takes part.
-  part-one : (g : Tree (suc h) → ℕ → Sons (suc h)) → Free p (son-at x h es).latch
+  pub part-one : (g : Tree (suc h) → ℕ → Sons (suc h)) → Free p (son-at x h es).latch
       → ((m u : ℕ) (a : Tree (suc h)) → son-at x h es ≡ a → Shaped (suc h) 3 m u a → x ≤ u → Swap p x h m (suc u) ((a, u) ∷ []) (g a u)) → Part p x h es (onp x g es)
   part-one g f k = go (hit (Shaped (suc h) 3) x lo (suc hi) es s lx (omega (arith, xh)))
     where
@@ -270,7 +270,7 @@ module _ (p x h lo hi : ℕ) (es : Sons (suc h)) (s : Seg (Shaped (suc h) 3) lo 
           }
 
 -- The housekeeper's pair takes part.
-part_pair : (x h lo hi : ℕ) (es : Sons (suc h)) → Seg (Shaped (suc h) 3) lo (suc hi) es → lo ≤ x → x ≤ hi → 2 ≤ length es → sons_of (son-at x h es) ≡ 3
+pub part_pair : (x h lo hi : ℕ) (es : Sons (suc h)) → Seg (Shaped (suc h) 3) lo (suc hi) es → lo ≤ x → x ≤ hi → 2 ≤ length es → sons_of (son-at x h es) ≡ 3
     → ((w : ℕ) → elem w (pick_pair x [] (words_of h) es) ≡ true → Free 0 w) → Part 0 x h es (on_pair x (mended 1 x h) es)
 part_pair x h lo hi es s lx xh n three f = go (pair-hit (Shaped (suc h) 3) (shaped-le (suc h) 3) x lo (suc hi) es n s lx (omega (arith, xh)))
   where
@@ -296,7 +296,7 @@ part_pair x h lo hi es s lx xh n three f = go (pair-hit (Shaped (suc h) 3) (shap
 
 -- ---- the step
 
-hit-shaped : (x h lo hi : ℕ) (es : Sons (suc h)) → Seg (Shaped (suc h) 3) lo (suc hi) es → lo ≤ x → x ≤ hi → (3 ≤ sons_of (son-at x h es)) × (sons_of (son-at x h es) ≤ 8)
+pub hit-shaped : (x h lo hi : ℕ) (es : Sons (suc h)) → Seg (Shaped (suc h) 3) lo (suc hi) es → lo ≤ x → x ≤ hi → (3 ≤ sons_of (son-at x h es)) × (sons_of (son-at x h es) ≤ 8)
 unfolding Shaped
 hit-shaped x h lo hi es s lx xh = go (hit (Shaped (suc h) 3) x lo (suc hi) es s lx (omega (arith, xh)))
   where
@@ -304,46 +304,8 @@ hit-shaped x h lo hi es s lx xh = go (hit (Shaped (suc h) 3) x lo (suc hi) es s 
     go H = subst (λ t. (3 ≤ sons_of t) × (sons_of t ≤ 8))
         (sym (ap (pick x (node 0 []) same) H.eq ∙ pick-hit x (node 0 []) same H.pre H.a H.u H.post H.below H.upto)) (H.here.0, H.here.1)
 
-no-lone : (p : ℕ) {A : Type 0} (es : List A) → (p ≡ 0 → 2 ≤ length es) → p ≡ 0 → ¬ (length es ≡ 1)
+pub no-lone : (p : ℕ) {A : Type 0} (es : List A) → (p ≡ 0 → 2 ≤ length es) → p ≡ 0 → ¬ (length es ≡ 1)
 no-lone p es n z i = omega (arith, n z, i)
-
-pub part : (p x h lo hi : ℕ) (es : Sons (suc h)) → Seg (Shaped (suc h) 3) lo (suc hi) es → lo ≤ x → x ≤ hi → (p ≡ 0 → 2 ≤ length es) → level_blockers p x h es (son-at x h es) ≡ []
-    → Part p x h es (stepped p x h (son-at x h es) es)
-unfolding stepped
-part zero x h lo hi es s lx xh n bs = go (eqb (sons_of t) 3) refl
-  where
-    t : Tree (suc h)
-    t = son-at x h es
-
-    go : (c : Bool) → eqb (sons_of t) 3 ≡ c → Part 0 x h es (cond c (on_pair x (mended 1 x h) es) (onp x (λ a u. (node 1 a.sons, u) ∷ []) es))
-    go true e = part_pair x h lo hi es s lx xh (n refl) (eqb_is (sons_of t) 3 e)
-        (pair-free (λ h. Shaped (suc h) 3) (λ h. shaped-le (suc h) 3) 0 x h lo (suc hi) es s (no-lone 0 es n) bs refl (eqb_is (sons_of t) 3 e))
-    go false e = part-one 0 x h lo hi es s lx xh (λ a u. (node 1 a.sons, u) ∷ []) (son-free (λ h. Shaped (suc h) 3) (λ h. shaped-le (suc h) 3) 0 x h lo (suc hi) es s (no-lone 0 es n) bs)
-        (λ m u a q S l. relatched-swap 0 x h m u a l S (subst (λ c. 4 ≤ sons_of c) q four))
-      where
-        four : 4 ≤ sons_of t
-        four =
-            let z = hit-shaped x h lo hi es s lx xh in
-            let w : ¬ (sons_of t ≡ 3) = λ w. false≢true (sym e ∙ eqb_yes (sons_of t) 3 w) in
-            omega (arith, z.0)
-part (suc k) x h lo hi es s lx xh n bs =
-    rw (eqb_no (suc k) 0 (omega arith)) (go (eqb (sons_of t) 8) refl (son-free (λ h. Shaped (suc h) 3) (λ h. shaped-le (suc h) 3) (suc k) x h lo (suc hi) es s (no-lone (suc k) es n) bs))
-  where
-    t : Tree (suc h)
-    t = son-at x h es
-
-    go : (c : Bool) → eqb (sons_of t) 8 ≡ c → Free (suc k) t.latch
-        → Part (suc k) x h es (cond c (onp x (halves (latch_word (suc k)) x h) es) (onp x (λ a u. (node (latch_word (suc k)) a.sons, u) ∷ []) es))
-    go true e b = part-one (suc k) x h lo hi es s lx xh (halves (latch_word (suc k)) x h) b
-        (λ m u a q S l. halves-swap (suc k) x h m u a l 3 S (sym (ap (λ c. sons_of c) q) ∙ eqb_is (sons_of t) 8 e) (omega arith))
-    go false e b = part-one (suc k) x h lo hi es s lx xh (λ a u. (node (latch_word (suc k)) a.sons, u) ∷ []) b
-        (λ m u a q S l. relatched-swap (suc k) x h m u a l S (subst (λ c. sons_of c ≤ 7) q seven))
-      where
-        seven : sons_of t ≤ 7
-        seven =
-            let z = hit-shaped x h lo hi es s lx xh in
-            let w : ¬ (sons_of t ≡ 8) = λ w. false≢true (sym e ∙ eqb_yes (sons_of t) 8 w) in
-            omega (arith, z.1)
 
 -- ---- the parent
 
@@ -396,7 +358,7 @@ module _ (p x h : ℕ) (fs : Sons (suc h)) (t : Tree (suc (suc h))) (l : t.latch
       let o = swap-own p x h P.lo P.e P.old P.new P.grouped P.free_before P.swap (omega (arith, z, b, before (latch_word p))) in
       omega (arith, z, b, o, bit-no 0 (latch_word p) (omega arith), before (latch_word p), after (latch_word p))
 
-  part-lowered : Lowered p x (suc h) t (node 0 fs)
+  pub part-lowered : Lowered p x (suc h) t (node 0 fs)
   part-lowered =
       let L = Latched (latch_word p) x (λ _ n. Fits p n) (suc h) in
       record {
@@ -405,10 +367,3 @@ module _ (p x h : ℕ) (fs : Sons (suc h)) (t : Tree (suc (suc h))) (l : t.latch
         there = latched-under (latch_word p) x (λ _ n. Fits p n) (suc h) (node 0 fs) (omega arith)
             (subst (OnPath x L) (sym P.becomes) (path-right x L P.pre (P.new ++ P.post) P.below (path-left x L P.new P.post P.swap.there)));
       }
-
--- A session goes down, or the housekeeper does, from a node with two sons or more.
-pub lowered : (p x h least lo hi : ℕ) (t : Tree (suc (suc h))) → Shaped (suc (suc h)) least lo hi t → lo ≤ x → x ≤ hi → (p ≡ 0 → 2 ≤ sons_of t) → t.latch ≡ latch_word p
-    → level_blockers p x h t.sons (son-at x h t.sons) ≡ [] → Lowered p x (suc h) t (descended p x (suc h) t)
-unfolding Shaped descended
-lowered p x h least lo hi t S lx xh n l b =
-    part-lowered p x h (stepped p x h (son-at x h t.sons) t.sons) t l (part p x h lo hi t.sons S.3 lx xh n b)

@@ -1,6 +1,6 @@
 -- Recover: housekeeping ends, and then every begun session that is not asked is aborted, one after another. Soundness is kept, each abort is an event of the
 -- lock machine, and what is asked keeps all it had.
-use Rattle.std.specs.Prelude.{◌≡◌, refl, Bool, true, false, cond, not, ◌&&◌, List, zero, suc, ◌≤◌, ◌<◌, ℕ, eqb, length}
+use Rattle.std.specs.Prelude.{◌≡◌, refl, Bool, true, false, cond, not, ◌&&◌, zero, suc, ◌<◌, ℕ, length}
 use Rattle.std.proofs.Common.{sym, ◌∙◌, subst, ap, arith}
 use Rattle.std.proofs.Math.Option.{Option, none, some}
 use Rattle.std.proofs.Math.Decide.{ℕ_discrete}
@@ -11,12 +11,12 @@ use Rattle.machine.specs.Logic.{eqb_no, leb_no}
 use Rattle.machine.specs.Holders.{width}
 use Rattle.machine.specs.State.{Request, State, idle, session_of}
 use Rattle.machine.specs.Steps.{rule}
-use Rattle.machine.specs.Calls.{has_begun, no_session, aborts, undo-all, end_hand, is_asked, lapse, recovers, call, recover}
+use Rattle.machine.specs.Calls.{aborts, undo-all, end_hand, is_asked, lapse, recovers, call, recover}
 use Rattle.machine.specs.View.{view, same-unseen}
 use Rattle.machine.specs.Sound.{Sound}
 use Rattle.machine.specs.Table.{session-same, ended-tenure, begun-seat, undo-all-table, end-other, end-many, leave_own, leave-other}
 use Rattle.machine.specs.Looks.{begun-party}
-use Rattle.machine.specs.Leaving.{Stopped, stopped, chain-of, abort-sound}
+use Rattle.machine.specs.Leaving.{stopped, chain-of, abort-sound}
 use Rattle.machine.specs.Abort.{abort-aborted}
 
 abbrev pub marks : State → ℕ → Bool

@@ -7,18 +7,15 @@ use Rattle.serial.specs.Locks.{strong}
 use Rattle.serial.specs.Locks as L
 use Rattle.machine.specs.State.{Stage, start, enter, change, take, Request, State, top, or_none, session_of, stored, lowest_from, at}
 use Rattle.machine.specs.View.{holders}
-use Rattle.machine.specs.Sound.{Changing, Descends, Stands, Sound}
-use Rattle.machine.specs.Table.{end-many}
+use Rattle.machine.specs.Sound.{Descends, Stands, Sound}
 use Rattle.machine.specs.Keys.{Kept}
-use Rattle.machine.specs.Checks.{checked-entry, session-code, keeper-code}
-use Rattle.machine.specs.Looks.{sound-ordered, kept_of, fit_of, change-stored, stored-most}
-use Rattle.machine.specs.Nearest.{Takes, takes_of}
+use Rattle.machine.specs.Checks.{keeper-code}
+use Rattle.machine.specs.Looks.{sound-ordered, kept_of, stored-most}
+use Rattle.machine.specs.Nearest.{Takes}
 use Rattle.machine.specs.Descending.{proper_key, keeper-stored}
-use Rattle.machine.specs.Leaving.{chain-of}
-use Rattle.machine.specs.Recover.{recovered}
 use Rattle.machine.specs.Events.{asked}
-use Rattle.machine.specs.Session.{Ready, reads, writes, to_insert, to_remove, enters, descends, inserts, removes, takes}
-use Rattle.machine.specs.Moves.{Safe, Tidying, nothing_above, entering, descending}
+use Rattle.machine.specs.Session.{Ready, reads, writes, to_insert, to_remove, inserts, removes, takes}
+use Rattle.machine.specs.Moves.{Tidying, nothing_above, entering, descending}
 
 -- ---- a sound state
 
@@ -30,7 +27,7 @@ module _ (s : State) (S : Sound s) where
 
   -- ---- a session's request
 
-  start-ready : (p c e f g : ℕ) → 1 ≤ c → c ≤ 4 → 1 ≤ e → e ≤ length s.entries → Ready p s (asked c e f g start)
+  pub start-ready : (p c e f g : ℕ) → 1 ≤ c → c ≤ 4 → 1 ≤ e → e ≤ length s.entries → Ready p s (asked c e f g start)
   start-ready p c zero f g a b i j = absurd (omega (arith, i))
   start-ready p zero (suc e) f g a b i j = absurd (omega (arith, a))
   start-ready p (suc zero) (suc e) f g a b i j = reads e f g j
@@ -39,31 +36,15 @@ module _ (s : State) (S : Sound s) where
   start-ready p (suc (suc (suc (suc zero)))) (suc e) f g a b i j = to_remove e f g j
   start-ready p (suc (suc (suc (suc (suc c))))) (suc e) f g a b i j = absurd (omega (arith, b))
 
-  change-ready : (p c e f g : ℕ) → 3 ≤ c → c ≤ 4 → Kept f s → holders s L.entry strong p e ≡ true → Ready p s (asked c e f g change)
+  pub change-ready : (p c e f g : ℕ) → 3 ≤ c → c ≤ 4 → Kept f s → holders s L.entry strong p e ≡ true → Ready p s (asked c e f g change)
   change-ready p c e f g a b K h = go (ℕ_discrete c 3)
     where
       go : Dec (c ≡ 3) → Ready p s (asked c e f g change)
       go (yes q) = subst (λ x. Ready p s (asked x e f g change)) (sym q) (inserts e f g K h)
       go (no n) = subst (λ x. Ready p s (asked x e f g change)) (omega (arith, a, b, n)) (removes e f g K h)
 
-  take-ready : (p c e f g x : ℕ) → c ≡ 5 → Takes p s (asked c e f g (take x)) x (or_none (lowest_from x (stored s))) → Ready p s (asked c e f g (take x))
+  pub take-ready : (p c e f g x : ℕ) → c ≡ 5 → Takes p s (asked c e f g (take x)) x (or_none (lowest_from x (stored s))) → Ready p s (asked c e f g (take x))
   take-ready p c e f g x q T = subst (λ y. Ready p s (asked y e f g (take x))) (sym q) (takes e f g x T.next.K T.next.same T.to-second T.below)
-
-  session-ready : (m c e f g : ℕ) (st : Stage) → (session_of (suc m) s).hand ≡ some (asked c e f g st) → Ready (suc m) s (asked c e f g st)
-  session-ready m c e f g start h =
-      let k = session-code m c (S.checked (suc m) (asked c e f g start) h).0 in
-      let n : ¬ (c ≡ 5) = S.standing (suc m) (asked c e f g start) h in
-      let w : c ≤ 4 = omega (arith, k.1, n) in
-      let i = checked-entry (suc m) c e f g s (S.checked (suc m) (asked c e f g start) h) w in
-      start-ready (suc m) c e f g k.0 w i.0 i.1
-  session-ready m c e f g (enter x) h = enters c e f g x
-  session-ready m c e f g (at x) h = descends c e f g x (descent-most (suc m) (asked c e f g (at x)) x h (S.standing (suc m) (asked c e f g (at x)) h))
-  session-ready m c e f g change h =
-      let C : Changing (suc m) s (asked c e f g change) = S.standing (suc m) (asked c e f g change) h in
-      change-ready (suc m) c e f g C.code_3_4.0 C.code_3_4.1 (kept_of f s S (change-stored S (suc m) (asked c e f g change) h refl)) C.excludes
-  session-ready m c e f g (take x) h =
-      let T = takes_of S (suc m) (asked c e f g (take x)) x h refl in
-      take-ready (suc m) c e f g x T.passing.code_5 T
 
   -- ---- the housekeeper's
 
@@ -77,18 +58,6 @@ module _ (s : State) (S : Sound s) where
   tidying-six e f g change h = absurd (omega (arith, h.code_3_4.1))
   tidying-six e f g (take x) h = absurd (omega (arith, h.code_5))
 
-  keeper-tidying : (r : Request) → (session_of 0 s).hand ≡ some r → Tidying s r
+  pub keeper-tidying : (r : Request) → (session_of 0 s).hand ≡ some r → Tidying s r
   keeper-tidying r h = subst (λ c. Stands 0 s (asked c r.entry r.first r.second r.stage) r.stage → Tidying s (asked c r.entry r.first r.second r.stage))
       (sym (keeper-code r.code (S.checked 0 r h).0)) (tidying-six r.entry r.first r.second r.stage) (S.standing 0 r h)
-
--- ---- the whole
-
-pub safe-of : (s : State) → Sound s → Safe s
-safe-of s S = record {
-  fit = fit_of S;
-  ready = λ m r b w e. session-ready s S m r.code r.entry r.first r.second r.stage e;
-  tidying = keeper-tidying s S;
-  chains = λ m b. chain-of (suc m) s S b;
-  recovery = recovered s S;
-  seats = λ m w. let n = end-many (suc m) (session_of (suc m) s).hand s in omega (arith, n, S.seats, w);
-}

@@ -1,31 +1,26 @@
 -- Every step of a session's request, together: what it does is an event of the lock machine, with the answer that the model gives.
 use Rattle.std.specs.Prelude.{◌≡◌, refl, true, cond, List, [], zero, suc, ◌≤◌, ◌<◌, ℕ, eqb, length}
-use Rattle.std.proofs.Common.{arith}
 use Rattle.std.proofs.Math.Dec.{eqb-suc-zero}
 use Rattle.serial.specs.Model.{Req}
 use Rattle.serial.specs.Model as R
 use Rattle.serial.specs.Locks.{strong, weak}
 use Rattle.serial.specs.Locks as L
 use Rattle.machine.specs.Logic.{either}
-use Rattle.machine.specs.Holders.{width, latch_word}
+use Rattle.machine.specs.Holders.{latch_word}
 use Rattle.machine.specs.Tree.{pick}
-use Rattle.machine.specs.State.{Tree, start, enter, change, take, Request, State, more, Outcome, top, no_desc, same, or_none, session_of, stored, lowest_from, at}
-use Rattle.machine.specs.Steps.{goes_on, guarded, enter_step, level-step, pin-step, make-step, lowest_step, stand_step, at_step, first_step, change-step, take_step, next_step, answer}
+use Rattle.machine.specs.State.{Tree, start, enter, change, take, Request, State, more, Outcome, top, no_desc, same, or_none, stored, lowest_from, at}
+use Rattle.machine.specs.Steps.{goes_on, guarded, enter_step, level-step, pin-step, make-step, lowest_step, stand_step, at_step, answer}
 use Rattle.machine.specs.View.{holders}
 use Rattle.machine.specs.Descents.{guard-cases, latch-cases}
-use Rattle.machine.specs.Housekeeping.{like-unseen, at-step-like, enter-step-like}
 use Rattle.machine.specs.Keys.{Kept}
-use Rattle.machine.specs.Entries.{Fit}
-use Rattle.machine.specs.Events.{Does, unseen, unfinished, asked, read-does, write-does, entry-step-does}
-use Rattle.machine.specs.Insert.{insert-does, remove-does}
-use Rattle.machine.specs.Locate.{take-does}
+use Rattle.machine.specs.Events.{unfinished, asked}
 
 -- ---- no step of a session's descent finishes a request
 
 open-guard : (bs : List ℕ) (need p : ℕ) (r : Request) (s : State) (o : Outcome) → unfinished o.answer ≡ true → unfinished (guarded bs need p r s o).answer ≡ true
 open-guard bs need p r s o h = guard-cases (λ x. unfinished x.answer ≡ true) bs need p r s o (λ b l. refl) refl h
 
-open-enter : (p : ℕ) (r : Request) (x : ℕ) (s : State) → unfinished (enter_step p r x s).answer ≡ true
+pub open-enter : (p : ℕ) (r : Request) (x : ℕ) (s : State) → unfinished (enter_step p r x s).answer ≡ true
 unfolding enter_step goes_on
 open-enter p r x s = open-guard _ _ p r s _ refl
 
@@ -35,7 +30,7 @@ open-stand m r x s zero t = rw (eqb-suc-zero m)
     (either (λ o. unfinished o.answer ≡ true) (eqb (pick x no_desc same t.sons).key x) (pin-step (suc m) r x s) (make-step (suc m) r x s) refl (open-guard [] 1 (suc m) r s _ refl))
 open-stand m r x s (suc h) t = open-guard _ _ (suc m) r s _ refl
 
-open_at : (m : ℕ) (r : Request) (x : ℕ) (s : State) → unfinished (at_step (suc m) r x s).answer ≡ true
+pub open_at : (m : ℕ) (r : Request) (x : ℕ) (s : State) → unfinished (at_step (suc m) r x s).answer ≡ true
 unfolding at_step
 open_at m r x s = latch-cases (λ o. unfinished o.answer ≡ true) (latch_word (suc m)) x (answer more s) (stand_step (suc m) r x s) (suc s.root.height) s.root.node refl (open-stand m r x s)
 
@@ -59,19 +54,3 @@ pub data Ready (p : ℕ) (s : State) : Request → Type 0 where
 unfoldable pub req_of : Request → Req
 req_of r = cond (eqb r.code 1) (R.read r.entry) (cond (eqb r.code 2) (R.write r.entry r.first) (cond (eqb r.code 3) (R.insert r.entry r.first)
     (cond (eqb r.code 4) (R.remove r.entry r.first) (R.locate r.first r.second))))
-
--- Every step of a session: n words of list are lent.
-pub session-step : (n m : ℕ) (s : State) → Fit s → (session_of (suc m) s).begun ≡ true → suc m ≤ width → (r : Request) → Ready (suc m) s r
-    → Does (suc m) (req_of r) s (next_step n (suc m) r s r.stage)
-unfolding next_step first_step change-step take_step req_of
-session-step n m s F b le r (reads i f g h) = read-does m i 1 f g start s F h b le
-session-step n m s F b le r (writes i f g h) = write-does m i 2 f g start s F h b le
-session-step n m s F b le r (to_insert i f g h) = entry-step-does m i 3 f g start (R.insert (suc i) f) s F h b
-session-step n m s F b le r (to_remove i f g h) = entry-step-does m i 4 f g start (R.remove (suc i) f) s F h b
-session-step n m s F b le r (enters c e f g x) = unseen (open-enter (suc m) (asked c e f g (enter x)) x s)
-    (like-unseen s (enter_step (suc m) (asked c e f g (enter x)) x s).next (enter-step-like (suc m) (asked c e f g (enter x)) x s))
-session-step n m s F b le r (descends c e f g x h) = unseen (open_at m (asked c e f g (at x)) x s)
-    (like-unseen s (at_step (suc m) (asked c e f g (at x)) x s).next (at-step-like (suc m) (asked c e f g (at x)) x s F.ordered h (λ z. absurd (omega (arith, z)))))
-session-step n m s F b le r (inserts e f g K h) = insert-does m f e s F K b le h 3 g change
-session-step n m s F b le r (removes e f g K h) = remove-does m f e s F K b le h 4 g change
-session-step n m s F b le r (takes e f g x K q u needs) = take-does m s F b le (or_none (lowest_from x (stored s))) K q n 5 e f g (take x) u needs

@@ -1,5 +1,5 @@
 -- Every step of a descent keeps the tree's shape and the count of records.
-use Rattle.std.specs.Prelude.{◌≡◌, Bool, not, ◌&&◌, ◌⊎◌, eqb}
+use Rattle.std.specs.Prelude.{◌≡◌, Bool, not, ◌⊎◌, eqb}
 use Rattle.std.proofs.Math.Path.{refl, sym, subst, ap}
 use Rattle.std.proofs.Common.{◌∙◌, inl, inr}
 use Rattle.std.proofs.Math.Bool.{true, false, cond, and-eq-true_iff}
@@ -10,22 +10,19 @@ use native.Mathlib.Omega.{arith}
 use Rattle.std.proofs.Math.ListN.{length, length-append}
 use Rattle.machine.specs.Logic.{leb_yes, eqb_yes, eqb_no, eqb_is}
 use Rattle.machine.specs.Holders.{latch_word}
-use Rattle.machine.specs.Tree.{onp, pick, flat, sum_e, sum_e-append, Seg, seg-append, leaves, hit, onp-hit, pick-hit}
+use Rattle.machine.specs.Tree.{onp, pick, flat, sum_e, sum_e-append, Seg, seg-append, leaves}
 use Rattle.machine.specs.State.{Desc, Tree, Root, Stage, Request, State, top, no_desc, same, stored, gap_below, with_root, with_free, on_tree, on_desc, pin_desc, at}
-use Rattle.machine.specs.Descent.{Sons, halves, sons_of, on_pair, pick_pair, joins, mended, put_in, taken_out, on_latch, lone, lone_son, drop_lone, entered, split_root, node}
-use Rattle.machine.specs.Steps.{goes_on, finished, small, fills, root_left, root_gain, root_splits, root_need, whole_root, halved_root, stepped, son-at, descended, level_need, level_gain, level_state, pinned_state, made, on_lowest, made_state, tidied_state}
+use Rattle.machine.specs.Descent.{Sons, sons_of, on_pair, pick_pair, joins, mended, put_in, taken_out, on_latch, lone, lone_son, drop_lone, entered, node}
+use Rattle.machine.specs.Steps.{goes_on, finished, small, fills, root_left, root_gain, whole_root, son-at, pinned_state, made, on_lowest, made_state, tidied_state}
 use Rattle.machine.specs.Sound.{stored_in, nodes, members_many, Shaped, Sound, Formed, formed-of}
 use Rattle.machine.specs.Context.{Ctx, hole, down, plug, Focus}
-use Rattle.machine.specs.Keeps.{under-descended, under-split-root, leaves_kept}
 use Rattle.machine.specs.Order.{lv}
 use Rattle.machine.specs.Housekeeping.{lvs}
 use Rattle.machine.specs.Totals.{total-append}
 use Rattle.machine.specs.Looks.{shaped-le}
 use Rattle.machine.specs.Focus.{least_in, Whole, whole-least, Lens, shaped-plug, nodes_around, nodes-plug, before, behind, leaves-plug, keeper-room, least-in-hole}
 use Rattle.machine.specs.Alike.{alike-latch, alike-son, on-desc-formed, unlatch-formed, goes-formed, finished-formed}
-use Rattle.machine.specs.Fanout.{halves-seg, halves-nodes, mended-seg, mended-many, mended-nodes, pair-hit, put-shaped, put-many, put-sum, taken-shaped, taken-many, taken-sum}
-
--- ---- bounds in order
+use Rattle.machine.specs.Fanout.{mended-seg, mended-many, mended-nodes, pair-hit, put-shaped, put-many, put-sum, taken-shaped, taken-many, taken-sum}
 
 -- ---- the records of a tree
 
@@ -49,7 +46,7 @@ weight-plug {k} {h} c u =
       total-append m l (behind c),
     )
 
-weight-same : (h : ℕ) (t : Tree h) (j : ℕ) (u : Tree j) (m n : ℕ) → lv j u ≡ lv h t → m + nodes j u ≡ n + nodes h t → m + weight j u ≡ n + weight h t
+pub weight-same : (h : ℕ) (t : Tree h) (j : ℕ) (u : Tree j) (m n : ℕ) → lv j u ≡ lv h t → m + nodes j u ≡ n + nodes h t → m + weight j u ≡ n + weight h t
 weight-same h t j u m n e k = omega (arith, k, ap (length {A = Desc}) e, ap members_many e)
 
 -- A lowest node's records.
@@ -71,10 +68,10 @@ weight-lowest u = omega (arith, none u.sons, many u.sons, members u.sons)
 
 -- ---- another tree in the state
 
-abbrev root_weight : Root → ℕ
+abbrev pub root_weight : Root → ℕ
 root_weight r = weight (suc r.height) r.node
 
-abbrev RootShaped : Root → Type 0
+abbrev pub RootShaped : Root → Type 0
 RootShaped r = Shaped (suc r.height) 1 0 top r.node
 
 -- What the tree gains in records, the free ones lose.
@@ -129,7 +126,7 @@ left-shaped s F = go s.root.height s.root.node F.shaped
     go zero t S = (S, omega arith)
     go (suc h) t S = lone-shaped h t t.sons refl S
 
-whole-formed : (p : ℕ) (s : State) → Formed s → Formed (whole_root p s)
+pub whole-formed : (p : ℕ) (s : State) → Formed s → Formed (whole_root p s)
 unfolding leaves
 whole-formed p s F =
     let L = left-shaped s F in
@@ -137,54 +134,27 @@ whole-formed p s F =
     let A = alike-latch r.height (latch_word p) r.node in
     root-formed (entered (latch_word p) r) (s.free + root_gain s) s F (A.shape 1 0 top L.0) (omega (arith, L.1, A.nodes_same))
 
-halved-formed : (p x : ℕ) (s : State) → Formed s → root_splits p s ≡ true → 2 ≤ s.free + root_gain s → Formed (halved_root p x s)
-unfolding Shaped nodes halves
-halved-formed p x s F full enough =
-    let L = left-shaped s F in
-    let r = root_left s in
-    let h = r.height in
-    let w = latch_word p in
-    let r' = split_root w x r in
-    let eight = (fills-is p h r.node full).1 in
-    root-formed r' (s.free + root_gain s - 2) s F
-    (omega arith, omega arith, tt, halves-seg w x h 1 0 top r.node eight L.0)
-    (omega (
-      arith,
-      L.1,
-      enough,
-      weight-same (suc h) r.node (suc (suc h)) r'.node 0 2
-          (leaves_kept (suc h) r.node (suc (suc h)) r'.node (under-split-root (λ d. d ∷ []) w x r)) (omega (arith, halves-nodes w x h top r.node)),
-    ))
-
-pub enter-formed : (p : ℕ) (r : Request) (x : ℕ) (s : State) → Sound s → root_need p s ≤ s.free → x ≤ top
-    → Formed (goes_on p r (at x) (cond (root_splits p s) (halved_root p x s) (whole_root p s))).next
-enter-formed p r x s S need le = go (root_splits p s) refl
-  where
-    go : (c : Bool) → root_splits p s ≡ c → Formed (goes_on p r (at x) (cond c (halved_root p x s) (whole_root p s))).next
-    go true e = goes-formed p r (at x) (halved_root p x s) (halved-formed p x s (formed-of S) e (omega (arith, rw e at need)))
-    go false e = goes-formed p r (at x) (whole_root p s) (whole-formed p s (formed-of S))
-
 -- ---- one level down
 
 -- The parent's sons after the step: the shape, and the nodes gained and given back.
-record Fine (h least lo hi : ℕ) (es fs : Sons (suc h)) (gain need : ℕ) : Type 0 where
-  shaped : Shaped (suc (suc h)) least lo hi (node 0 fs)
-  counted : sum_e (nodes (suc h)) fs + gain ≡ sum_e (nodes (suc h)) es + need
+pub record Fine (h least lo hi : ℕ) (es fs : Sons (suc h)) (gain need : ℕ) : Type 0 where
+  pub shaped : Shaped (suc (suc h)) least lo hi (node 0 fs)
+  pub counted : sum_e (nodes (suc h)) fs + gain ≡ sum_e (nodes (suc h)) es + need
 
 module _ (p x h : ℕ) (u : Tree (suc (suc h))) (least lo hi : ℕ) (S : Shaped (suc (suc h)) least lo hi u) (from : lo ≤ x) (upto : x ≤ hi) where
-  abbrev Q : ℕ → ℕ → Tree (suc h) → Type 0
+  abbrev pub Q : ℕ → ℕ → Tree (suc h) → Type 0
   Q = Shaped (suc h) 3
 
-  abbrev w : ℕ
+  abbrev pub w : ℕ
   w = latch_word p
 
-  plain-fine : Fine h least lo hi u.sons (onp x (λ a b. (node w a.sons, b) ∷ []) u.sons) 0 0
+  pub plain-fine : Fine h least lo hi u.sons (onp x (λ a b. (node w a.sons, b) ∷ []) u.sons) 0 0
   unfolding nodes
   plain-fine = let A = alike-son (suc h) 0 x (λ a. node w a.sons) (alike-latch h w) u in
       record { shaped = A.shape least lo hi S; counted = omega (arith, A.nodes_same) }
 
   -- The sons between pre and post become fresh.
-  sons-shaped : (pre old fresh post : Sons (suc h)) (m n : ℕ) → u.sons ≡ pre ++ (old ++ post) → Seg Q lo m pre → Seg Q m n fresh → Seg Q n (suc hi) post
+  pub sons-shaped : (pre old fresh post : Sons (suc h)) (m n : ℕ) → u.sons ≡ pre ++ (old ++ post) → Seg Q lo m pre → Seg Q m n fresh → Seg Q n (suc hi) post
       → least + length old ≤ sons_of u + length fresh → sons_of u + length fresh ≤ 8 + length old → Shaped (suc (suc h)) least lo hi (node 0 (pre ++ (fresh ++ post)))
   unfolding Shaped
   sons-shaped pre old fresh post m n e a b c le ge =
@@ -198,29 +168,13 @@ module _ (p x h : ℕ) (u : Tree (suc (suc h))) (least lo hi : ℕ) (S : Shaped 
         seg-append Q lo m (suc hi) pre (fresh ++ post) a (seg-append Q m n (suc hi) fresh post b c),
       )
 
-  sons-sum : (pre old fresh post : Sons (suc h)) → u.sons ≡ pre ++ (old ++ post)
+  pub sons-sum : (pre old fresh post : Sons (suc h)) → u.sons ≡ pre ++ (old ++ post)
       → sum_e (nodes (suc h)) (pre ++ (fresh ++ post)) + sum_e (nodes (suc h)) old ≡ sum_e (nodes (suc h)) u.sons + sum_e (nodes (suc h)) fresh
   sons-sum pre old fresh post e =
       let f = nodes (suc h) in
       omega (arith, ap (sum_e f) e, sum_e-append f pre (old ++ post), sum_e-append f old post, sum_e-append f pre (fresh ++ post), sum_e-append f fresh post)
 
-  split-fine : sons_of u ≤ 7 → sons_of (son-at x h u.sons) ≡ 8 → Fine h least lo hi u.sons (onp x (halves w x h) u.sons) 0 1
-  unfolding Shaped halves
-  split-fine fit eight =
-      let H = hit Q x lo (suc hi) u.sons S.3 from (omega (arith, upto)) in
-      let old : Sons (suc h) = (H.a, H.u) ∷ [] in
-      let fresh = halves w x h H.a H.u in
-      let is : onp x (halves w x h) u.sons ≡ H.pre ++ (fresh ++ H.post) = ap (onp x (halves w x h)) H.eq ∙ onp-hit x (halves w x h) H.pre H.a H.u H.post H.below H.upto in
-      let son : son-at x h u.sons ≡ H.a = ap (pick x (node 0 []) same) H.eq ∙ pick-hit x (node 0 []) same H.pre H.a H.u H.post H.below H.upto in
-      let eight' : sons_of H.a ≡ 8 = sym (ap (λ t. sons_of t) son) ∙ eight in
-      record {
-        shaped = subst (λ l. Shaped (suc (suc h)) least lo hi (node 0 l)) (sym is)
-            (sons-shaped H.pre old fresh H.post H.m (suc H.u) H.eq H.spre (halves-seg w x h 3 H.m H.u H.a eight' H.here) H.spost
-            (omega (arith, S.0)) (omega (arith, fit)));
-        counted = omega (arith, ap (sum_e (nodes (suc h))) is, sons-sum H.pre old fresh H.post H.eq, halves-nodes w x h H.u H.a);
-      }
-
-  pair-fine : suc least ≤ sons_of u → 2 ≤ sons_of u → sons_of (son-at x h u.sons) ≡ 3
+  pub pair-fine : suc least ≤ sons_of u → 2 ≤ sons_of u → sons_of (son-at x h u.sons) ≡ 3
       → Fine h least lo hi u.sons (on_pair x (mended w x h) u.sons) (cond (pick_pair x false (joins x h) u.sons) 1 0) 0
   unfolding Shaped
   pair-fine enough two three =
@@ -244,28 +198,14 @@ module _ (p x h : ℕ) (u : Tree (suc (suc h))) (least lo hi : ℕ) (S : Shaped 
       at_most true = omega arith
       at_most false = omega arith
 
-  -- A session's node has room for one son more, the housekeeper's can do with one less.
-  stepped-fine : (¬ (p ≡ 0) → sons_of u ≤ 7) → (p ≡ 0 → (suc least ≤ sons_of u) × (2 ≤ sons_of u))
-      → Fine h least lo hi u.sons (stepped p x h (son-at x h u.sons) u.sons) (level_gain p x h u.sons (son-at x h u.sons)) (level_need p h (son-at x h u.sons))
-  unfolding stepped
-  stepped-fine fit enough = go (small p h (son-at x h u.sons)) refl (fills p h (son-at x h u.sons)) refl
-    where
-      go : (a : Bool) → small p h (son-at x h u.sons) ≡ a → (b : Bool) → fills p h (son-at x h u.sons) ≡ b
-          → Fine h least lo hi u.sons (cond a (on_pair x (mended (suc p) x h) u.sons) (cond b (onp x (halves (suc p) x h) u.sons) (onp x (λ a u. (node (suc p) a.sons, u) ∷ []) u.sons)))
-          (cond (a && pick_pair x false (joins x h) u.sons) 1 0) (cond b 1 0)
-      go true e true e' = absurd ((fills-is p h (son-at x h u.sons) e').0 (small_is p h (son-at x h u.sons) e).0)
-      go true e false e' = let k = small_is p h (son-at x h u.sons) e in let r = enough k.0 in pair-fine r.0 r.1 k.1
-      go false e true e' = let k = fills-is p h (son-at x h u.sons) e' in split-fine (fit k.0) k.1
-      go false e false e' = plain-fine
-
 -- ---- the room of a node
 
-session-room : (p x : ℕ) (s : State) (k : ℕ) (u : Tree (suc k)) → Focus p x s k u → ¬ (p ≡ 0) → sons_of u ≤ 7
+pub session-room : (p x : ℕ) (s : State) (k : ℕ) (u : Tree (suc k)) → Focus p x s k u → ¬ (p ≡ 0) → sons_of u ≤ 7
 session-room zero x s k u F n = absurd (n refl)
 session-room (suc p) x s k u F n = F.room
 
 -- The housekeeper's node can lose a son; the root, where it is the lowest node, if it has two.
-housekeeper-room : (x : ℕ) (s : State) (k : ℕ) (u : Tree (suc k)) (F : Focus 0 x s k u) → least_in F.around 1 ≤ sons_of u → (k ≡ 0 → Whole F.around → 2 ≤ sons_of u)
+pub housekeeper-room : (x : ℕ) (s : State) (k : ℕ) (u : Tree (suc k)) (F : Focus 0 x s k u) → least_in F.around 1 ≤ sons_of u → (k ≡ 0 → Whole F.around → 2 ≤ sons_of u)
     → (suc (least_in F.around 1) ≤ sons_of u) × (2 ≤ sons_of u)
 housekeeper-room x s k u F least two = go (keeper-room x s k u F)
   where
@@ -278,28 +218,6 @@ housekeeper-room x s k u F least two = go (keeper-room x s k u F)
     go (inr (w, inr ne)) = at-root w (omega (arith, ne, least, (least-in-hole F.around).0))
 
 -- ---- the steps below the root
-
-pub level-formed : (p : ℕ) (r : Request) (x : ℕ) (s : State) → Sound s → x ≤ top → (h : ℕ) (u : Tree (suc (suc h))) → Focus p x s (suc h) u
-    → level_need p h (son-at x h u.sons) ≤ s.free → Formed (goes_on p r (at x) (level_state p x s h u.sons (son-at x h u.sons))).next
-unfolding descended nodes
-level-formed p r x s S le h u F need =
-    let es = u.sons in
-    let t = son-at x h es in
-    let n = s.free + level_gain p x h es t - level_need p h t in
-    goes-formed p r (at x) (level_state p x s h es t)
-    (focus-formed p x s (suc h) u F (formed-of S) le (descended p x) n (λ lo hi from upto R.
-    let fine = stepped-fine p x h u (least_in F.around 1) lo hi R from upto (session-room p x s (suc h) u F) (room p F (least (least_in F.around 1) lo hi R)) in
-    let u' = descended p x (suc h) u in (
-      fine.shaped,
-      weight-same (suc (suc h)) u (suc (suc h)) u' n s.free (leaves_kept (suc (suc h)) u (suc (suc h)) u' (under-descended (λ d. d ∷ []) p x (suc h) u)) (omega (arith, fine.counted, need)),
-    )))
-  where
-    least : (l lo hi : ℕ) → Shaped (suc (suc h)) l lo hi u → l ≤ sons_of u
-    least l lo hi R = unfold Shaped in R.0
-
-    room : (q : ℕ) (G : Focus q x s (suc h) u) → least_in G.around 1 ≤ sons_of u → q ≡ 0 → (suc (least_in G.around 1) ≤ sons_of u) × (2 ≤ sons_of u)
-    room zero G l e = housekeeper-room x s (suc h) u G l (λ z. absurd (omega (arith, z)))
-    room (suc q) G l e = absurd (omega (arith, e))
 
 pub pin-formed : (p : ℕ) (r : Request) (g : Stage) (x : ℕ) (s : State) → Sound s → Formed (goes_on p r g (pinned_state p x s)).next
 pin-formed p r g x s S =

@@ -1,37 +1,33 @@
 -- Tidy's last step, answer and effect both ways (document 01, "Long locks": "Tidy removes the chosen descriptor exactly if ..").
-use Rattle.std.specs.Prelude.{◌≡◌, Bool, true, cond, not, List, [], ◌∷◌, ◌++◌, ◌↔◌, ◌⊎◌, leb, eqb}
+use Rattle.std.specs.Prelude.{◌≡◌, Bool, true, not, List, [], ◌∷◌, ◌++◌, ◌↔◌, ◌⊎◌, leb, eqb}
 use Rattle.std.proofs.Math.Path.{refl, sym, subst, ap}
 use Rattle.std.proofs.Common.{◌∙◌, ap₂, append_assoc, append-nil, arith}
 use Rattle.std.proofs.Math.Bool.{false}
 use Rattle.std.proofs.Math.Logic.{inl, inr}
-use Rattle.std.proofs.Math.Option.{Option, none, some, some-injective, none-ne-some}
+use Rattle.std.proofs.Math.Option.{none, some}
 use Prim.Native.Nat.{zero, suc, ◌+◌, ◌≤◌, ◌<◌, ℕ}
-use Rattle.std.proofs.Math.Decide.{dec_le}
 use Rattle.std.proofs.Math.ListN.{length, length-append}
 use Rattle.serial.specs.Serial.{true≢false}
 use Rattle.machine.specs.Logic.{eqb_yes, eqb_no, leb_yes, leb_no, either}
 use Rattle.machine.specs.Holders.{filter, latch_word}
 use Rattle.machine.specs.Tree.{onp, pick, flat, leaves, Below, onp-hit}
 use Rattle.machine.specs.Descent.{Sons, bound_of, on_last, node, sons_of, taken_out, on_latch, unlatched}
-use Rattle.machine.specs.State.{Desc, Tree, Request, State, Answer, ok, more, wait, refused, enter, change, take, done, Outcome, Stage, start, no_desc, same, or_none, session_of, stored, lowest_from, gap_below, desc_of, set_hand, on_session, on_tree, top, at}
-use Rattle.machine.specs.Steps.{guarded, goes_on, root_blockers, root_need, enter_step, level_blockers, level_need, level-step, son-at, unlatch, ended, unpin, pinned, finished, removable, on_lowest, tidied_state, tidy-step, lowest_step, stand_step, at_step, next_step, first_step, answer, settled}
-use Rattle.machine.specs.Calls.{call, put, put_checks, accepted, first_stage, tidy_from}
+use Rattle.machine.specs.State.{Desc, Tree, Request, State, Answer, ok, more, wait, refused, enter, change, take, done, Outcome, Stage, start, no_desc, same, or_none, session_of, gap_below, desc_of, set_hand, on_session, on_tree, top, at}
+use Rattle.machine.specs.Steps.{guarded, goes_on, root_blockers, root_need, enter_step, level_blockers, level_need, level-step, son-at, unlatch, ended, unpin, pinned, finished, on_lowest, tidied_state, tidy-step, lowest_step, stand_step, at_step, next_step, first_step, answer}
 use Rattle.machine.specs.Sound.{Sound, Stands, Room, stored_in}
 use Rattle.machine.specs.Context.{Ctx, hole, down, plug, Clear, Focus}
 use Rattle.machine.specs.InTheWay.{LowestFrom, At}
 use Rattle.machine.specs.Order.{In, in-wide, lv}
 use Rattle.machine.specs.Latched.{on-latch-plug}
 use Rattle.machine.specs.Groups.{Rises}
-use Rattle.machine.specs.Housekeeping.{lvs, Goes, removable-is, StoodAt, unlatch-leaves}
+use Rattle.machine.specs.Housekeeping.{lvs, Goes, StoodAt, unlatch-leaves}
 use Rattle.machine.specs.Lowest.{the-hit, key_is, taken_at, same-leaf}
 use Rattle.machine.specs.Keys.{Kept}
-use Rattle.machine.specs.Table.{with_hand, hand_put, session-same, ended-own, ended-other, hand-seat}
-use Rattle.machine.specs.Checks.{refusing-cases, keeper-code}
-use Rattle.machine.specs.Looks.{sound-ordered, ordered-rises, stored-most, stored-parts, stored-range, kept_of}
-use Rattle.machine.specs.Nearest.{Nearest, lowest-stored, nearest, lowest-here}
+use Rattle.machine.specs.Table.{with_hand, session-same, ended-own, ended-other, hand-seat}
+use Rattle.machine.specs.Checks.{keeper-code}
+use Rattle.machine.specs.Looks.{sound-ordered, stored-most, stored-parts, stored-range, kept_of}
 use Rattle.machine.specs.Descending.{stood, keeper-stored, keeper-pins}
 use Rattle.machine.specs.Conflicts.{focus_at, stood-at}
-use Rattle.machine.specs.Waits.{settled_says, settled-next}
 
 -- ---- what document 01 says
 
@@ -117,7 +113,7 @@ tidy-said f T = record {
 
 -- ---- lists
 
-prior-gap : (x from g : ℕ) (pre : List Desc) (c d : Desc) (B : List Desc) → In from x (pre ++ c ∷ []) → d.key ≡ x → gap_below x g (pre ++ c ∷ d ∷ B) ≡ c.gap
+pub prior-gap : (x from g : ℕ) (pre : List Desc) (c d : Desc) (B : List Desc) → In from x (pre ++ c ∷ []) → d.key ≡ x → gap_below x g (pre ++ c ∷ d ∷ B) ≡ c.gap
 unfolding gap_below
 prior-gap x from g [] c d B i e = rw (leb_yes (suc c.key) x i.0.1) (rw (leb_no (suc d.key) x (omega (arith, e))) refl)
 prior-gap x from g (a ∷ pre) c d B i e = rw (leb_yes (suc a.key) x i.0.1) (prior-gap x from a.gap pre c d B i.1 e)
@@ -126,7 +122,7 @@ rises-least : (lo e : ℕ) (A : List Desc) (d : Desc) (B : List Desc) → Rises 
 rises-least lo e [] d B r = r.0.0
 rises-least lo e (a ∷ A) d B r = omega (arith, r.0.0, rises-least (suc a.key) e A d B r.1)
 
-rises-low : (lo e : ℕ) (A : List Desc) (d : Desc) (B : List Desc) → Rises lo e (A ++ d ∷ B) → In lo d.key A
+pub rises-low : (lo e : ℕ) (A : List Desc) (d : Desc) (B : List Desc) → Rises lo e (A ++ d ∷ B) → In lo d.key A
 rises-low lo e [] d B r = tt
 rises-low lo e (a ∷ A) d B r = (
   (r.0.0, rises-least (suc a.key) e A d B r.1),
@@ -189,10 +185,10 @@ only-top w (down v pre c b post) u n l = absurd (n.0 l)
 -- ---- the step
 
 module _ (n : ℕ) (r : Request) (x : ℕ) (s : State) (S : Sound s) (e : (session_of 0 s).hand ≡ some r) (q : r.stage ≡ at x) (u : Tree 1) (A : At 0 x s 0 u) where
-  abbrev d : Desc
+  abbrev pub d : Desc
   d = pick x no_desc same u.sons
 
-  abbrev g : ℕ
+  abbrev pub g : ℕ
   g = gap_below x 0 (lvs s)
 
   F : Focus 0 x s 0 u
@@ -204,13 +200,13 @@ module _ (n : ℕ) (r : Request) (x : ℕ) (s : State) (S : Sound s) (e : (sessi
   there : stored_in x (lvs s) ≡ true
   there = keeper-stored s r x code_6 (subst (Stands 0 s r) q (S.standing 0 r e))
 
-  K : Kept x s
+  pub K : Kept x s
   K = kept_of x s S there
 
   G : StoodAt 0 x s 0 u
   G = stood 0 x s 0 u (sound-ordered S) (stored-most s (sound-ordered S) x there) F
 
-  d-is : d ≡ K.d
+  pub d-is : d ≡ K.d
   unfolding desc_of
   d-is = sym (ap or_none (same-leaf (latch_word 0) x (suc s.root.height) s.root.node u 0 (suc top) G)) ∙ K.desc
 
@@ -226,7 +222,7 @@ module _ (n : ℕ) (r : Request) (x : ℕ) (s : State) (S : Sound s) (e : (sessi
       at_zero (inr (inl h)) = n (sym K.key ∙ h)
       at_zero (inr (inr h)) = omega (arith, (stored-range 0 (suc x) (suc top) K.B K.high h).0)
 
-  goes-may : Goes g d → MayGo x (lvs s)
+  pub goes-may : Goes g d → MayGo x (lvs s)
   goes-may t = go K.A refl
     where
       go : (l : List Desc) → K.A ≡ l → MayGo x (lvs s)
@@ -251,33 +247,14 @@ module _ (n : ℕ) (r : Request) (x : ℕ) (s : State) (S : Sound s) (e : (sessi
             same_gap = t.same_gap ∙ w;
           }
 
-  may-goes : MayGo x (lvs s) → Goes g d
-  may-goes M =
-      let split : lvs s ≡ (M.before ++ M.prior ∷ []) ++ M.chosen ∷ M.behind = M.are ∙ sym (append_assoc M.before (M.prior ∷ []) (M.chosen ∷ M.behind)) in
-      let below : In 0 x (M.before ++ M.prior ∷ []) =
-      subst (λ k. In 0 k (M.before ++ M.prior ∷ [])) M.key_is
-      (rises-low 0 4294967296 (M.before ++ M.prior ∷ []) M.chosen M.behind (subst (Rises 0 4294967296) split (ordered-rises s (sound-ordered S)))) in
-      let same-one : M.chosen ≡ d = some-injective M.chosen d
-      (sym (lowest-here x 0 M.chosen M.key_is (M.before ++ M.prior ∷ []) M.behind below) ∙ sym (ap (lowest_from x) split) ∙ ap (lowest_from x) K.was
-      ∙ lowest-here x 0 K.d K.key K.A K.B K.low ∙ ap some (sym d-is)) in
-      let w : M.prior.gap ≡ g = sym (ap (gap_below x 0) M.are ∙ prior-gap x 0 0 M.before M.prior M.chosen M.behind below M.key_is) in
-      subst (Goes g) same-one (record {
-        not_zero = M.not_zero;
-        not_pinned = M.not_pinned;
-        no_members = M.no_members;
-        no_update = M.no_update;
-        same_locate = M.same_locate ∙ w;
-        same_gap = M.same_gap ∙ w;
-      })
-
   ended_at : (t : State) → ended 0 r t ≡ set_hand 0 none (unlatch 0 (at x) t)
   unfolding ended unpin
   ended_at t = ap (λ h. set_hand 0 none (unpin (pinned r h) (unlatch 0 h t))) q ∙ ap (λ l. set_hand 0 none (unpin l (unlatch 0 (at x) t))) (keeper-pins r x code_6)
 
-  abbrev after : State
+  abbrev pub after : State
   after = ended 0 r (tidied_state 0 x s)
 
-  after-stored : lvs after ≡ but_key x (lvs s)
+  pub after-stored : lvs after ≡ but_key x (lvs s)
   unfolding on_tree set_hand on_session
   after-stored =
       let P = taken_at (latch_word 0) x (suc s.root.height) s.root.node u 0 (suc top) G d-key in
@@ -313,7 +290,7 @@ module _ (n : ℕ) (r : Request) (x : ℕ) (s : State) (S : Sound s) (e : (sessi
           let n = length-append M.before (M.prior ∷ M.chosen ∷ M.behind) in
           omega (arith, n, ap length (sym M.are ∙ l))
 
-  removed : MayGo x (lvs s) → (fs : Sons 0) × LosesSon x u.sons fs × Leaves u fs 1 s after
+  pub removed : MayGo x (lvs s) → (fs : Sons 0) × LosesSon x u.sons fs × Leaves u fs 1 s after
   unfolding on_tree
   removed M =
       let H = the-hit (latch_word 0) x (suc s.root.height) s.root.node u 0 (suc top) G in
@@ -323,39 +300,13 @@ module _ (n : ℕ) (r : Request) (x : ℕ) (s : State) (S : Sound s) (e : (sessi
         leaves-ended (taken_out x) 1 (tidied_state 0 x s) refl refl refl refl refl,
       )
 
-  declined : Leaves u u.sons 0 s (ended 0 r s)
+  pub declined : Leaves u u.sons 0 s (ended 0 r s)
   unfolding on_tree
   declined = leaves-ended (λ es. es) 0 s (ap (λ y. record { height = s.root.height; node = y }) (F.is ∙ sym (F.changes (on_lowest (λ es. es))))) (omega arith) refl refl refl
 
-  step_is : next_step n 0 r s (at x) ≡ tidy-step 0 r x d s
+  pub step_is : next_step n 0 r s (at x) ≡ tidy-step 0 r x d s
   unfolding next_step at_step stand_step lowest_step
   step_is = F.answers _ (stand_step 0 r x s)
-
-  abbrev By : Outcome → Type 0
-  By o = Tidies x u s (λ ns. o.answer ≡ done ns) o.next
-
-  tidies : By (next_step n 0 r s (at x))
-  unfolding tidy-step finished stored
-  tidies = subst By (sym step_is) (go (removable g d) refl)
-    where
-      second : (i j : ℕ) → done (x ∷ i ∷ []) ≡ done (x ∷ j ∷ []) → i ≡ j
-      second i j h = cc
-
-      go : (c : Bool) → removable g d ≡ c → By (cond c (finished 0 r (x ∷ 1 ∷ []) (tidied_state 0 x s)) (finished 0 r (x ∷ 0 ∷ []) s))
-      go true i = let M = goes-may ((removable-is g d).0 i) in record {
-        removes = ((λ _. M), λ _. refl);
-        declines = ((λ h. absurd (omega (arith, second 1 0 h))), λ h. absurd (h M));
-        gone = removed;
-        stored_are = λ _. after-stored;
-        stays = λ h. absurd (h M);
-      }
-      go false i = let N : ¬ MayGo x (lvs s) = λ M. true≢false ((removable-is g d).1 (may-goes M)) i in record {
-        removes = ((λ h. absurd (omega (arith, second 0 1 h))), λ M. absurd (N M));
-        declines = ((λ _. N), λ _. refl);
-        gone = λ M. absurd (N M);
-        stored_are = λ M. absurd (N M);
-        stays = λ _. declined;
-      }
 
 -- ---- every step of the housekeeper
 
@@ -375,11 +326,11 @@ module _ (n : ℕ) (r : Request) (s : State) (S : Sound s) (e : (session_of 0 s)
   keeper-6 : r.code ≡ 6
   keeper-6 = keeper-code r.code (S.checked 0 r e).0
 
-  first_done : (first_step 0 r s).answer ≡ done (0 ∷ 0 ∷ [])
+  pub first_done : (first_step 0 r s).answer ≡ done (0 ∷ 0 ∷ [])
   unfolding first_step finished
   first_done = rw (eqb_no r.code 1 (λ z. omega (arith, z, keeper-6)), eqb_no r.code 2 (λ z. omega (arith, z, keeper-6)), leb_no r.code 4 (omega (arith, keeper-6))) refl
 
-  first-rests : r.stage ≡ start → Rests s (first_step 0 r s).next
+  pub first-rests : r.stage ≡ start → Rests s (first_step 0 r s).next
   unfolding first_step finished ended unpin pinned unlatch set_hand on_session
   first-rests i =
       let z : (first_step 0 r s).next ≡ ended 0 r s =
@@ -394,10 +345,10 @@ module _ (n : ℕ) (r : Request) (s : State) (S : Sound s) (e : (session_of 0 s)
         others_same = λ p n. ended-other 0 p r s n;
       })
 
-  abbrev Last : Stage → Type 0
+  abbrev pub Last : Stage → Type 0
   Last g = (g ≡ start) ⊎ ((x : ℕ) × (g ≡ at x) × ((u : Tree 1) × At 0 x s 0 u))
 
-  done-only : (g : Stage) → r.stage ≡ g → (ns : List ℕ) → (next_step n 0 r s g).answer ≡ done ns → Last g
+  pub done-only : (g : Stage) → r.stage ≡ g → (ns : List ℕ) → (next_step n 0 r s g).answer ≡ done ns → Last g
   unfolding next_step
   done-only start i ns h = inl refl
   done-only (enter x) i ns h = absurd (true≢false (ap is_done h) (unfold enter_step goes_on in (guard-not-done (root_blockers 0 s) (root_need 0 s) 0 r s _ refl)))
@@ -415,55 +366,3 @@ module _ (n : ℕ) (r : Request) (s : State) (S : Sound s) (e : (session_of 0 s)
           absurd (true≢false (ap is_done so) (ap (λ o. is_done o.answer) there ∙ no))
   done-only change i ns h = absurd (omega (arith, keeper-6, (subst (Stands 0 s r) i (S.standing 0 r e)).code_3_4.1))
   done-only (take x) i ns h = absurd (omega (arith, keeper-6, (subst (Stands 0 s r) i (S.standing 0 r e)).code_5))
-
-  abbrev out : Outcome
-  out = next_step n 0 r s r.stage
-
-  done-tidy : Tidy r s (λ ns. out.answer ≡ done ns) out.next
-  unfolding next_step
-  done-tidy = record {
-    none_chosen = λ i. (ap (λ g. (next_step n 0 r s g).answer) i ∙ first_done, subst (λ g. Rests s (next_step n 0 r s g).next) (sym i) (first-rests i));
-    last_step = λ x i u A. subst (λ g. Tidies x u s (λ ns. (next_step n 0 r s g).answer ≡ done ns) (next_step n 0 r s g).next) (sym i) (tidies n r x s S e i u A);
-    no_other = λ ns h. done-only r.stage refl ns h;
-  }
-
-  pub tidy : Tidy r s (λ ns. (settled s r.stage out).answer ≡ done ns) (settled s r.stage out).next
-  tidy = tidy-said (λ ns. let z = settled_says s r.stage out (done ns) refl in (z.1, z.0))
-      (subst (Tidy r s (λ ns. out.answer ≡ done ns)) (sym (settled-next s r.stage out)) done-tidy)
-
--- ---- the put of a tidy
-
-chooses : (f : ℕ) (s : State) → Sound s → Chooses f s (first_stage 6 f s)
-unfolding first_stage stored
-chooses f s S = go (lowest_from (suc f) (lvs s)) refl
-  where
-    from : (k : ℕ) → stored_in k (lvs s) ≡ true → suc f ≤ k → Nearest (suc f) (lvs s)
-    from = nearest (suc f) 0 4294967296 (lvs s) (ordered-rises s (sound-ordered S))
-
-    go : (o : Option Desc) → lowest_from (suc f) (lvs s) ≡ o → Chooses f s (tidy_from o)
-    go none i = none_above refl (λ y h. at_most y h (dec_le y f))
-      where
-        at_most : (y : ℕ) → stored_in y (lvs s) ≡ true → Dec (y ≤ f) → y ≤ f
-        at_most y h (yes l) = l
-        at_most y h (no n) = let N = from y h (omega (arith, n)) in absurd (none-ne-some N.d (sym i ∙ N.is))
-    go (some d) i =
-        let z = lowest-stored (suc f) (lvs s) d i in
-        let N = from d.key z.1 z.0 in
-        let k : N.d.key ≡ d.key = ap (λ c. c.key) (some-injective N.d d (sym N.is ∙ i)) in
-        chosen d.key refl (record { is_stored = z.1; from = z.0; lowest = λ y h l. omega (arith, k, N.least y h l) })
-
--- A tidy that is put is in hand, and has made its choice.
-pub put-chooses : (e f g : ℕ) (s : State) → Sound s → (call (put 0 6 e f g) s).answer ≡ ok
-    → (h : Stage) × ((session_of 0 (call (put 0 6 e f g) s).next).hand ≡ some (record { code = 6; entry = e; first = f; second = g; stage = h })) × Chooses f s h
-unfolding call accepted
-put-chooses e f g s S = refusing-cases
-    (λ o. o.answer ≡ ok → (h : Stage) × ((session_of 0 o.next).hand ≡ some (record { code = 6; entry = e; first = f; second = g; stage = h })) × Chooses f s h)
-    (put_checks 0 6 e f g s) s (answer ok (accepted 0 6 e f g s)) (λ n i. absurd (true≢false {b = true} refl (sym (ap is_ok i))))
-    (λ k i. (first_stage 6 f s, ap (λ x. x.hand) (hand_put 0 (some (record { code = 6; entry = e; first = f; second = g; stage = first_stage 6 f s })) s (omega (arith, S.seats))), chooses f s S))
-  where
-    is_ok : Answer → Bool
-    is_ok ok = true
-    is_ok more = false
-    is_ok (wait ps) = false
-    is_ok (done ns) = false
-    is_ok (refused n b) = false

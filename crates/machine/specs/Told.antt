@@ -27,7 +27,7 @@ use Rattle.machine.specs.Demand as D
 -- ---- hands
 
 -- What party q has in hand after the call is what is told.
-abbrev HandsTold : Call → List ℕ → Told → Outcome → Type 0
+abbrev pub HandsTold : Call → List ℕ → Told → Outcome → Type 0
 HandsTold c l t o = (q : ℕ) → D.hand_put (session_of q o.next).hand ≡ (tell_of (as_told c) o.answer l t).hands q
 
 module _ (s : State) (S : Sound s) (t : Told) (l : List ℕ) (h : (q : ℕ) → D.hand_put (session_of q s).hand ≡ t.hands q) where
@@ -36,30 +36,30 @@ module _ (s : State) (S : Sound s) (t : Told) (l : List ℕ) (h : (q : ℕ) → 
       → (q : ℕ) → D.hand_put (session_of q u).hand ≡ Serial.put t.hands p (D.hand_put v) q
   one-hand p u v e n = put-cases (λ q z. D.hand_put (session_of q u).hand ≡ z) t.hands p (D.hand_put v) (ap D.hand_put e) (λ q m. ap D.hand_put (n q m) ∙ h q)
 
-  format-hands : (m w : ℕ) → HandsTold (format m w) l t (call (format m w) s)
+  pub format-hands : (m w : ℕ) → HandsTold (format m w) l t (call (format m w) s)
   unfolding call
   format-hands m w = refusing-numbers (HandsTold (format m w) l t) (format_checks m w) s (answer ok (fresh m (records_for m w))) (h, tt)
       λ k q. ap (λ x. D.hand_put x.hand) (fresh-session m (records_for m w) q)
 
-  begin-hands : (p : ℕ) → HandsTold (begin p) l t (call (begin p) s)
+  pub begin-hands : (p : ℕ) → HandsTold (begin p) l t (call (begin p) s)
   unfolding call
   begin-hands p = refusing-numbers (HandsTold (begin p) l t) (begin_checks p s) s (answer ok (begins p s)) (h, (h, tt)) λ k.
       let was : (q : ℕ) → (session_of q (begins p s)).hand ≡ (session_of q s).hand = λ q. begins-kept (λ x. x.hand) (λ n x. refl) (λ n x. refl) p q s in
       one-hand p (begins p s) none (was p ∙ unbegun_hand S p (session-number p k.0).0 (session-unbegun p s k.1.0)) (λ q n. was q)
 
-  put-hands : (p c e f g : ℕ) → HandsTold (put p c e f g) l t (call (put p c e f g) s)
+  pub put-hands : (p c e f g : ℕ) → HandsTold (put p c e f g) l t (call (put p c e f g) s)
   unfolding call accepted
   put-hands p c e f g = refusing-numbers (HandsTold (put p c e f g) l t) (put_checks p c e f g s) s (answer ok (accepted p c e f g s)) (h, (h, (h, (h, (h, (h, (h, (h, tt)))))))) λ k.
       let r : Request = record { code = c; entry = e; first = f; second = g; stage = first_stage c f s } in
       one-hand p (set_hand p (some r) s) (some r) (ap (λ x. x.hand) (hand_put p (some r) s (party-seat p s S.seats (party-number p k.0)))) (λ q n. ap (λ x. x.hand) (hand-other p q (some r) s n))
 
-  commit-hands : (p : ℕ) → HandsTold (commit p) l t (call (commit p) s)
+  pub commit-hands : (p : ℕ) → HandsTold (commit p) l t (call (commit p) s)
   unfolding call commits
   commit-hands p = refusing-numbers (HandsTold (commit p) l t) (commit_checks p s) s (answer ok (commits p s)) (h, (h, (h, tt))) λ k.
       one-hand p (commits p s) none (ap (λ x. x.hand) (leave_own p _ (party-seat p s S.seats (session-number p k.0).1)))
       (λ q n. ap (λ x. x.hand) (leave-other p q _ n ∙ session-same s _ refl q))
 
-  abort-hands : (p : ℕ) → HandsTold (abort p) l t (call (abort p) s)
+  pub abort-hands : (p : ℕ) → HandsTold (abort p) l t (call (abort p) s)
   unfolding call aborts
   abort-hands p = refusing-numbers (HandsTold (abort p) l t) (abort_checks p s) s (answer ok (aborts p s)) (h, (h, tt)) λ k.
       let a = end_hand p (session_of p s).hand s in
@@ -70,12 +70,12 @@ module _ (s : State) (S : Sound s) (t : Told) (l : List ℕ) (h : (q : ℕ) → 
       (ap (λ x. x.hand) (leave_own p b (let z = party-seat p s S.seats (session-number p k.0).1 in omega arith)))
       (λ q n. ap (λ x. x.hand) (leave-other p q b n ∙ session-same a b e q ∙ end-other p q (session_of p s).hand s n))
 
-  ask-hands : (p : ℕ) → HandsTold (ask p) l t (call (ask p) s)
+  pub ask-hands : (p : ℕ) → HandsTold (ask p) l t (call (ask p) s)
   unfolding call asks
   ask-hands p = refusing-numbers (HandsTold (ask p) l t) (ask_checks p s) s (answer ok (asks p s)) (h, (h, (h, (h, tt)))) λ k q.
       ap D.hand_put (session-kept (λ x. x.hand) p as_asked s (λ x. refl) q) ∙ h q
 
-  recover-hands : HandsTold recover l t (call recover s)
+  pub recover-hands : HandsTold recover l t (call recover s)
   unfolding call
   recover-hands q = ap D.hand_put (recovered-hands s (recovers s) (recovered s S) q)
 
@@ -88,7 +88,7 @@ module _ (s : State) (S : Sound s) (t : Told) (l : List ℕ) (h : (q : ℕ) → 
       go (yes m) = subst (λ z. D.hand_put (session_of z u).hand ≡ t.hands z) m (ap D.hand_put e ∙ w ∙ h p)
       go (no m) = ap D.hand_put (n q m) ∙ h q
 
-  step-hands : (p n : ℕ) → HandsTold (step p n) l t (call (step p n) s)
+  pub step-hands : (p n : ℕ) → HandsTold (step p n) l t (call (step p n) s)
   unfolding call steps
   step-hands p n = refusing-numbers (HandsTold (step p n) l t) (step_checks p s) s (steps p n (session_of p s).hand s) (h, (h, (h, tt))) λ k. go (session_of p s).hand refl
     where
@@ -104,19 +104,9 @@ module _ (s : State) (S : Sound s) (t : Told) (l : List ℕ) (h : (q : ℕ) → 
       go none e = h
       go (some r) e = let o = settled s r.stage (next_step n p r s r.stage) in let d = step-handed p r s (hand-seat p r s e) e n in after r o o.answer e d.own d.others
 
-  pub call-hands : (c : Call) → HandsTold c l t (call c s)
-  call-hands (format m w) = format-hands m w
-  call-hands (begin p) = begin-hands p
-  call-hands (put p c e f g) = put-hands p c e f g
-  call-hands (step p n) = step-hands p n
-  call-hands (commit p) = commit-hands p
-  call-hands (abort p) = abort-hands p
-  call-hands (ask p) = ask-hands p
-  call-hands recover = recover-hands
-
 -- ---- who is asked
 
-abbrev MarksTold : Call → List ℕ → Told → Outcome → Type 0
+abbrev pub MarksTold : Call → List ℕ → Told → Outcome → Type 0
 MarksTold c l t o = (q : ℕ) → (session_of q o.next).asked ≡ (tell_of (as_told c) o.answer l t).asked q
 
 module _ (s : State) (S : Sound s) (t : Told) (l : List ℕ) (h : (q : ℕ) → (session_of q s).asked ≡ t.asked q) where
@@ -125,36 +115,36 @@ module _ (s : State) (S : Sound s) (t : Told) (l : List ℕ) (h : (q : ℕ) → 
       → (q : ℕ) → (session_of q u).asked ≡ Serial.put t.asked p b q
   one-mark p u b e n = put-cases (λ q z. (session_of q u).asked ≡ z) t.asked p b e (λ q m. ap (λ x. x.asked) (n q m) ∙ h q)
 
-  format-marks : (m w : ℕ) → MarksTold (format m w) l t (call (format m w) s)
+  pub format-marks : (m w : ℕ) → MarksTold (format m w) l t (call (format m w) s)
   unfolding call
   format-marks m w = refusing-numbers (MarksTold (format m w) l t) (format_checks m w) s (answer ok (fresh m (records_for m w))) (h, tt) λ k q. ap (λ x. x.asked) (fresh-session m (records_for m w) q)
 
-  begin-marks : (p : ℕ) → MarksTold (begin p) l t (call (begin p) s)
+  pub begin-marks : (p : ℕ) → MarksTold (begin p) l t (call (begin p) s)
   unfolding call begins
   begin-marks p = refusing-numbers (MarksTold (begin p) l t) (begin_checks p s) s (answer ok (begins p s)) (h, (h, tt)) λ k q.
       begins-kept (λ x. x.asked) (λ n x. refl) (λ n x. refl) p q s ∙ h q
 
-  put-marks : (p c e f g : ℕ) → MarksTold (put p c e f g) l t (call (put p c e f g) s)
+  pub put-marks : (p c e f g : ℕ) → MarksTold (put p c e f g) l t (call (put p c e f g) s)
   unfolding call accepted
   put-marks p c e f g = refusing-numbers (MarksTold (put p c e f g) l t) (put_checks p c e f g s) s (answer ok (accepted p c e f g s)) (h, (h, (h, (h, (h, (h, (h, (h, tt)))))))) λ k q.
       hand-marks p q (some (record { code = c; entry = e; first = f; second = g; stage = first_stage c f s })) s ∙ h q
 
-  commit-marks : (p : ℕ) → MarksTold (commit p) l t (call (commit p) s)
+  pub commit-marks : (p : ℕ) → MarksTold (commit p) l t (call (commit p) s)
   unfolding call commits
   commit-marks p = refusing-numbers (MarksTold (commit p) l t) (commit_checks p s) s (answer ok (commits p s)) (h, (h, (h, tt))) λ k.
       one-mark p (commits p s) false (ap (λ x. x.asked) (leave_own p _ (party-seat p s S.seats (session-number p k.0).1))) (λ q n. leave-other p q _ n ∙ session-same s _ refl q)
 
-  abort-marks : (p : ℕ) → MarksTold (abort p) l t (call (abort p) s)
+  pub abort-marks : (p : ℕ) → MarksTold (abort p) l t (call (abort p) s)
   unfolding call
   abort-marks p = refusing-numbers (MarksTold (abort p) l t) (abort_checks p s) s (answer ok (aborts p s)) (h, (h, tt)) λ k.
       one-mark p (aborts p s) false (ap (λ x. x.asked) (abort-own p s (party-seat p s S.seats (session-number p k.0).1))) (λ q n. abort-other p q s n)
 
-  ask-marks : (p : ℕ) → MarksTold (ask p) l t (call (ask p) s)
+  pub ask-marks : (p : ℕ) → MarksTold (ask p) l t (call (ask p) s)
   unfolding call asks
   ask-marks p = refusing-numbers (MarksTold (ask p) l t) (ask_checks p s) s (answer ok (asks p s)) (h, (h, (h, (h, tt)))) λ k.
       one-mark p (asks p s) true (ap (λ x. x.asked) (session-put p as_asked s (party-seat p s S.seats (session-number p k.0).1))) (λ q n. session-other p q as_asked s n)
 
-  step-marks : (p n : ℕ) → MarksTold (step p n) l t (call (step p n) s)
+  pub step-marks : (p n : ℕ) → MarksTold (step p n) l t (call (step p n) s)
   unfolding call steps
   step-marks p n = refusing-numbers (MarksTold (step p n) l t) (step_checks p s) s (steps p n (session_of p s).hand s) (h, (h, (h, tt))) λ k. go (session_of p s).hand refl
     where
@@ -169,16 +159,6 @@ module _ (s : State) (S : Sound s) (t : Told) (l : List ℕ) (h : (q : ℕ) → 
       go none e = h
       go (some r) e = λ q. ap (λ x. x.2) ((step-handed p r s (hand-seat p r s e) e n).tenures q) ∙ h q ∙ same (settled s r.stage (next_step n p r s r.stage)).answer q
 
-  recover-marks : MarksTold recover l t (call recover s)
+  pub recover-marks : MarksTold recover l t (call recover s)
   unfolding call
   recover-marks q = recovered-asked s (recovers s) (recovered s S) q ∙ h q
-
-  pub call-marks : (c : Call) → MarksTold c l t (call c s)
-  call-marks (format m w) = format-marks m w
-  call-marks (begin p) = begin-marks p
-  call-marks (put p c e f g) = put-marks p c e f g
-  call-marks (step p n) = step-marks p n
-  call-marks (commit p) = commit-marks p
-  call-marks (abort p) = abort-marks p
-  call-marks (ask p) = ask-marks p
-  call-marks recover = recover-marks

@@ -8,4 +8,3 @@
 // numbers, and over every list of calls the numbers stand in the order of begins). The crate `cases` has worked examples.
 // Rests on: `serial` for the logical model and the serial-run theorem, `locks` for the bits of holders words, `words` for how many records a store has.
 #![tactic(auto)]
-

@@ -7,4 +7,3 @@
 // (Grouping).
 // It rests on `machine` for states and on the crates of record kinds for what a record's words say.
 #![tactic(auto)]
-

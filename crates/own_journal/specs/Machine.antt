@@ -15,7 +15,8 @@ use Rattle.machine.specs.Checks.{refusing-cases, session-number, session-begun}
 use Rattle.machine.specs.Fresh.{fresh-session}
 use Rattle.machine.specs.Ending.{fresh-sound}
 use Rattle.machine.specs.Demand.{Lent, Tells, call_of, Performs, machine, as_put, hand_put, fresh-formatted}
-use Rattle.machine.specs.Demand3.{machine-laws, fresh_lent, fresh-known}
+use Rattle.machine.specs.Demand3.{fresh_lent, fresh-known}
+use Rattle.machine.proofs.Demand3.{machine-laws}
 use Rattle.journal_lines.specs.Journal.{proper}
 use Rattle.own_journal.specs.Diary.{request_line}
 use Rattle.own_journal.specs.Own.{Careful, JournalAccepted, own-journal}

@@ -14,7 +14,8 @@ use Rattle.serial.specs.Model as R
 use Rattle.serial.specs.Footprints.{store}
 use Rattle.serial.specs.Locks.{Table, Strict}
 use Rattle.serial.specs.LockMachine.{Formatted}
-use Rattle.serial.specs.Calls.{Call, Answer, Turn, Asked, Told, nothing, tell, told, tell_ok, tell_answer, tell_done, tell_refused, take_in_hand, without, finished, fed, number_of, answer_of, ends_request, Machine, Run, Knows, Laws, demand-3}
+use Rattle.serial.specs.Calls.{Call, Answer, Turn, Asked, Told, nothing, tell, told, tell_ok, tell_answer, tell_done, tell_refused, take_in_hand, without, finished, fed, number_of, answer_of, ends_request, Machine, Run, Knows, Laws}
+use Rattle.serial.proofs.Calls.{demand-3}
 use Rattle.serial.specs.Calls as C
 use Rattle.serial.specs.Codes.{two_by_two, two-by-two-words}
 use Rattle.machine.specs.Logic.{both, eqb_yes, eqb_no, eqb_is}

@@ -5,4 +5,3 @@
 // Machine that the machine is such a store; Example a run of it with its file.
 // Rests on: `serial` for calls, histories and demand 3, `machine` for the checks and the example, `journal_reader` and `journal_lines` for the verdict.
 #![tactic(auto)]
-

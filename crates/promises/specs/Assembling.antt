@@ -8,7 +8,7 @@ use Rattle.serial.specs.Calls as C
 use Rattle.machine.specs.State.{Outcome, refused}
 use Rattle.machine.specs.Steps.{answer}
 use Rattle.machine.specs.Calls.{call}
-use Rattle.machine.specs.Keeping.{keeps}
+use Rattle.machine.proofs.Keeping.{keeps}
 use Rattle.machine.specs.Demand.{call_of, Tells, list_after}
 use Rattle.machine.specs.Sound as S
 use Rattle.meaning.specs.Reading.{meaning}

@@ -13,19 +13,26 @@ use Rattle.machine.specs.State.{State, Stage, start, change, take, Request, Answ
 use Rattle.machine.specs.Logic.{eqb_is}
 use Rattle.machine.specs.Steps.{next_step, named, settled}
 use Rattle.machine.specs.InTheWay.{LowestFrom, InTheWay, Named}
-use Rattle.machine.specs.Conflicts.{blockers-exactly, entry-meets, change-meets, take_meets}
-use Rattle.machine.specs.Naming.{whom-named, named-one}
-use Rattle.machine.specs.Tidying.{Chooses, put-chooses, Tidy, tidy, tidy-said}
+use Rattle.machine.specs.Conflicts.{entry-meets, change-meets, take_meets}
+use Rattle.machine.proofs.Conflicts.{blockers-exactly}
+use Rattle.machine.specs.Naming.{named-one}
+use Rattle.machine.proofs.Naming.{whom-named}
+use Rattle.machine.specs.Tidying.{Chooses, Tidy, tidy-said}
+use Rattle.machine.proofs.Tidying.{put-chooses, tidy}
 use Rattle.machine.specs.Calls.{Call, call}
 use Rattle.machine.specs.Begins.{Begun, begin-begun}
 use Rattle.machine.specs.View.{items, holders}
 use Rattle.machine.specs.Session.{req_of}
 use Rattle.machine.specs.Ledger.{next_ledger}
-use Rattle.machine.specs.Answers.{Logical, Untouched, AsModel, answers-as-model, leaves-logical, may_change, TooShort}
-use Rattle.machine.specs.Held.{ledger-step, descents-keep, unseen_step}
+use Rattle.machine.specs.Answers.{Logical, Untouched, AsModel, may_change, TooShort}
+use Rattle.machine.proofs.Answers.{answers-as-model, leaves-logical}
+use Rattle.machine.specs.Held.{unseen_step}
+use Rattle.machine.proofs.Held.{ledger-step, descents-keep}
 use Rattle.machine.specs.Waits.{WaitsFor, step_blockers, step_waits, waiting, only_named, named_of, named-member, whom, settled-waits}
-use Rattle.machine.specs.Forward.{Ahead, Onward, step-forward}
-use Rattle.machine.specs.Needs.{step_needs, step-11, AtSecond, step-12}
+use Rattle.machine.specs.Forward.{Ahead, Onward}
+use Rattle.machine.proofs.Forward.{step-forward}
+use Rattle.machine.specs.Needs.{step_needs, AtSecond}
+use Rattle.machine.proofs.Needs.{step-11, step-12}
 use Rattle.machine.specs.Demand.{call_of, Tells, told-done, told-refused}
 use Rattle.meaning.specs.Reading.{meaning}
 use Rattle.meaning.specs.Sound.{Sound}

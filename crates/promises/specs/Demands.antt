@@ -5,12 +5,13 @@ use Rattle.std.proofs.Math.Logic.{inl, inr}
 use Rattle.sessions.specs.declared.Session.{Session}
 use Rattle.serial.specs.Locks.{lock_rule, lock-rule-strict}
 use Rattle.serial.specs.LockMachine.{Formatted}
-use Rattle.serial.specs.Calls.{Turn, Told, nothing, tell, told, Machine, Run, Demand3, Knows, Made, Anew, Laws, demand-3, calls-made}
+use Rattle.serial.specs.Calls.{Turn, Told, nothing, tell, told, Machine, Run, Demand3, Knows, Made, Anew, Laws, calls-made}
+use Rattle.serial.proofs.Calls.{demand-3}
 use Rattle.serial.specs.Calls as C
 use Rattle.machine.specs.State.{session_of, fresh}
 use Rattle.machine.specs.View.{view}
 use Rattle.machine.specs.Demand.{Lent, Performs, machine, hand_put, fresh-formatted}
-use Rattle.machine.specs.Demand3.{machine-laws}
+use Rattle.machine.proofs.Demand3.{machine-laws}
 use Rattle.machine.specs.Fresh.{fresh-session}
 use Rattle.machine.specs.Sound as S
 use Rattle.meaning.specs.Reading.{meaning}

@@ -12,7 +12,8 @@ use Rattle.machine.specs.Calls.{records_for}
 use Rattle.machine.specs.Sound as S
 use Rattle.machine.specs.View.{holders}
 use Rattle.machine.specs.Ledger.{Ledger, no_locks, ledger_after}
-use Rattle.machine.specs.Held.{calls_on, ledger-run, Lasts, LocateDone, located-held}
+use Rattle.machine.specs.Held.{calls_on, Lasts, LocateDone}
+use Rattle.machine.proofs.Held.{ledger-run, located-held}
 use Rattle.machine.specs.Demand.{machine, fresh-formatted}
 use Rattle.meaning.specs.Reading.{meaning}
 use Rattle.meaning.specs.Sound.{Sound}

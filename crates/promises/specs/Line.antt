@@ -1,30 +1,24 @@
 -- The order of begins of the words over every list of calls: read off calls and answers alone, the begun sessions stand in a line, the one that began first in
 -- front (serial, specs/Line). A session's record is begun exactly if the session stands in it, and of two of them the one with the lower number stands earlier.
-use Rattle.std.specs.Prelude.{◌≡◌, refl, Bool, true, false, not, List, [], ◌⊎◌, ℕ, zero, suc, ◌≤◌, ◌<◌, eqb, length}
-use Rattle.std.proofs.Common.{sym, ap, subst, ◌∙◌, inl, inr, arith}
+use Rattle.std.specs.Prelude.{◌≡◌, Bool, true, false, not, List, ◌⊎◌, ℕ, zero, suc, ◌≤◌, ◌<◌, eqb}
+use Rattle.std.proofs.Common.{ap, ◌∙◌, inl, inr, arith}
 use Rattle.sessions.specs.declared.Session.{Session}
 use Rattle.sessions.specs.Sessions.{session_at}
 use Rattle.serial.specs.Serial.{true≢false, In}
-use Rattle.serial.specs.Calls.{Turn, Run, nothing}
+use Rattle.serial.specs.Calls.{Turn, Run}
 use Rattle.serial.specs.Calls as C
-use Rattle.serial.specs.Line.{line, Before}
+use Rattle.serial.specs.Line.{Before}
 use Rattle.machine.specs.Logic.{eqb_yes, eqb_no}
 use Rattle.machine.specs.Holders.{width}
 use Rattle.machine.specs.State.{State, Stage, start, enter, at, change, take, Request, session_of}
-use Rattle.machine.specs.Calls.{records_for}
 use Rattle.machine.specs.InTheWay.{LongLock, ShortLock}
 use Rattle.machine.specs.Sound as M
 use Rattle.machine.specs.Looks.{begun-party}
-use Rattle.machine.specs.Line.{Lined, line-run, fresh-lined}
+use Rattle.machine.specs.Line.{Lined}
 use Rattle.meaning.specs.Reading.{meaning}
 use Rattle.meaning.specs.Sound.{Sound}
 use Rattle.meaning.specs.Table.{session_is, table-many}
-use Rattle.layout.specs.Asked.{request_in}
-use Rattle.promises.specs.Relations.{Formats, Calls}
-use Rattle.promises.specs.Demand1.{refusal_of}
-use Rattle.promises.specs.Demand2.{demand-2}
-use Rattle.promises.specs.Demands.{Lending, Returns, words, known, runs-performed}
-use Rattle.promises.specs.Words.{formatted-known}
+use Rattle.promises.specs.Demands.{Lending, Returns, words}
 
 -- ---- a line, and the words of a table
 
@@ -69,22 +63,10 @@ unfolding Returns
 run_sound S C.stop = S
 run_sound S (C.next d r) = run_sound (d S).sound r
 
-format-lined : (m : ℕ) (s s' : List ℕ) (t t' : List Session) → Formats m s t C.ok s' t' → (ks : List Turn) (y : Lending) → Run words (record { store = s'; table = t' }) ks y
-    → Lined (line nothing [] ks) (meaning y.store y.table)
-format-lined m s s' t t' F ks y run =
-    let S = (F.accepts refl).0 in
-    line-run (runs-performed S run) nothing (known nothing (record { store = s'; table = t' }) (formatted-known m s s' t t' F))
-    [] (subst (Lined []) (sym (F.accepts refl).1) (fresh-lined m (records_for m (length s))))
-
-pub words-line : (m : ℕ) (s s' : List ℕ) (t t' : List Session) → Formats m s t C.ok s' t' → (ks : List Turn) (y : Lending) → Run words (record { store = s'; table = t' }) ks y
-    → InLine (line nothing [] ks) y.table
-words-line m s s' t t' F ks y run =
-    lined-table y.store y.table (run_sound (F.accepts refl).0 run) (line nothing [] ks) (format-lined m s s' t t' F ks y run)
-
 -- ---- whom a wait names, over lists of calls
 
 -- A step that asks for a long lock asks for no latch.
-long-asked : (p : ℕ) (r : Request) (s : State) (g : Stage) (o q : ℕ) → LongLock r s g o → LongLock r s g q ⊎ ShortLock p s g q → LongLock r s g q
+pub long-asked : (p : ℕ) (r : Request) (s : State) (g : Stage) (o q : ℕ) → LongLock r s g o → LongLock r s g q ⊎ ShortLock p s g q → LongLock r s g q
 long-asked p r s g o q L (inl l) = l
 long-asked p r s start o q L (inr l) = absurd l
 long-asked p r s (enter x) o q L (inr l) = absurd L.asks
@@ -93,16 +75,5 @@ long-asked p r s change o q L (inr l) = absurd l
 long-asked p r s (take x) o q L (inr l) = absurd l
 
 -- Who holds is begun.
-long-begun : {s : State} → M.Sound s → (r : Request) (g : Stage) (q : ℕ) → LongLock r s g q → (session_of q s).begun ≡ true
+pub long-begun : {s : State} → M.Sound s → (r : Request) (g : Stage) (q : ℕ) → LongLock r s g q → (session_of q s).begun ≡ true
 long-begun S r g q l = S.only_begun l.kind l.held q l.what l.holding
-
--- After an accepted format and any list of calls: of the sessions whose long locks are in the way of a step, a wait names the one that stands first in the line.
-pub wait-in-line : (m : ℕ) (s s' : List ℕ) (t t' : List Session) → Formats m s t C.ok s' t' → (ks : List Turn) (y : Lending) → Run words (record { store = s'; table = t' }) ks y
-    → (p q : ℕ) (l l' s'' : List ℕ) (t'' : List Session) → Calls (C.step p l) y.store y.table (C.wait q) l' s'' t'' → refusal_of (C.step p l) y.store y.table ≡ 0
-    → let r = request_in (session_at y.table p) in (o : ℕ) → ¬ (o ≡ p) → ¬ (o ≡ q) → LongLock r (meaning y.store y.table) r.stage o → Before q o (line nothing [] ks)
-wait-in-line m s s' t t' F ks y run p q l l' s'' t'' P z o np nq L =
-    let S = run_sound (F.accepts refl).0 run in
-    let r = request_in (session_at y.table p) in
-    let N = (demand-2 p l y.store y.table (C.wait q) l' s'' t'' P S z).longest q refl in
-    let I = long-asked p r (meaning y.store y.table) r.stage o q L N.in_the_way.lock in
-    (format-lined m s s' t t' F ks y run).before q o (long-begun S.state r r.stage q I) (long-begun S.state r r.stage o L) (N.began_first o np L nq)

@@ -52,15 +52,17 @@ use Rattle.walking.specs.PairMoves.{level-next}
 use Rattle.walking.specs.Readies.{level-ready}
 use Rattle.arriving.specs.Arriving.{pred_of, pin_step, made_step, full_step, make_step, gone_step, left_step, tidy_step, session_step, lowest_step_of}
 use Rattle.arriving.specs.Ready.{LowestReady}
-use Rattle.arriving.specs.Moving.{lowest-moves}
+use Rattle.arriving.proofs.Moving.{lowest-moves}
 use Rattle.arriving.specs.Readiness.{lowest-ready}
 use Rattle.changing.specs.Changing.{change_blocker, keep_step, add_step, refuse_step, room_step, insert_step, remove_step, code_step, change_at, change_step, ChangeReady}
 use Rattle.changing.specs.Changing as G
-use Rattle.changing.specs.Rows.{change-moves, in-change}
+use Rattle.changing.specs.Rows.{in-change}
+use Rattle.changing.proofs.Rows.{change-moves}
 use Rattle.changing.specs.Ready.{change-ready}
 use Rattle.taking.specs.Taking.{in_way_of, found_in, pass_step, done_step, short_step, last_step, free_step, take_step_of, take_written, over, TakeReady}
 use Rattle.taking.specs.Taking as K
-use Rattle.taking.specs.Moves.{take-moves, take-list, take_next}
+use Rattle.taking.specs.Moves.{take-moves, take_next}
+use Rattle.taking.proofs.Moves.{take-list}
 use Rattle.taking.specs.Ready.{take-ready}
 use Rattle.members.specs.Members.{unpin_at}
 use Rattle.endings.specs.Table.{idled}

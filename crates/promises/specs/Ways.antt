@@ -28,11 +28,13 @@ use Rattle.leaving.specs.Renumbered.{renumbered-only, renumbered-unbegun}
 use Rattle.leaving.specs.Begun.{begin-becomes}
 use Rattle.leaving.specs.AskRow.{ask-becomes}
 use Rattle.leaving.specs.Asking.{put-becomes, put-ready}
-use Rattle.leaving.specs.Commit.{commit-becomes, commit-ready}
+use Rattle.leaving.specs.Commit.{commit-ready}
+use Rattle.leaving.proofs.Commit.{commit-becomes}
 use Rattle.leaving.specs.FreshRow.{fresh_table, fresh-room, format-becomes}
 use Rattle.aborting.specs.Words.{abort_words, AbortReady}
-use Rattle.aborting.specs.Abort.{abort-becomes, abort-ready}
-use Rattle.aborting.specs.RecoverRow.{Kept, kept, recover_words, recover-becomes, recover-spares}
+use Rattle.aborting.proofs.Abort.{abort-becomes, abort-ready}
+use Rattle.aborting.specs.RecoverRow.{Kept, kept, recover_words, recover-spares}
+use Rattle.aborting.proofs.RecoverRow.{recover-becomes}
 use Rattle.recovering.specs.Recovering.{RecoverReady}
 use Rattle.endings.specs.Fresh.{fresh_store, Roomy}
 use Rattle.refusals.specs.Refusing.{first_of, begun-in, asked_in, hand_in, begin_list, put_list, commit_list, abort_list, ask_list, ask-refused, begin-refused, put_refused, commit-refused, abort_refused}
@@ -310,14 +312,6 @@ put-can s t f {m} {r} A i j = subst (λ w. PutReady s w r f) (sym i) (subst (λ 
 -- The list of put is read with M.
 pub put-zero : (s : List ℕ) (t : List Session) (p c e f g : ℕ) {m n : ℕ} → m ≡ M-of s → n ≡ first_of (put_list m t p c e f g) → n ≡ 0 → first_of (put_list (M-of s) t p c e f g) ≡ 0
 put-zero s t p c e f g i q z = sym (q ∙ ap (λ k. first_of (put_list k t p c e f g)) i) ∙ z
-
-pub commit-run : (s : List ℕ) (t : List Session) (p : ℕ) {m r : ℕ} {x y : Session} {s' : List ℕ} {u : List Session} → Sound s t → first_of (commit_list t p) ≡ 0
-    → m ≡ M-of s → r ≡ R-of s → x ≡ session_at t p → s' ≡ commit_words s m r p x.undo → y ≡ unbegun x → u ≡ set t p y → Serves (C.commit p) s t C.ok [] s' u
-commit-run s t p {m} {r} {x} {y} {s'} {u} A z i j a w b c =
-    subst (λ v. Serves (C.commit p) s t C.ok [] s' v) (sym (c ∙ ap (set t p) (b ∙ ap unbegun a)))
-    (subst (λ v. Serves (C.commit p) s t C.ok [] v (set t p (unbegun (session_at t p))))
-    (sym (w ∙ ap (λ k. commit_words s k r p x.undo) i ∙ ap (λ k. commit_words s (M-of s) k p x.undo) j ∙ ap (λ k. commit_words s (M-of s) (R-of s) p k.undo) a))
-    (commit-done s t p z A))
 
 pub commit-can : (s : List ℕ) (t : List Session) (p : ℕ) {m r : ℕ} {x : Session} → Sound s t → first_of (commit_list t p) ≡ 0 → m ≡ M-of s → r ≡ R-of s → x ≡ session_at t p
     → CommitReady s m r p x.undo

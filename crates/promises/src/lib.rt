@@ -8,4 +8,3 @@
 // `meaning` and `layout` for what words mean, on `soundness` for the test, on `refusals` for the numbers, on `seniority` for who began first, and on the rows:
 // leaving, aborting, starting, root_entry, walking, arriving, changing and taking.
 #![tactic(auto)]
-

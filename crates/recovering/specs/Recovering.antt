@@ -11,7 +11,8 @@ use Rattle.layout.specs.Asked.{set_same}
 use Rattle.endings.specs.Table.{idled, unbegun}
 use Rattle.aborting.specs.Words.{hand_ended, abort_words, HandReady, AbortReady}
 use Rattle.aborting.specs.Abort.{hand-becomes}
-use Rattle.aborting.specs.RecoverRow.{Kept, kept, lapsing, lapse_words, recover_words, turned, lapse-ready, ended-first, recover-ready}
+use Rattle.aborting.specs.RecoverRow.{Kept, kept, lapsing, lapse_words, recover_words, ended-first, recover-ready}
+use Rattle.aborting.proofs.RecoverRow.{turned, lapse-ready}
 
 unfoldable pub lapsed_words : List ℕ → ℕ → ℕ → ℕ → Session → List ℕ
 lapsed_words s m r p x = cond (lapsing x) (abort_words s m r p x) s

@@ -35,7 +35,7 @@ use Rattle.nodes.specs.Paths.{son_at}
 use Rattle.nodes.specs.Ops.{latch_at}
 use Rattle.descents.specs.Descents.{has_free, first_in_way}
 use Rattle.splits.specs.Splits.{split_root, split_root_half, drop_root}
-use Rattle.finishing.specs.Ended.{refused-moves}
+use Rattle.finishing.proofs.Ended.{refused-moves}
 use Rattle.walking.specs.Holes.{fits-usable}
 use Rattle.walking.specs.Hands.{nd}
 use Rattle.walking.specs.Levels.{length-map_e}

@@ -21,7 +21,7 @@ use Rattle.layout.specs.Row.{Stands}
 use Rattle.layout.specs.Keep.{with_tree}
 use Rattle.layout.specs.Room.{Sizes, sizes-of}
 use Rattle.finishing.specs.Finishing.{Endable}
-use Rattle.finishing.specs.Ready.{end-ready}
+use Rattle.finishing.proofs.Ready.{end-ready}
 use Rattle.walking.specs.Holes.{ours-has}
 use Rattle.walking.specs.Hands.{nd, node-times, one-self}
 use Rattle.walking.specs.Levels.{nodes-law}

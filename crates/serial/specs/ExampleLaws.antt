@@ -1,28 +1,27 @@
 -- The small machine of Example meets the laws of Calls, and so Demand 3: its locks agree, its undo of a database is the undo item by item, and its
 -- answers tell the model's.
-use Rattle.std.specs.Prelude.{◌≡◌, refl, Bool, true, false, cond, not, ◌&&◌, List, [], ◌∷◌, ◌++◌, map, ◌⊎◌, ℕ, zero, suc, ◌≤◌, min, max, leb, T, length, drop}
+use Rattle.std.specs.Prelude.{◌≡◌, refl, Bool, true, false, cond, not, ◌&&◌, List, [], ◌∷◌, ◌++◌, ◌⊎◌, ℕ, zero, suc, ◌≤◌, min, max, leb, T}
 use Rattle.std.proofs.Common.{sym, ◌∙◌, ap, subst, inl, inr, arith, leb→le}
 use Rattle.std.proofs.Math.Option.{Option, none, some, some-injective, none-ne-some, some-ne-none}
 use Rattle.std.proofs.Math.Decide.{ℕ_discrete}
 use Rattle.serial.specs.Serial.{pick, pick_yes, pick_no, put, put_same, put_other, put-cases, true≢false, not-true, Log, set, undo, undo-cong, Event, Hist, hstep}
 use Rattle.serial.specs.Serial as S
-use Rattle.serial.specs.Model.{Db, Req, read, write, insert, remove, locate, ans, request_of, Item, value, cell, Item-discrete, get}
+use Rattle.serial.specs.Model.{Db, Req, read, write, insert, remove, locate, request_of, Item, value, cell, Item-discrete, get}
 use Rattle.serial.specs.Footprints.{Good, eff_good, frame, store, cell-inserted, cell-removed}
-use Rattle.serial.specs.Locks.{Kind, entry, group, Mode, weak, strong, lock_rule, lock-rule-strict, Agree, Needs, undo_of}
+use Rattle.serial.specs.Locks.{Kind, entry, group, Mode, weak, strong, lock_rule, Agree, Needs, undo_of}
 use Rattle.serial.specs.LockMachine as M
-use Rattle.serial.specs.Calls.{ok, Turn, Asked, Told, nothing, tell_answer, tell_refused, tell_ok, fed, finished, ends_request, take_in_hand, answer_of, told, Run, Knows, Moves, Anew, Laws, Demand3, demand-3}
+use Rattle.serial.specs.Calls.{ok, Asked, Told, nothing, tell_answer, tell_refused, tell_ok, fed, finished, ends_request, take_in_hand, answer_of, Knows, Moves, Anew}
 use Rattle.serial.specs.Calls as C
-use Rattle.serial.specs.Codes.{tells-answer}
-use Rattle.serial.specs.Recovery.{each, Lapse, each-lapsed, lapsed-past, lapsed-begun}
-use Rattle.serial.specs.Example.{Span, Lock, kind?, Covers, covers?, holds, meet?, conflicts, blocker, or_else, blocked, lock, taken, released, on, wanted, put_back, undone, State, meaning, blank, opened, handed, locked, served, ended, fixed, lapse, dropped, session, active, empty_hand, Check, checks, first_failed, written, serve, short, try, serve_asked, step_on, accepted, unless, call, Bit, Bits, Sound, Result, Does, example}
+use Rattle.serial.specs.Recovery.{each}
+use Rattle.serial.specs.Example.{Span, Lock, kind?, Covers, covers?, holds, meet?, conflicts, blocker, lock, taken, released, on, wanted, put_back, undone, State, meaning, blank, opened, handed, ended, fixed, lapse, session, active, empty_hand, Check, checks, first_failed, call, Bit, Bits, Sound, Result, example}
 
 -- ---- the locks agree
 
-pick_true : {A : Type 0} {b : Bool} (d : Dec A) → pick d true b ≡ true → A ⊎ (b ≡ true)
+pub pick_true : {A : Type 0} {b : Bool} (d : Dec A) → pick d true b ≡ true → A ⊎ (b ≡ true)
 pick_true (yes a) h = inl a
 pick_true (no n) h = inr h
 
-lock-rule-sym : (k : Kind) (m n : Mode) → lock_rule k m n ≡ true → lock_rule k n m ≡ true
+pub lock-rule-sym : (k : Kind) (m n : Mode) → lock_rule k m n ≡ true → lock_rule k n m ≡ true
 lock-rule-sym entry weak weak h = h
 lock-rule-sym entry weak strong h = h
 lock-rule-sym entry strong weak h = h
@@ -32,14 +31,14 @@ lock-rule-sym group weak strong h = h
 lock-rule-sym group strong weak h = h
 lock-rule-sym group strong strong h = h
 
-not-flip : (b c : Bool) → not b ≡ c → b ≡ not c
+pub not-flip : (b c : Bool) → not b ≡ c → b ≡ not c
 not-flip true true h = sym h
 not-flip true false h = refl
 not-flip false true h = refl
 not-flip false false h = sym h
 
 -- No lock of the list is in the way of s.
-abbrev Clear : ℕ → Span → List Lock → Type 0
+abbrev pub Clear : ℕ → Span → List Lock → Type 0
 Clear s w ls = (k : Kind) (n m : Mode) (t x : ℕ) → holds ls k n t x ≡ true → Covers (lock s w) k m s x → (t ≡ s) ⊎ (lock_rule k n m ≡ true)
 
 clear-one : (s : ℕ) (w : Span) (h : Lock) → conflicts h s w ≡ false → (k : Kind) (n m : Mode) (t x : ℕ)
@@ -53,7 +52,7 @@ clear-one s w h f k n m t x c d = at (ℕ_discrete h.holder s) (kind? h.span.kin
     at (no a) (yes e) (no b) z = absurd (b (omega arith))
     at (no a) (no b) r z = absurd (b (c.0.0 ∙ sym d.0.0))
 
-clear_none : (s : ℕ) (w : Span) (ls : List Lock) → blocker s w ls ≡ none → Clear s w ls
+pub clear_none : (s : ℕ) (w : Span) (ls : List Lock) → blocker s w ls ≡ none → Clear s w ls
 clear_none s w [] e k n m t x h c = absurd (true≢false h refl)
 clear_none s w (l ∷ ls) e k n m t x h c = at (conflicts l s w) refl e (λ q. clear_none s w ls q k n m t x)
   where
@@ -77,45 +76,15 @@ taken-cases s (w ∷ ws) ls k n t x h = at (pick_true (covers? (lock s w) k n t 
     at (inl c) rest = inl (sym c.1.0)
     at (inr q) rest = rest q
 
-clear-taken : (s : ℕ) (w : Span) (ws : List Span) (ls : List Lock) → Clear s w ls → Clear s w (taken s ws ls)
+pub clear-taken : (s : ℕ) (w : Span) (ws : List Span) (ls : List Lock) → Clear s w ls → Clear s w (taken s ws ls)
 clear-taken s w ws ls f k n m t x h c = at (taken-cases s ws ls k n t x h)
   where
     at : (t ≡ s) ⊎ (holds ls k n t x ≡ true) → (t ≡ s) ⊎ (lock_rule k n m ≡ true)
     at (inl e) = inl e
     at (inr q) = f k n m t x q c
 
-agree-one : (s : ℕ) (w : Span) (ls : List Lock) → Clear s w ls → Agree lock_rule (holds ls) → Agree lock_rule (holds (lock s w ∷ ls))
-agree-one s w ls f A k m n u v x p q = at (pick_true (covers? (lock s w) k m u x) p) (pick_true (covers? (lock s w) k n v x) q)
-  where
-    mine : (a : Mode) (t : ℕ) → Covers (lock s w) k a t x → Covers (lock s w) k a s x
-    mine a t c = (c.0, (refl, c.1.1))
-
-    left : (v ≡ s) ⊎ (lock_rule k n m ≡ true) → s ≡ u → (u ≡ v) ⊎ (lock_rule k m n ≡ true)
-    left (inl e) h = inl (sym h ∙ sym e)
-    left (inr e) h = inr (lock-rule-sym k n m e)
-
-    right : (u ≡ s) ⊎ (lock_rule k m n ≡ true) → s ≡ v → (u ≡ v) ⊎ (lock_rule k m n ≡ true)
-    right (inl e) h = inl (e ∙ h)
-    right (inr e) h = inr e
-
-    at : Covers (lock s w) k m u x ⊎ (holds ls k m u x ≡ true) → Covers (lock s w) k n v x ⊎ (holds ls k n v x ≡ true)
-        → (u ≡ v) ⊎ (lock_rule k m n ≡ true)
-    at (inl c) (inl d) = inl (sym c.1.0 ∙ d.1.0)
-    at (inl c) (inr d) = left (f k n m v x d (mine m u c)) c.1.0
-    at (inr c) (inl d) = right (f k m n u x c (mine n v d)) d.1.0
-    at (inr c) (inr d) = A k m n u v x c d
-
-agree-taken : (s : ℕ) (ws : List Span) (ls : List Lock) → blocked s ws ls ≡ none → Agree lock_rule (holds ls) → Agree lock_rule (holds (taken s ws ls))
-agree-taken s [] ls e A = A
-agree-taken s (w ∷ ws) ls e A = at (blocker s w ls) refl e (λ q. agree-taken s ws ls q A)
-  where
-    at : (o : Option ℕ) → blocker s w ls ≡ o → or_else o (blocked s ws ls) ≡ none → (blocked s ws ls ≡ none → Agree lock_rule (holds (taken s ws ls)))
-        → Agree lock_rule (holds (taken s (w ∷ ws) ls))
-    at (some h) f q rest = absurd (some-ne-none h q)
-    at none f q rest = agree-one s w (taken s ws ls) (clear-taken s w ws ls (clear_none s w ls f)) (rest q)
-
 -- Others keep what they hold, and a session's own grow.
-taken-other : (s : ℕ) (ws : List Span) (ls : List Lock) (k : Kind) (m : Mode) (t x : ℕ) → ¬ (s ≡ t) → holds (taken s ws ls) k m t x ≡ holds ls k m t x
+pub taken-other : (s : ℕ) (ws : List Span) (ls : List Lock) (k : Kind) (m : Mode) (t x : ℕ) → ¬ (s ≡ t) → holds (taken s ws ls) k m t x ≡ holds ls k m t x
 taken-other s [] ls k m t x n = refl
 taken-other s (w ∷ ws) ls k m t x n = pick_no (covers? (lock s w) k m t x) true (holds (taken s ws ls) k m t x) (λ c. n c.1.0) ∙ taken-other s ws ls k m t x n
 
@@ -126,25 +95,18 @@ holds_more l ls k m s x h = at (covers? l k m s x)
     at (yes c) = refl
     at (no n) = h
 
-taken_more : (s : ℕ) (ws : List Span) (ls : List Lock) (k : Kind) (m : Mode) (t x : ℕ) → holds ls k m t x ≡ true → holds (taken s ws ls) k m t x ≡ true
+pub taken_more : (s : ℕ) (ws : List Span) (ls : List Lock) (k : Kind) (m : Mode) (t x : ℕ) → holds ls k m t x ≡ true → holds (taken s ws ls) k m t x ≡ true
 taken_more s [] ls k m t x h = h
 taken_more s (w ∷ ws) ls k m t x h = holds_more (lock s w) (taken s ws ls) k m t x (taken_more s ws ls k m t x h)
 
-holds-first : (s : ℕ) (w : Span) (ls : List Lock) (x : ℕ) → w.lo ≤ x → x ≤ w.hi → holds (lock s w ∷ ls) w.kind w.mode s x ≡ true
+pub holds-first : (s : ℕ) (w : Span) (ls : List Lock) (x : ℕ) → w.lo ≤ x → x ≤ w.hi → holds (lock s w ∷ ls) w.kind w.mode s x ≡ true
 holds-first s w ls x p q = pick_yes (covers? (lock s w) w.kind w.mode s x) true (holds ls w.kind w.mode s x) ((refl, refl), (refl, (p, q)))
 
-strong-pair : (s e k : ℕ) (ls : List Lock) → Needs (holds (taken s (wanted (insert e k)) ls)) s (insert e k)
+pub strong-pair : (s e k : ℕ) (ls : List Lock) → Needs (holds (taken s (wanted (insert e k)) ls)) s (insert e k)
 strong-pair s e k ls = (
   holds-first s (on group strong k k) (lock s (on entry strong e e) ∷ ls) k (omega arith) (omega arith),
   holds_more (lock s (on group strong k k)) (lock s (on entry strong e e) ∷ ls) entry strong s e (holds-first s (on entry strong e e) ls e (omega arith) (omega arith)),
 )
-
-needs-taken : (s : ℕ) (r : Req) (ls : List Lock) → Needs (holds (taken s (wanted r) ls)) s r
-needs-taken s (read e) ls = rw (holds-first s (on entry weak e e) ls e (omega arith) (omega arith))
-needs-taken s (write e v) ls = holds-first s (on entry strong e e) ls e (omega arith) (omega arith)
-needs-taken s (insert e k) ls = strong-pair s e k ls
-needs-taken s (remove e k) ls = strong-pair s e k ls
-needs-taken s (locate lo hi) ls = λ k p q. holds-first s (on group weak lo hi) ls k p q
 
 released-off : (s : ℕ) (ls : List Lock) (k : Kind) (m : Mode) (x : ℕ) → holds (released s ls) k m s x ≡ false
 released-off s [] k m x = refl
@@ -193,7 +155,7 @@ put-back-get i v d g b j = at (Item-discrete ℕ_discrete i j)
     at (yes e) = ap (get (put_back i v d)) (sym e) ∙ same i v b
     at (no n) = other i v n
 
-undone-good : (l : Log store) (d : Db) → Good d → Good (undone l d)
+pub undone-good : (l : Log store) (d : Db) → Good d → Good (undone l d)
 undone-good [] d g = g
 undone-good (u ∷ l) d g = undone-good l (put_back u.0 u.1 d) (put-back-good u.0 u.1 d g)
 
@@ -202,7 +164,7 @@ undone-get [] d g b i = refl
 undone-get (u ∷ l) d g b i = undone-get l (put_back u.0 u.1 d) (put-back-good u.0 u.1 d g) b.1 i
     ∙ undo-cong store l (get (put_back u.0 u.1 d)) (set store (get d) u.0 u.1) i (put-back-get u.0 u.1 d g b.0 i)
 
-bits-append : (a b : Log store) → Bits a → Bits b → Bits (a ++ b)
+pub bits-append : (a b : Log store) → Bits a → Bits b → Bits (a ++ b)
 bits-append [] b p q = q
 bits-append (u ∷ a) b p q = (p.0, bits-append a b p.1 q)
 
@@ -210,7 +172,7 @@ bits-pick : {A : Type 0} (c : Dec A) (a b : Log store) → Bits a → Bits b →
 bits-pick (yes h) a b p q = p
 bits-pick (no h) a b p q = q
 
-bits-undo : (r : Req) (d : Db) → Bits (undo_of r d)
+pub bits-undo : (r : Req) (d : Db) → Bits (undo_of r d)
 bits-undo (read e) d = tt
 bits-undo (write e v) d = (tt, tt)
 bits-undo (insert e k) d = bits-pick (ℕ_discrete (get d (cell k e)) 0) ((cell k e, 0) ∷ []) [] (omega arith, tt) tt
@@ -219,17 +181,17 @@ bits-undo (locate lo hi) d = tt
 
 -- ---- the laws
 
-abbrev Kept : Told → Told → State → State → Type 0
+abbrev pub Kept : Told → Told → State → State → Type 0
 Kept t t' x y = Knows example t' y × (Moves example lock_rule t t' x y ⊎ Anew example t' y)
 
-put_map : {B : Type 0} (f g : ℕ → B) (s : ℕ) (b : B) → ((u : ℕ) → f u ≡ g u) → (u : ℕ) → put f s b u ≡ put g s b u
+pub put_map : {B : Type 0} (f g : ℕ → B) (s : ℕ) (b : B) → ((u : ℕ) → f u ≡ g u) → (u : ℕ) → put f s b u ≡ put g s b u
 put_map f g s b h u = ap (λ z. pick (ℕ_discrete s u) b z) (h u)
 
-abbrev Passed : List Check → Type 0
+abbrev pub Passed : List Check → Type 0
 Passed [] = Unit {0}
 Passed (c ∷ cs) = (c.0 ≡ true) × Passed cs
 
-all-passed : (cs : List Check) → first_failed cs ≡ none → Passed cs
+pub all-passed : (cs : List Check) → first_failed cs ≡ none → Passed cs
 all-passed [] e = tt
 all-passed (c ∷ cs) e = at c.0 refl e (all-passed cs)
   where
@@ -238,7 +200,7 @@ all-passed (c ∷ cs) e = at c.0 refl e (all-passed cs)
     at false f q rest = absurd (some-ne-none c.1 q)
 
 -- No check's refusal ends a request.
-refused-told : (c : C.Call) (x : State) (t : Told) (n : ℕ) → first_failed (checks c x) ≡ some n → tell_refused c n t ≡ t
+pub refused-told : (c : C.Call) (x : State) (t : Told) (n : ℕ) → first_failed (checks c x) ≡ some n → tell_refused c n t ≡ t
 refused-told (C.format m) x t n e = refl
 refused-told (C.begin s) x t n e = refl
 refused-told (C.put p code a f g) x t n e = refl
@@ -253,7 +215,7 @@ refused-told (C.step p l) x t n e = at (leb p 16) (active x p) e
     at true false q = subst (λ z. cond (ends_request z) (take_in_hand p none t) t ≡ t) (some-injective 5 n q) refl
     at false b q = subst (λ z. cond (ends_request z) (take_in_hand p none t) t ≡ t) (some-injective 4 n q) refl
 
-blank-knows : Knows example nothing blank
+pub blank-knows : Knows example nothing blank
 blank-knows = record {
   sound = record { good = tt; sessions = λ s h. absurd (true≢false h refl); agree = λ k m n s u z p q. absurd (true≢false p refl); bits = λ s. tt; only_asked = λ s h. absurd (true≢false h refl) };
   hand_told = λ p. refl;
@@ -261,17 +223,17 @@ blank-knows = record {
   asked_told = λ s. refl;
 }
 
-blank-formatted : M.Formatted (meaning blank)
+pub blank-formatted : M.Formatted (meaning blank)
 blank-formatted = record { no_values = M.get-empty; no_holds = λ k m s z. refl; no_log = λ s. refl }
 
 -- One event of the lock machine.
-by-event : (t t' : Told) (x y : State) (e : Event store) → M.Act lock_rule e (meaning x) (meaning y) → t'.past ≡ hstep store e t.past
+pub by-event : (t t' : Told) (x y : State) (e : Event store) → M.Act lock_rule e (meaning x) (meaning y) → t'.past ≡ hstep store e t.past
     → Moves example lock_rule t t' x y ⊎ Anew example t' y
 by-event t t' x y e a h = inl (record { events = e ∷ []; moved = M.more a M.still; as_told = h })
 
 -- The end of a session.
 module _ (x : State) (S : Sound x) where
-  ended-sound : (s : ℕ) (d : Db) → Good d → Sound (ended s d x)
+  pub ended-sound : (s : ℕ) (d : Db) → Good d → Sound (ended s d x)
   ended-sound s d g = record {
     good = g;
     sessions = put-cases (λ u b. b ≡ true → session u ≡ true) x.begun s false (λ q. absurd (true≢false q refl)) (λ u m. S.sessions u);
@@ -296,7 +258,7 @@ module _ (x : State) (S : Sound x) where
     begun_others = λ u n. put_other x.begun s false u n;
   }
 
-  abort-acts : (s : ℕ) → x.begun s ≡ true → M.Aborted s (meaning x) (meaning (ended s (undone (x.log s) x.now) x))
+  pub abort-acts : (s : ℕ) → x.begun s ≡ true → M.Aborted s (meaning x) (meaning (ended s (undone (x.log s) x.now) x))
   abort-acts s e = record {
     ended = ended-acts s (undone (x.log s) x.now) e;
     db_undone = λ i. undone-get (x.log s) x.now S.good (S.bits s) i;
@@ -304,7 +266,7 @@ module _ (x : State) (S : Sound x) where
 
 -- ---- recover
 
-lapses-begun : (s : ℕ) (x : State) → (x.begun s && not (x.asked s)) ≡ true → (x.begun s ≡ true) × (x.asked s ≡ false)
+pub lapses-begun : (s : ℕ) (x : State) → (x.begun s && not (x.asked s)) ≡ true → (x.begun s ≡ true) × (x.asked s ≡ false)
 lapses-begun s x e = at (x.begun s) (x.asked s) e
   where
     at : (a b : Bool) → (a && not b) ≡ true → (a ≡ true) × (b ≡ false)
@@ -312,24 +274,15 @@ lapses-begun s x e = at (x.begun s) (x.asked s) e
     at true false q = (refl, refl)
     at false b q = (q, not-true b (λ z. true≢false q refl))
 
-lapse-is : (s : ℕ) (x : State) → (x.begun s && not (x.asked s)) ≡ true → lapse s x ≡ ended s (undone (x.log s) x.now) x
+pub lapse-is : (s : ℕ) (x : State) → (x.begun s && not (x.asked s)) ≡ true → lapse s x ≡ ended s (undone (x.log s) x.now) x
 lapse-is s x e = ap (λ b. cond b (ended s (undone (x.log s) x.now) x) x) e
-
-lapse-laws : Lapse lock_rule Sound meaning (λ x. x.asked) lapse
-lapse-laws = record {
-  sound = λ p x S e. subst Sound (sym (lapse-is p x e)) (ended-sound x S p (undone (x.log p) x.now) (undone-good (x.log p) x.now S.good));
-  aborted = λ p x S e. subst (λ y. M.Aborted p (meaning x) (meaning y)) (sym (lapse-is p x e)) (abort-acts x S p (lapses-begun p x e).0);
-  marks = λ p x S e q. ap (λ y. y.asked q) (lapse-is p x e)
-      ∙ put-cases (λ u b. b ≡ x.asked u) x.asked p false (sym (lapses-begun p x e).1) (λ u n. refl) q;
-  spares = λ p x e. ap (λ b. cond b (ended p (undone (x.log p) x.now) x) x) e;
-}
 
 no-hand : (o : Option Asked) → empty_hand o ≡ true → o ≡ none
 no-hand none e = refl
 no-hand (some a) e = absurd (true≢false e refl)
 
 -- No lapse puts a request in hand.
-each-empty : (n p : ℕ) (x : State) → ((q : ℕ) → x.hands q ≡ none) → (q : ℕ) → (each lapse n p x).hands q ≡ none
+pub each-empty : (n p : ℕ) (x : State) → ((q : ℕ) → x.hands q ≡ none) → (q : ℕ) → (each lapse n p x).hands q ≡ none
 each-empty zero p x h q = h q
 each-empty (suc n) p x h q = each-empty n (suc p) (lapse p x) (λ u. at (x.begun p && not (x.asked p)) u) q
   where
@@ -337,7 +290,7 @@ each-empty (suc n) p x h q = each-empty n (suc p) (lapse p x) (λ u. at (x.begun
     at true u = put-cases (λ v a. a ≡ none) x.hands p none refl (λ v n. h v) u
     at false u = h u
 
-session-range : (s : ℕ) → session s ≡ true → (1 ≤ s) × (s ≤ 16)
+pub session-range : (s : ℕ) → session s ≡ true → (1 ≤ s) × (s ≤ 16)
 session-range s e = at (leb 1 s) refl (leb s 16) refl e
   where
     at : (a : Bool) → leb 1 s ≡ a → (b : Bool) → leb s 16 ≡ b → (a && b) ≡ true → (1 ≤ s) × (s ≤ 16)
@@ -346,10 +299,10 @@ session-range s e = at (leb 1 s) refl (leb s 16) refl e
     at false p b q z = absurd (true≢false z refl)
 
 module _ (t : Told) (x : State) (w : Knows example t x) where
-  unchanged : Kept t t x x
+  pub unchanged : Kept t t x x
   unchanged = (w, inl (record { events = []; moved = M.still; as_told = refl }))
 
-  handed-kept : (p : ℕ) (a : Option Asked) → (x.asked p ≡ true → a ≡ none) → (h : Hist store) → h ≡ t.past
+  pub handed-kept : (p : ℕ) (a : Option Asked) → (x.asked p ≡ true → a ≡ none) → (h : Hist store) → h ≡ t.past
       → Kept t (record { past = h; unfinished = t.unfinished; hands = put t.hands p a; asked = t.asked }) x (handed p a x)
   handed-kept p a z h e = (
     record {
@@ -368,7 +321,7 @@ module _ (t : Told) (x : State) (w : Knows example t x) where
         (record { stays = λ u. record { holds_kept = λ k m z. refl; log_kept = refl }; begun_same = λ u. refl; db_kept = λ i. refl }) e,
   )
 
-  begin-kept : (s : ℕ) → session s ≡ true → not (x.begun s) ≡ true → Kept t (tell_ok (C.begin s) t) x (opened s x)
+  pub begin-kept : (s : ℕ) → session s ≡ true → not (x.begun s) ≡ true → Kept t (tell_ok (C.begin s) t) x (opened s x)
   begin-kept s e n = (
     record {
       sound = record {
@@ -396,7 +349,7 @@ module _ (t : Told) (x : State) (w : Knows example t x) where
   )
 
   -- Commit and abort.
-  ended-knows : (s : ℕ) (d : Db) → Good d → (h : Hist store)
+  pub ended-knows : (s : ℕ) (d : Db) → Good d → (h : Hist store)
       → Knows example (record { past = h; unfinished = put t.unfinished s false; hands = put t.hands s none; asked = put t.asked s false }) (ended s d x)
   ended-knows s d g h = record {
     sound = ended-sound x w.sound s d g;
@@ -405,20 +358,13 @@ module _ (t : Told) (x : State) (w : Knows example t x) where
     asked_told = put_map x.asked t.asked s false w.asked_told;
   }
 
-  commit-kept : (s : ℕ) → x.begun s ≡ true → Kept t (tell_ok (C.commit s) t) x (ended s x.now x)
+  pub commit-kept : (s : ℕ) → x.begun s ≡ true → Kept t (tell_ok (C.commit s) t) x (ended s x.now x)
   commit-kept s e = (
     ended-knows s x.now w.sound.good (hstep store (S.commit s) t.past),
     by-event t (tell_ok (C.commit s) t) x (ended s x.now x) (S.commit s) (record { ended = ended-acts x w.sound s x.now e; db_kept = λ i. refl }) refl,
   )
 
-  abort-kept : (s : ℕ) → x.begun s ≡ true → Kept t (tell_ok (C.abort s) t) x (ended s (undone (x.log s) x.now) x)
-  abort-kept s e = (
-    ended-knows s (undone (x.log s) x.now) (undone-good (x.log s) x.now w.sound.good) (hstep store (S.abort s) t.past),
-    by-event t (tell_ok (C.abort s) t) x (ended s (undone (x.log s) x.now) x) (S.abort s)
-        (abort-acts x w.sound s e) refl,
-  )
-
-  ask-kept : (s : ℕ) → x.begun s ≡ true → empty_hand (x.hands s) ≡ true → Kept t (tell_ok (C.ask s) t) x (fixed s x)
+  pub ask-kept : (s : ℕ) → x.begun s ≡ true → empty_hand (x.hands s) ≡ true → Kept t (tell_ok (C.ask s) t) x (fixed s x)
   ask-kept s b o = (
     record {
       sound = record {
@@ -436,141 +382,19 @@ module _ (t : Told) (x : State) (w : Knows example t x) where
         (record { stays = λ u. record { holds_kept = λ k m z. refl; log_kept = refl }; begun_same = λ u. refl; db_kept = λ i. refl }) refl,
   )
 
-  recover-kept : Kept t (tell_ok C.recover t) x (each lapse 16 1 (dropped x))
-  recover-kept =
-      let D : Sound (dropped x) = record
-      { good = w.sound.good; sessions = w.sound.sessions; agree = w.sound.agree; bits = w.sound.bits; only_asked = λ u q. ((w.sound.only_asked u q).0, refl) } in
-      let r = each-lapsed lock_rule Sound meaning (λ x. x.asked) lapse lapse-laws 16 1 (dropped x) D in
-      let range : (s : ℕ) → x.begun s ≡ true → (1 ≤ s) × (s ≤ 16) = λ s b. session-range s (w.sound.sessions s b) in (
-        record {
-          sound = r.sound;
-          hand_told = each-empty 16 1 (dropped x) (λ q. refl);
-          begun_told = lapsed-begun lock_rule Sound meaning (λ x. x.asked) lapse 16 (dropped x) (each lapse 16 1 (dropped x)) range r t w.begun_told w.asked_told;
-          asked_told = λ s. r.marks s ∙ w.asked_told s;
-        },
-        inl (record {
-          events = S.quiet ∷ map S.abort r.who;
-          moved = M.more {y = meaning (dropped x)} {e = S.quiet} (record { stays = λ u. record { holds_kept = λ k m z. refl; log_kept = refl }; begun_same = λ u. refl; db_kept = λ i. refl }) r.moved;
-          as_told = lapsed-past lock_rule Sound meaning (λ x. x.asked) lapse 16 (dropped x) (each lapse 16 1 (dropped x)) range r t w.begun_told w.asked_told;
-        }),
-      )
-
-  -- The locks, then the request under them.
-  locked-acts : (s : ℕ) (r : Req) → x.begun s ≡ true → blocked s (wanted r) x.locks ≡ none → M.Locked lock_rule s (meaning x) (meaning (locked s r x))
-  locked-acts s r b f = record {
-    was = b;
-    more = λ k m z h. taken_more s (wanted r) x.locks k m s z h;
-    log_same = refl;
-    others = λ u n. record { holds_kept = λ k m z. taken-other s (wanted r) x.locks k m u z n; log_kept = refl };
-    begun_same = λ u. refl;
-    db_kept = λ i. refl;
-    agree = agree-taken s (wanted r) x.locks f w.sound.agree;
-  }
-
-  served-acts : (s : ℕ) (r : Req) → x.begun s ≡ true → M.Finished s r (ans r x.now) (meaning (locked s r x)) (meaning (served s r x))
-  served-acts s r b = record {
-    was = b;
-    needs = needs-taken s r x.locks;
-    model = x.now;
-    model_good = w.sound.good;
-    is_model = λ i. refl;
-    answer = refl;
-    change = λ i. refl;
-    log_now = put_same x.log s (undo_of r x.now ++ x.log s);
-    log_others = λ u n. put_other x.log s (undo_of r x.now ++ x.log s) u n;
-    holds_same = λ k m u z. refl;
-    begun_same = λ u. refl;
-  }
-
-  served-sound : (s : ℕ) (r : Req) → blocked s (wanted r) x.locks ≡ none → Sound (served s r x)
-  served-sound s r f = record {
-    good = eff_good r x.now w.sound.good;
-    sessions = w.sound.sessions;
-    agree = agree-taken s (wanted r) x.locks f w.sound.agree;
-    bits = put-cases (λ u l. Bits l) x.log s (undo_of r x.now ++ x.log s)
-        (bits-append (undo_of r x.now) (x.log s) (bits-undo r x.now) (w.sound.bits s)) (λ u m. w.sound.bits u);
-    only_asked = λ u q. ((w.sound.only_asked u q).0, put-cases (λ v o. x.asked v ≡ true → o ≡ none) x.hands s none (λ i. refl) (λ v n i. (w.sound.only_asked v i).1) u q);
-  }
-
   module _ (k : ℕ) (l : List ℕ) (q : Asked) (e : x.hands (suc k) ≡ some q) (b : x.begun (suc k) ≡ true) where
-    abbrev After : Result → Type 0
+    abbrev pub After : Result → Type 0
     After r = Kept t (tell_answer (C.step (suc k) l) r.0 r.1 t) x r.2
 
     -- What a done step of the session feeds.
-    done-told : (o : Option Req) → request_of q.code q.entry q.first q.second ≡ o → (ns ws : List ℕ)
+    pub done-told : (o : Option Req) → request_of q.code q.entry q.first q.second ≡ o → (ns ws : List ℕ)
         → finished (suc k) (t.hands (suc k)) ns ws t.past ≡ fed (suc k) o (answer_of q.code ns ws) t.past
     done-told o f ns ws =
         ap (λ z. finished (suc k) z ns ws t.past) (sym (w.hand_told (suc k)) ∙ e)
         ∙ ap (λ z. fed (suc k) z (answer_of q.code ns ws) t.past) f
 
-    serve-kept : (r : Req) → request_of q.code q.entry q.first q.second ≡ some r → blocked (suc k) (wanted r) x.locks ≡ none
-        → (c : Bool) → After (serve (suc k) l x r c)
-    serve-kept r f g true = handed-kept (suc k) none (λ z. refl) t.past refl
-    serve-kept r f g false = (
-      record {
-        sound = served-sound (suc k) r g;
-        hand_told = put_map x.hands t.hands (suc k) none w.hand_told;
-        begun_told = w.begun_told;
-        asked_told = w.asked_told;
-      },
-      inl (record {
-        events = S.grow (suc k) ∷ (S.finish (suc k) r (ans r x.now) ∷ []);
-        moved = M.more {y = meaning (locked (suc k) r x)} (locked-acts (suc k) r b g) (M.more (served-acts (suc k) r b) M.still);
-        as_told = done-told (some r) f _ (written (ans r x.now) l)
-            ∙ ap (λ a. fed (suc k) (some r) a t.past) (tells-answer q.code q.entry q.first q.second r x.now (drop (length (ans r x.now).words) l) f);
-      }),
-    )
-
-    try-kept : (r : Req) → request_of q.code q.entry q.first q.second ≡ some r → (o : Option ℕ) → blocked (suc k) (wanted r) x.locks ≡ o
-        → After (try (suc k) l x r o)
-    try-kept r f (some h) g = unchanged
-    try-kept r f none g = serve-kept r f g (short (ans r x.now) l)
-
-    asked-kept : (o : Option Req) → request_of q.code q.entry q.first q.second ≡ o → After (serve_asked (suc k) l x o)
-    asked-kept none f = handed-kept (suc k) none (λ z. refl) (finished (suc k) (t.hands (suc k)) (0 ∷ (0 ∷ [])) l t.past) (done-told none f (0 ∷ (0 ∷ [])) l)
-    asked-kept (some r) f = try-kept r f (blocked (suc k) (wanted r) x.locks) refl
-
-  step_kept : (p : ℕ) (l : List ℕ) → active x p ≡ true → (o : Option Asked) → x.hands p ≡ o
-      → Kept t (tell_answer (C.step p l) (step_on p l x o).0 (step_on p l x o).1 t) x (step_on p l x o).2
-  step_kept p l b none e = unchanged
-  step_kept zero l b (some q) e = handed-kept zero none (λ z. refl) t.past refl
-  step_kept (suc k) l b (some q) e = asked-kept k l q e b (request_of q.code q.entry q.first q.second) refl
-
-  accepted-kept : (c : C.Call) → Passed (checks c x) → Kept t (tell_answer c (accepted c x).0 (accepted c x).1 t) x (accepted c x).2
-  accepted-kept (C.format m) h = (blank-knows, inr (record { nothing_told = refl; as_new = blank-formatted }))
-  accepted-kept (C.begin s) h = begin-kept s h.0 h.1.0
-  accepted-kept (C.put p code e f g) h = handed-kept p (some (record { code = code; entry = e; first = f; second = g })) (λ z. absurd (true≢false z (not-flip (x.asked p) true h.1.1.0))) t.past refl
-  accepted-kept (C.step p l) h = step_kept p l h.1.0 (x.hands p) refl
-  accepted-kept (C.commit s) h = commit-kept s h.1.0
-  accepted-kept (C.abort s) h = abort-kept s h.1.0
-  accepted-kept (C.ask s) h = ask-kept s h.1.0 h.1.1.1.0
-  accepted-kept C.recover h = recover-kept
-
-  call_kept : (c : C.Call) → Kept t (tell_answer c (call c x).0 (call c x).1 t) x (call c x).2
-  call_kept c = at (first_failed (checks c x)) refl
-    where
-      at : (o : Option ℕ) → first_failed (checks c x) ≡ o → Kept t (tell_answer c (unless o c x).0 (unless o c x).1 t) x (unless o c x).2
-      at (some n) e = subst (λ z. Kept t z x x) (sym (refused-told c x t n e)) unchanged
-      at none e = accepted-kept c (all-passed (checks c x) e)
-
-turn-kept : (k : Turn) (x y : State) (t : Told) → Does x k y → Knows example t x → Kept t (C.tell k t) x y
-turn-kept k x y t d w = subst (λ r. Kept t (tell_answer k.call r.0 r.1 t) x r.2) (sym d) (call_kept t x w k.call)
-
-abort-accepted : (s : ℕ) (x : State) → session s ≡ true → x.begun s ≡ true → (call (C.abort s) x).0 ≡ ok
+pub abort-accepted : (s : ℕ) (x : State) → session s ≡ true → x.begun s ≡ true → (call (C.abort s) x).0 ≡ ok
 abort-accepted s x p q = rw (p, q) refl
 
-commit-accepted : (s : ℕ) (x : State) → Sound x → x.asked s ≡ true → (call (C.commit s) x).0 ≡ ok
+pub commit-accepted : (s : ℕ) (x : State) → Sound x → x.asked s ≡ true → (call (C.commit s) x).0 ≡ ok
 commit-accepted s x S e = let q = S.only_asked s e in rw (S.sessions s q.0, q.0, q.1) refl
-
-pub example-laws : Laws example lock_rule
-example-laws = record {
-  returns = λ c x w. ((call c x).0, (call c x).1, (call c x).2, refl);
-  knows = λ k x y t d w. (turn-kept k x y t d w).0;
-  moves = λ k x y t d w. (turn-kept k x y t d w).1;
-  abort_ok = λ s k x y e d w b. ap (λ r. r.0) d ∙ ap (λ c. (call c x).0) e ∙ abort-accepted s x (w.sessions s b) b;
-  commit_ok = λ s k x y e d w m. ap (λ r. r.0) d ∙ ap (λ c. (call c x).0) e ∙ commit-accepted s x w m;
-}
-
--- Demand 3 of this machine, for every list of calls.
-pub example-demand-3 : (ks : List Turn) (y : State) → Run example blank ks y → Demand3 example (told nothing ks) y
-example-demand-3 ks y r = demand-3 example lock_rule lock-rule-strict example-laws blank y ks blank-knows blank-formatted r

@@ -1,12 +1,12 @@
 -- The long locks of document 01, and document 02's M-104: the lock rule as two tables, what a session may depend on and change under its locks, what each request needs,
 -- and what a finished request adds to its session's undo log.
-use Rattle.std.specs.Prelude.{◌≡◌, refl, Bool, true, false, ◌&&◌, ◌||◌, [], ◌∷◌, ◌↔◌, ◌⊎◌, ℕ, ◌≤◌}
+use Rattle.std.specs.Prelude.{◌≡◌, refl, Bool, true, false, ◌&&◌, ◌||◌, [], ◌∷◌, ◌⊎◌, ℕ, ◌≤◌}
 use Rattle.std.proofs.Common.{sym, ◌∙◌, ap, subst, inl, inr}
 use Rattle.std.proofs.Math.Decide.{ℕ_discrete}
-use Rattle.serial.specs.Serial.{pick, true≢false, Covered, Within, undo, Log}
+use Rattle.serial.specs.Serial.{pick, true≢false, Within, undo, Log}
 use Rattle.serial.specs.Rising.{has, has-cases}
 use Rattle.serial.specs.Model.{by_key, Db, Req, read, write, insert, remove, locate, eff, Item, value, cell, Item-discrete, get}
-use Rattle.serial.specs.Footprints.{Rd, Wr, Good, frame, ans-local, eff-local, store, cell-inserted, cell-removed}
+use Rattle.serial.specs.Footprints.{Rd, Wr, Good, frame, store, cell-inserted, cell-removed}
 
 -- The kind of a lock: on an entry, or on the group of a key. Its mode: weak is share or locate, strong is exclusive or update.
 pub data Kind : Type 0 where
@@ -114,7 +114,7 @@ changes-touches H s (value e) p = or_right (H entry weak s e) (H entry strong s 
 changes-touches H s (cell k e) p = or_right (H group weak s k) (H group strong s k && H entry strong s e) p
 
 -- A conflict in the table keeps two sessions apart.
-apart : {A : Type 0} {b : Bool} → A ⊎ (b ≡ true) → b ≡ false → A
+pub apart : {A : Type 0} {b : Bool} → A ⊎ (b ≡ true) → b ≡ false → A
 apart (inl a) n = a
 apart (inr p) n = absurd (true≢false p n)
 
@@ -154,13 +154,6 @@ needs-writes H s (write e v) n i p = subst (λ j. changes H s j ≡ true) (sym p
 needs-writes H s (insert e k) n i p = subst (λ j. changes H s j ≡ true) (sym p) (and_intro (H group strong s k) (H entry strong s e) n.0 n.1)
 needs-writes H s (remove e k) n i p = subst (λ j. changes H s j ≡ true) (sym p) (and_intro (H group strong s k) (H entry strong s e) n.0 n.1)
 needs-writes H s (locate lo hi) n i p = absurd p
-
-pub needs-covered : (H : Holds) (s : ℕ) (r : Req) (d : Db) → Good d → Needs H s r → Covered store (touches H s) (changes H s) r d
-needs-covered H s r d g n = record {
-  answers = λ e ge h. ans-local r d e g ge (λ i p. h i (needs-reads H s r n i p));
-  effects = λ e ge h. eff-local r d e g ge (λ i p. h i (needs-reads H s r n i p));
-  frames = λ e ge h i f. frame r e ge i (λ p. true≢false (needs-writes H s r n i p) f);
-}
 
 -- What a finished request adds to its session's undo log (document 01: take-back): 0-answers and readers add nothing.
 abbrev pub undo_of : Req → Db → Log store
@@ -225,19 +218,3 @@ undo-of-undoes (locate lo hi) d g i = refl
 -- Whoever has an entry exclusive is its only holder; whoever has a key to update is the only one to hold it to locate.
 abbrev pub Apart : Holds → Type 0
 Apart H = ((m : Mode) (s t e : ℕ) → H entry strong s e ≡ true → H entry m t e ≡ true → s ≡ t) × ((s t k : ℕ) → H group strong s k ≡ true → H group weak t k ≡ true → s ≡ t)
-
--- That is all that the lock rule asks of holders.
-pub agree-exactly : (H : Holds) → Agree lock_rule H ↔ Apart H
-agree-exactly H = (
-  (λ A. ((λ m s t e h g. apart (A entry strong m s t e h g) (lock-rule-strict.exclusive_alone m)), λ s t k h g. apart (A group strong weak s t k h g) refl)),
-  agreed,
-)
-  where
-    agreed : Apart H → Agree lock_rule H
-    agreed E entry weak weak s t x h g = inr refl
-    agreed E entry weak strong s t x h g = inl (sym (E.0 weak t s x g h))
-    agreed E entry strong n s t x h g = inl (E.0 n s t x h g)
-    agreed E group weak weak s t x h g = inr refl
-    agreed E group weak strong s t x h g = inl (sym (E.1 t s x g h))
-    agreed E group strong weak s t x h g = inl (E.1 s t x h g)
-    agreed E group strong strong s t x h g = inr refl

@@ -614,10 +614,6 @@ module _ (𝓜 : Model) where
   inv-step d₀ h σ τ quiet p v = record
       { fits_closed = v.fits_closed; core = quiet-core (serial h.closed d₀) h.current σ τ v.core p }
 
-  pub inv-run : (d₀ : Db) (h : Hist) {σ τ : State} {es : List Event} → Run σ es τ → Inv d₀ h σ → Inv d₀ (hist h es) τ
-  inv-run d₀ h stop v = v
-  inv-run d₀ h (next {σ} {ρ} {τ} {e} {es} p q) v = inv-run d₀ (hstep e h) q (inv-step d₀ h σ ρ e p v)
-
   -- As format leaves it.
   pub record Fresh (d₀ : Db) (σ : State) : Type 0 where
     pub stored : (i : Item) → σ.db i ≡ get d₀ i
@@ -714,17 +710,3 @@ module _ (𝓜 : Model) where
   pub inv-idle : (d₀ : Db) (h : Hist) (σ : State) → Inv d₀ h σ → ((t : ℕ) → σ.begun t ≡ false) → (i : Item) → σ.db i ≡ get (serial h.closed d₀) i
   inv-idle d₀ h σ v n i = v.core.free i λ t. not-true (σ.changes t i) λ w.
       true≢false (v.core.locks.owns t i w) ((v.core.part t).idle (n t) i)
-
-  pub inv-demand : (d₀ : Db) (h : Hist) (σ : State) → Inv d₀ h σ → Demand d₀ h σ
-  inv-demand d₀ h σ v = record {
-    committed = fitsall-run h.closed d₀ v.fits_closed;
-    unfinished = λ s. fits-run (h.current s) (serial h.closed d₀) (v.core.part s).fits
-        ∙ ap (λ e. run_answers (requests (h.current s)) e) (serial-run h.closed d₀);
-    restored = λ ss τ r n i. inv-idle d₀ (hist h (map abort ss)) τ (inv-run d₀ h r v) n i
-        ∙ ap (λ ls. get (serial ls d₀) i) (closed-aborts h ss)
-        ∙ ap (λ e. get e i) (serial-run h.closed d₀);
-  }
-
-  -- The theorem: every run of the lock machine from a fresh state.
-  pub serializable : (d₀ : Db) → Good d₀ → (σ τ : State) (es : List Event) → Fresh d₀ σ → Run σ es τ → Demand d₀ (hist none_yet es) τ
-  serializable d₀ g σ τ es f r = inv-demand d₀ (hist none_yet es) τ (inv-run d₀ none_yet r (inv-fresh d₀ g σ f))

@@ -4,9 +4,8 @@ use Rattle.std.proofs.Math.Decide.{ℕ_discrete, dec_lt, dec_le}
 use Rattle.serial.specs.Serial.{serial_answers, requests}
 use Rattle.serial.specs.Model.{Pair, Db, Req, read, write, insert, remove, locate, Ans, just, empty, ℕ-tri, pair_tri}
 use Rattle.serial.specs.Footprints.{store}
-use Rattle.serial.specs.Calls.{Call, format, begin, commit, abort, ask, recover, put, step, Answer, ok, wait, done, refused, Turn, Run, stop, next, nothing, told, committed_db, Demand3}
+use Rattle.serial.specs.Calls.{Call, format, begin, commit, abort, ask, recover, put, step, Answer, ok, wait, done, refused, Turn, Run, stop, next, nothing, told, committed_db}
 use Rattle.serial.specs.Example.{State, blank, call, kind?, mode?, example}
-use Rattle.serial.specs.ExampleLaws.{example-demand-3}
 
 -- ---- the model alone
 
@@ -38,7 +37,7 @@ last [] x = x
 last (c ∷ cs) x = last cs (call c x).2
 
 -- What is computed is a run of the machine.
-played : (cs : List Call) (x : State) → Run example x (turns cs x) (last cs x)
+pub played : (cs : List Call) (x : State) → Run example x (turns cs x) (last cs x)
 played [] x = stop
 played (c ∷ cs) x = next refl (played cs (call c x).2)
 
@@ -46,10 +45,10 @@ played (c ∷ cs) x = next refl (played cs (call c x).2)
 abbrev Script : Type 0
 Script = List (Call × Answer)
 
-abbrev turns_of : Script → List Turn
+abbrev pub turns_of : Script → List Turn
 turns_of l = turns (map (λ p. p.0) l) blank
 
-abbrev after : Script → State
+abbrev pub after : Script → State
 after l = last (map (λ p. p.0) l) blank
 
 abbrev Plays : Script → Type 0
@@ -129,7 +128,7 @@ unfolding pair_tri ℕ-tri ℕ_discrete dec_lt dec_le kind? mode?
 committed-plays = refl
 
 -- Then 1 and 2 change what these stored, some of it more than once.
-abbrev unfinished : Script
+abbrev pub unfinished : Script
 unfinished = committed ++ ((begin 1, ok) ∷ (begin 2, ok) ∷ (remove_by 1 5 500, ok) ∷ (go 1, done (1 ∷ [])) ∷ (write_by 2 7 43, ok) ∷ (go 2, done (0 ∷ []))
     ∷ (insert_by 1 5 500, ok) ∷ (go 1, done (1 ∷ [])) ∷ (write_by 2 7 44, ok) ∷ (go 2, done (0 ∷ []))
     ∷ (insert_by 2 8 600, ok) ∷ (go 2, done (1 ∷ [])) ∷ (remove_by 1 5 500, ok) ∷ (go 1, done (1 ∷ [])) ∷ [])
@@ -142,10 +141,6 @@ unfinished-plays = refl
 commit-order : map (requests store) (told nothing (turns_of unfinished)).past.closed ≡ (write 7 42 ∷ []) ∷ (insert 5 500 ∷ write 6 41 ∷ []) ∷ []
 unfolding pair_tri ℕ-tri ℕ_discrete dec_lt dec_le kind? mode?
 commit-order = refl
-
--- Demand 3 of this run.
-unfinished-demand-3 : Demand3 example (told nothing (turns_of unfinished)) (after unfinished)
-unfinished-demand-3 = example-demand-3 (turns_of unfinished) (after unfinished) (played (map (λ p. p.0) unfinished) blank)
 
 -- Both are aborted, in both orders.
 abbrev aborts_1_2 : Script
@@ -222,7 +217,7 @@ lists-left = refl
 
 -- Session 1 is asked: a put or another ask of it is 21, a step 7, a begin 5. Session 2 is not asked, and has a request in hand. Recover aborts 2 alone;
 -- 1 still holds its entry, and its commit is accepted.
-abbrev recovery : Script
+abbrev pub recovery : Script
 recovery = (begin 1, ok) ∷ (write_by 1 5 9, ok) ∷ (ask 1, refused 7 0) ∷ (go 1, done (0 ∷ [])) ∷ (ask 1, ok) ∷ (ask 1, refused 21 0) ∷ (read_by 1 5, refused 21 0)
     ∷ (go 1, refused 7 0) ∷ (begin 1, refused 5 0) ∷ (ask 2, refused 5 0) ∷ (ask 0, refused 4 0)
     ∷ (begin 2, ok) ∷ (write_by 2 6 8, ok) ∷ (go 2, done (0 ∷ [])) ∷ (write_by 2 5 7, ok) ∷ (go 2, wait 1) ∷ (recover, ok) ∷ (go 2, refused 5 0)
@@ -236,6 +231,3 @@ recovery-plays = refl
 recovery-told : map (requests store) (told nothing (turns_of recovery)).past.closed ≡ (write 5 9 ∷ []) ∷ []
 unfolding pair_tri ℕ-tri ℕ_discrete dec_lt dec_le kind? mode?
 recovery-told = refl
-
-recovery-demand-3 : Demand3 example (told nothing (turns_of recovery)) (after recovery)
-recovery-demand-3 = example-demand-3 (turns_of recovery) (after recovery) (played (map (λ p. p.0) recovery) blank)

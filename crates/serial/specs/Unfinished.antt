@@ -1,13 +1,11 @@
 -- Whatever was told, the unfinished sessions can be listed; so what demand 3 says of their aborts is said of every list of calls.
-use Rattle.std.specs.Prelude.{◌≡◌, refl, Bool, true, false, cond, ◌&&◌, List, [], ◌∷◌, map, ℕ}
+use Rattle.std.specs.Prelude.{◌≡◌, refl, Bool, true, false, cond, ◌&&◌, List, [], ◌∷◌, ℕ}
 use Rattle.std.proofs.Common.{sym, ◌∙◌, ap, subst, inl, inr}
 use Rattle.std.proofs.Math.Option.{none}
 use Rattle.std.proofs.Math.Decide.{ℕ_discrete}
 use Rattle.serial.specs.Serial.{pick, put_same, put_other, true≢false, In, Distinct}
 use Rattle.serial.specs.Serial as S
-use Rattle.serial.specs.Locks.{Table, Strict}
-use Rattle.serial.specs.LockMachine.{Formatted}
-use Rattle.serial.specs.Calls.{Call, format, begin, commit, abort, ask, recover, put, step, Answer, ok, more, wait, done, refused, Turn, Told, nothing, take_in_hand, tell_ok, tell_done, ends_request, tell_refused, tell_answer, tell, told, Machine, Run, Unfinished, Made, Knows, Laws, demand-3}
+use Rattle.serial.specs.Calls.{Call, format, begin, commit, abort, ask, recover, put, step, Answer, ok, more, wait, done, refused, Turn, Told, nothing, take_in_hand, tell_ok, tell_done, ends_request, tell_refused, tell_answer, tell, told, Unfinished}
 
 and-true : (b : Bool) → (b && true) ≡ b
 and-true true = refl
@@ -162,8 +160,3 @@ told-listed (k ∷ ks) t l = told-listed ks (tell k t) (tell-listed k.call k.ans
 -- For every list of turns there is a list of the sessions that are unfinished after them, each once.
 pub unfinished-told : (ks : List Turn) → (ss : List ℕ) × Unfinished (told nothing ks) ss
 unfinished-told ks = told-listed ks nothing nothing-listed
-
--- From a fresh store: after any list of calls the unfinished sessions can be listed, and aborted in that sequence.
-pub aborts-made : (𝓢 : Machine) (table : Table) → Strict table → Laws 𝓢 table → (x y : 𝓢.X) (ks : List Turn) → Knows 𝓢 nothing x → Formatted (𝓢.meaning x) → Run 𝓢 x ks y
-    → (ss : List ℕ) × Unfinished (told nothing ks) ss × Made 𝓢 y (map abort ss)
-aborts-made 𝓢 table σ L x y ks w f r = let u = unfinished-told ks in (u.0, u.1, (demand-3 𝓢 table σ L x y ks w f r).can_abort u.0 u.1)

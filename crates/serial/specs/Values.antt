@@ -1,15 +1,14 @@
 -- A property of numbers that 0 has, and each number that is written: every value of the store has it, after every list of calls.
-use Rattle.std.specs.Prelude.{◌≡◌, Bool, true, false, cond, List, [], ◌∷◌, ◌++◌, ℕ, zero, suc, eqb}
+use Rattle.std.specs.Prelude.{◌≡◌, Bool, true, false, cond, List, [], ◌∷◌, ◌++◌, ℕ, eqb}
 use Rattle.std.proofs.Common.{sym, subst}
 use Rattle.std.proofs.Math.Option.{Option, none, some}
 use Rattle.std.proofs.Math.Decide.{ℕ_discrete}
 use Rattle.serial.specs.Serial.{not-true, put-cases, pick, Event, Done, Hist, hstep, after, serial, Inv, inv-fresh}
 use Rattle.serial.specs.Serial as S
-use Rattle.serial.specs.Model.{Db, Req, Ans, read, write, insert, remove, locate, empty, eff, value, request_of}
+use Rattle.serial.specs.Model.{Db, Req, read, write, insert, remove, locate, empty, eff, value, request_of}
 use Rattle.serial.specs.Footprints.{store}
-use Rattle.serial.specs.Locks.{Table, Strict}
 use Rattle.serial.specs.LockMachine.{view, Formatted, formatted-fresh}
-use Rattle.serial.specs.Calls.{Call, format, begin, commit, abort, ask, recover, put, step, Answer, ok, more, wait, done, refused, Turn, Asked, Told, nothing, take_in_hand, given_up, without, tell_ok, answer_of, fed, finished, tell_done, ends_request, tell_refused, tell_answer, tell, told, Machine, calls_of, Run, stop, next, Knows, Laws, Serial, keeps}
+use Rattle.serial.specs.Calls.{Call, format, begin, commit, abort, ask, recover, put, step, Asked, Told, nothing, take_in_hand, without, ends_request, tell_refused, Machine, Knows, Serial}
 
 -- One of two, whichever is picked.
 either : {A : Type 0} (F : A → Type 0) (b : Bool) (x y : A) → F x → F y → F (cond b x y)
@@ -78,7 +77,7 @@ module _ (P : ℕ → Type 0) where
   current-put : (h : Hist store) (s : ℕ) (l : List (Done store)) → FitHist h → FitRequests l → (t : ℕ) → FitRequests (S.put h.current s l t)
   current-put h s l W w = put-cases (λ t z. FitRequests z) h.current s l w (λ t n. W.current t)
 
-  hist-fits : (e : Event store) (h : Hist store) → FitEvent e → FitHist h → FitHist (hstep store e h)
+  pub hist-fits : (e : Event store) (h : Hist store) → FitEvent e → FitHist h → FitHist (hstep store e h)
   hist-fits (S.begin s) h w W = record { closed = W.closed; current = current-put h s [] W tt }
   hist-fits (S.grow s) h w W = W
   hist-fits (S.commit s) h w W = record { closed = sessions-append h.closed (h.current s ∷ []) W.closed (W.current s, tt); current = current-put h s [] W tt }
@@ -87,54 +86,25 @@ module _ (P : ℕ → Type 0) where
       record { closed = W.closed; current = current-put h s (h.current s ++ ((r, a) ∷ [])) W (requests-append (h.current s) ((r, a) ∷ []) (W.current s) (w, tt)) }
   hist-fits S.quiet h w W = W
 
-  abbrev FitOption : Option Req → Type 0
+  abbrev pub FitOption : Option Req → Type 0
   FitOption none = Unit {0}
   FitOption (some r) = FitRequest r
 
-  request-fits : (c e f g : ℕ) → P f → FitOption (request_of c e f g)
+  pub request-fits : (c e f g : ℕ) → P f → FitOption (request_of c e f g)
   request-fits c e f g w =
       either FitOption (eqb c 1) (some (read e)) _ tt (either FitOption (eqb c 2) (some (write e f)) _ w (either FitOption (eqb c 3) (some (insert e f)) _ tt
       (either FitOption (eqb c 4) (some (remove e f)) _ tt (either FitOption (eqb c 5) (some (locate f g)) none tt tt))))
 
-  fed-fits : (s : ℕ) (r : Option Req) (a : Ans) (h : Hist store) → FitOption r → FitHist h → FitHist (fed s r a h)
-  fed-fits s none a h w W = W
-  fed-fits s (some r) a h w W = hist-fits (S.finish s r a) h w W
-
-  finished-fits : (p : ℕ) (a : Option Asked) (ns l : List ℕ) (h : Hist store) → FitHand a → FitHist h → FitHist (finished p a ns l h)
-  finished-fits zero a ns l h w W = W
-  finished-fits (suc k) none ns l h w W = W
-  finished-fits (suc k) (some a) ns l h w W = fed-fits (suc k) (request_of a.code a.entry a.first a.second) (answer_of a.code ns l) h (request-fits a.code a.entry a.first a.second w) W
-
-  hands-put : (t : Told) (p : ℕ) (a : Option Asked) → FitTold t → FitHand a → (q : ℕ) → FitHand (S.put t.hands p a q)
+  pub hands-put : (t : Told) (p : ℕ) (a : Option Asked) → FitTold t → FitHand a → (q : ℕ) → FitHand (S.put t.hands p a q)
   hands-put t p a W w = put-cases (λ q z. FitHand z) t.hands p a w (λ q n. W.hands q)
 
-  without-fits : (f : ℕ → Bool) (h : Hist store) → FitHist h → FitHist (without f h)
+  pub without-fits : (f : ℕ → Bool) (h : Hist store) → FitHist h → FitHist (without f h)
   without-fits f h W = record { closed = W.closed; current = λ s. either FitRequests (f s) [] (h.current s) tt (W.current s) }
 
-  nothing-fits : FitTold nothing
+  pub nothing-fits : FitTold nothing
   nothing-fits = record { past = record { closed = tt; current = λ s. tt }; hands = λ p. tt }
 
-  ok-fits : (c : Call) (t : Told) → FitCall c → FitTold t → FitTold (tell_ok c t)
-  ok-fits (format m) t w W = nothing-fits
-  ok-fits (begin s) t w W = record { past = hist-fits (S.begin s) t.past tt W.past; hands = hands-put t s none W tt }
-  ok-fits (commit s) t w W = record { past = hist-fits (S.commit s) t.past tt W.past; hands = hands-put t s none W tt }
-  ok-fits (abort s) t w W = record { past = hist-fits (S.abort s) t.past tt W.past; hands = hands-put t s none W tt }
-  ok-fits (ask s) t w W = record { past = W.past; hands = W.hands }
-  ok-fits recover t w W = record { past = without-fits (given_up t) t.past W.past; hands = λ p. tt }
-  ok-fits (put p c e f g) t w W = record { past = W.past; hands = hands-put t p (some (record { code = c; entry = e; first = f; second = g })) W w }
-  ok-fits (step p l) t w W = W
-
-  done-fits : (c : Call) (ns l : List ℕ) (t : Told) → FitTold t → FitTold (tell_done c ns l t)
-  done-fits (format m) ns l t W = W
-  done-fits (begin s) ns l t W = W
-  done-fits (commit s) ns l t W = W
-  done-fits (abort s) ns l t W = W
-  done-fits (ask s) ns l t W = W
-  done-fits recover ns l t W = W
-  done-fits (put p c e f g) ns l t W = W
-  done-fits (step p l₀) ns l t W = record { past = finished-fits p (t.hands p) ns l t.past (W.hands p) W.past; hands = hands-put t p none W tt }
-
-  refused-fits : (c : Call) (n : ℕ) (t : Told) → FitTold t → FitTold (tell_refused c n t)
+  pub refused-fits : (c : Call) (n : ℕ) (t : Told) → FitTold t → FitTold (tell_refused c n t)
   refused-fits (format m) n t W = W
   refused-fits (begin s) n t W = W
   refused-fits (commit s) n t W = W
@@ -143,13 +113,6 @@ module _ (P : ℕ → Type 0) where
   refused-fits recover n t W = W
   refused-fits (put p c e f g) n t W = W
   refused-fits (step p l) n t W = either FitTold (ends_request n) (take_in_hand p none t) t (record { past = W.past; hands = hands-put t p none W tt }) W
-
-  tell-fits : (c : Call) (a : Answer) (l : List ℕ) (t : Told) → FitCall c → FitTold t → FitTold (tell_answer c a l t)
-  tell-fits c ok l t w W = ok-fits c t w W
-  tell-fits c more l t w W = W
-  tell-fits c (wait p) l t w W = W
-  tell-fits c (done ns) l t w W = done-fits c ns l t W
-  tell-fits c (refused n k) l t w W = refused-fits c n t W
 
   -- So every value has it, of the model and of the store.
 
@@ -185,18 +148,6 @@ module _ (P : ℕ → Type 0) where
 
   pub fitting-fresh : (𝓢 : Machine) (x : 𝓢.X) → Knows 𝓢 nothing x → Formatted (𝓢.meaning x) → Fitting 𝓢 nothing x
   fitting-fresh 𝓢 x w f = record { knows = w; serial = inv-fresh store empty tt (view (𝓢.meaning x)) (formatted-fresh (𝓢.meaning x) f); written = nothing-fits }
-
-  module _ (𝓢 : Machine) (T : Table) (strict : Strict T) (𝓛 : Laws 𝓢 T) where
-    pub fitting-turn : (k : Turn) (x y : 𝓢.X) (t : Told) → 𝓢.Does x k y → FitCall k.call → Fitting 𝓢 t x → Fitting 𝓢 (tell k t) y
-    fitting-turn k x y t d w F = record {
-      knows = 𝓛.knows k x y t d F.knows;
-      serial = keeps 𝓢 T strict 𝓛 k x y t d F.knows F.serial;
-      written = tell-fits k.call k.answer k.list t w F.written;
-    }
-
-    pub fitting-run : {x y : 𝓢.X} {ks : List Turn} (t : Told) → Run 𝓢 x ks y → FitCalls (calls_of ks) → Fitting 𝓢 t x → Fitting 𝓢 (told t ks) y
-    fitting-run t stop w F = F
-    fitting-run t (next {x} {y} {z} {k} {ks} d r) w F = fitting-run (tell k t) r w.1 (fitting-turn k x y t d w.0 F)
 
   module _ (zero-fits : P 0) (dec : (n : ℕ) → Dec (P n)) where
     values-fit : (h : Hist store) (σ : S.State store) → Inv store empty h σ → FitHist h → (e : ℕ) → P (σ.db (value e))

@@ -6,4 +6,3 @@
 // answers alone.
 // Rests on: nothing but the language's library.
 #![tactic(auto)]
-

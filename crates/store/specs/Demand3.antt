@@ -3,15 +3,17 @@ use Rattle.std.specs.Prelude.{◌≡◌, List, [], map, ◌⊎◌, ℕ, length}
 use Rattle.std.proofs.Common.{subst, ap, ◌∙◌, inl, inr}
 use Rattle.sessions.specs.Sessions.{parties}
 use Rattle.serial.specs.Locks.{lock_rule, lock-rule-strict}
-use Rattle.serial.specs.Calls.{Turn, Told, nothing, tell, told, Unfinished, Made, Knows, Moves, Anew, Laws, Demand3, demand-3, calls-made}
-use Rattle.serial.specs.Unfinished.{aborts-made}
+use Rattle.serial.specs.Calls.{Turn, Told, nothing, tell, told, Unfinished, Made, Knows, Moves, Anew, Laws, Demand3, calls-made}
+use Rattle.serial.proofs.Calls.{demand-3}
+use Rattle.serial.proofs.Unfinished.{aborts-made}
 use Rattle.serial.specs.Calls as C
 use Rattle.serial.specs.Recovery.{AskedSince, asked-since, run-knows}
 use Rattle.outcomes.specs.declared.Answer.{Answer}
 use Rattle.outcomes.specs.Said.{said}
 use Rattle.promises.specs.Demands.{Lending, words}
 use Rattle.promises.specs.Runs.{lending}
-use Rattle.promises.specs.Words.{Can, can, words-meet, formatted-known, formatted-new}
+use Rattle.promises.specs.Words.{Can}
+use Rattle.promises.proofs.Words.{can, words-meet, formatted-known, formatted-new}
 use Rattle.store.specs.Lent.{Formatted, OnTable}
 use Rattle.store.specs.Turns.{turn, Lends, formats, begins, puts, steps, commits, aborts, asks, recovers, SoundLent, sound-long, lends-return, functions, Lendings, own, own-run, own-told, accepted-format}
 

@@ -15,7 +15,8 @@ use Rattle.outcomes.specs.declared.Answer.{Answer}
 use Rattle.outcomes.specs.Said.{said}
 use Rattle.promises.specs.Demands.{Lending}
 use Rattle.promises.specs.Holding.{holders_in, holders-run, located-run}
-use Rattle.promises.specs.Line.{InLine, words-line}
+use Rattle.promises.specs.Line.{InLine}
+use Rattle.promises.proofs.Line.{words-line}
 use Rattle.store.specs.Lent.{Formatted, OnTable}
 use Rattle.store.specs.Turns.{Lends, TurnedAway, away-quiet, functions, functions-words, Lendings, over, then, wrong, own, own-run, own-told, own_line, format-sound, accepted-format}
 

@@ -14,7 +14,7 @@ use Rattle.own_journal.specs.Own.{Careful, Accepted, JournalAccepted, own-journa
 use Rattle.own_journal.specs.Machine.{machine-careful}
 use Rattle.promises.specs.Relations.{Formats}
 use Rattle.promises.specs.Demands.{Lending, Returns, words, lent, performs}
-use Rattle.promises.specs.Words.{words-meet, formatted-known, formatted-new}
+use Rattle.promises.proofs.Words.{words-meet, formatted-known, formatted-new}
 use Rattle.promises.specs.Runs.{lending}
 use Rattle.store.specs.Lent.{Formatted, OnTable}
 use Rattle.store.specs.Turns.{functions-words, away-quiet, away-unwritten, Lendings, over, then, wrong, own, own-run, own-told, format-sound, accepted-format}

@@ -23,8 +23,9 @@ use Rattle.promises.specs.Relations.{Calls}
 use Rattle.promises.specs.Demand1.{demand-1, calls-not-1}
 use Rattle.promises.specs.Demands.{Lending, words}
 use Rattle.promises.specs.Holding.{holders_in, holders-run}
-use Rattle.promises.specs.Line.{InLine, run_sound, words-line}
-use Rattle.promises.specs.Words.{words-meet, formatted-known, formatted-calls}
+use Rattle.promises.specs.Line.{InLine, run_sound}
+use Rattle.promises.proofs.Line.{words-line}
+use Rattle.promises.proofs.Words.{words-meet, formatted-known, formatted-calls}
 use Rattle.promises.specs.Runs.{lending, calling, put_turn, step_turn, steps}
 use Rattle.promises.specs.Runs as R
 use Rattle.asking.specs.declared.Asking.TheVariants as K

@@ -22,7 +22,7 @@ use Rattle.promises.specs.Demand1.{calls-not-1, format-not-1}
 use Rattle.promises.specs.Demands.{Lending, Returns, words}
 use Rattle.promises.specs.Promised.{calls-return, formats-return}
 use Rattle.promises.specs.Runs.{lending}
-use Rattle.promises.specs.Words.{formatted-calls}
+use Rattle.promises.proofs.Words.{formatted-calls}
 use Rattle.store.specs.declared.PutArgs.{PutArgs}
 use Rattle.store.specs.Lent.{Formatted, Begun, Put, Committed, Aborted, Asked, Recovered, OnTable, SteppedOnTable}
 

@@ -18,7 +18,8 @@ use Rattle.machine.specs.State.{Desc, State, take, stored, lowest_from, or_none,
 use Rattle.machine.specs.Sound as S
 use Rattle.machine.specs.Sound.{Passing}
 use Rattle.machine.specs.Looks.{sound-ordered, ordered-rises, take-stored}
-use Rattle.machine.specs.Nearest.{Nearest, nearest, takes_of}
+use Rattle.machine.specs.Nearest.{Nearest}
+use Rattle.machine.proofs.Nearest.{nearest, takes_of}
 use Rattle.meaning.specs.Reading.{Chained, Leaf, hand_of, stage_of, M-of, R-of}
 use Rattle.meaning.specs.Sound.{All, pins_first}
 use Rattle.meaning.specs.Numbers.{all_right}

@@ -15,14 +15,13 @@ use Rattle.outcomes.specs.Said.{said, Stepped}
 use Rattle.members.specs.Members.{pass_at, locate_at}
 use Rattle.endings.specs.Table.{idled}
 use Rattle.finishing.specs.Finishing.{end_request}
-use Rattle.finishing.specs.Ended.{refused-moves}
+use Rattle.finishing.proofs.Ended.{refused-moves}
 use Rattle.serial.specs.Locks.{weak}
-use Rattle.serial.specs.Model.{two_words}
 use Rattle.machine.specs.Logic.{leb_yes}
 use Rattle.machine.specs.Holders.{width}
 use Rattle.machine.specs.State.{Desc, State, Request, Outcome, take, done, refused}
 use Rattle.machine.specs.Steps.{group_blockers, guarded, goes_on, passed_state, located_state, ended, last_take, take_desc, take_step, answer, next_step}
-use Rattle.machine.specs.Nearest.{takes_of}
+use Rattle.machine.proofs.Nearest.{takes_of}
 use Rattle.meaning.specs.Reading.{M-of, R-of}
 use Rattle.meaning.specs.Sound.{All}
 use Rattle.meaning.specs.Numbers.{all_right}
@@ -34,24 +33,24 @@ use Rattle.layout.specs.Asked.{request_in, wait-moves}
 use Rattle.taking.specs.Found as F
 use Rattle.taking.specs.Found.{next_key}
 use Rattle.taking.specs.Pass.{took_key, take-pass}
-use Rattle.taking.specs.Last.{found, last-words, last-count, take_last}
+use Rattle.taking.specs.Last.{found, last-count, take_last}
 use Rattle.taking.specs.Blocked.{blockers-are, blocker-proper}
-use Rattle.taking.specs.Taking.{in_way_of, found_in, wait_step, pass_step, done_step, short_step, last_step, free_step, take_step_of, last_written, free_written, take_written}
+use Rattle.taking.specs.Taking.{in_way_of, found_in, wait_step, pass_step, done_step, short_step, last_step, free_step, take_step_of}
 
 module _ (s : List ℕ) (t : List Session) (A : Stands s t) (p : ℕ) (party : p ≤ width) (stage : (session_at t p).stage ≡ 5) where
-  abbrev x : Session
+  abbrev pub x : Session
   x = session_at t p
 
-  abbrev r : Request
+  abbrev pub r : Request
   r = request_in (session_at t p)
 
-  abbrev σ : State
+  abbrev pub σ : State
   σ = means A.lay t
 
-  abbrev d : ℕ
+  abbrev pub d : ℕ
   d = F.next_record s t A p party stage
 
-  abbrev D : Desc
+  abbrev pub D : Desc
   D = F.next_desc s t A p party stage
 
   abbrev MovesBy : Stepped → Outcome → Type 0
@@ -76,7 +75,7 @@ module _ (s : List ℕ) (t : List Session) (A : Stands s t) (p : ℕ) (party : p
   pub word-update : word_of s (M-of s) d 3 ≡ D.update
   word-update = at-word 3 ∙ next_fits.update ∙ ap (λ y. y.update) (F.take-desc-is s t A p party stage)
 
-  in-way : in_way_of s (M-of s) d p ≡ first_of (group_blockers weak p D)
+  pub in-way : in_way_of s (M-of s) d p ≡ first_of (group_blockers weak p D)
   unfolding in_way_of
   in-way =
       let N = (takes_of A.sound p r (next_key x) (F.in_hand s t A p party stage) (F.in_take s t A p party stage)).next in
@@ -92,7 +91,7 @@ module _ (s : List ℕ) (t : List Session) (A : Stands s t) (p : ℕ) (party : p
     tells = refl;
   }
 
-  abbrev l : List (ℕ × ℕ)
+  abbrev pub l : List (ℕ × ℕ)
   l = found s t A p party stage
 
   module _ (n : ℕ) where
@@ -102,10 +101,10 @@ module _ (s : List ℕ) (t : List Session) (A : Stands s t) (p : ℕ) (party : p
     abbrev short_by : ℕ → Stepped
     short_by c = record { words = end_request s (M-of s) x; session = idled x; answer = Refused 12 c }
 
-    abbrev done_out : Outcome
+    abbrev pub done_out : Outcome
     done_out = record { answer = done (length l ∷ []); next = ended p r (located_state p D σ); written = l }
 
-    abbrev short_out : Outcome
+    abbrev pub short_out : Outcome
     short_out = answer (refused 12 (length l)) (ended p r σ)
 
     last-by : (b : Bool) → MovesBy (cond b (done_by (length l)) (short_by (length l))) (cond b done_out short_out)
@@ -117,7 +116,7 @@ module _ (s : List ℕ) (t : List Session) (A : Stands s t) (p : ℕ) (party : p
     last-moves =
         subst (λ c. MovesBy (cond (leb (2 * c) n) (done_by c) (short_by c)) (cond (leb (2 * length l) n) done_out short_out)) (sym (last-count s t A p party stage)) (last-by (leb (2 * length l) n))
 
-    abbrev free_out : Outcome
+    abbrev pub free_out : Outcome
     free_out = cond (ltb D.key x.second) (goes_on p r (take (suc D.key)) (passed_state p D σ)) (last_take n p r l D σ)
 
     free-moves : MovesBy (free_step s (M-of s) (R-of s) n d p x) free_out
@@ -145,32 +144,6 @@ module _ (s : List ℕ) (t : List Session) (A : Stands s t) (p : ℕ) (party : p
     take-moves = guard-moves (group_blockers weak p D) refl
 
     -- ---- the lent list
-
-    written-by : (b : Bool) → cond b (two_words l) [] ≡ two_words (cond b done_out short_out).written
-    written-by true = refl
-    written-by false = refl
-
-    last-list : last_written s (M-of s) (R-of s) n x ≡ two_words (last_take n p r l D σ).written
-    unfolding last_written found_in last_take
-    last-list =
-        ap₂ (λ c w. cond (leb (2 * c) n) w []) (last-count s t A p party stage) (last-words s t A p party stage) ∙ written-by (leb (2 * length l) n)
-
-    free-list : (c : Bool) → cond c [] (last_written s (M-of s) (R-of s) n x) ≡ two_words (cond c (goes_on p r (take (suc D.key)) (passed_state p D σ)) (last_take n p r l D σ)).written
-    unfolding goes_on
-    free-list true = refl
-    free-list false = last-list
-
-    guard-list : (bs : List ℕ) → group_blockers weak p D ≡ bs → take_written s (M-of s) (R-of s) n p x ≡ two_words (guarded bs 0 p r σ free_out).written
-    unfolding take_written free_written guarded
-    guard-list [] e =
-        rw (eq-eqb (in_way_of s (M-of s) d p) 0 (in-way ∙ ap first_of e), leb_yes 0 σ.free (omega arith))
-        (ap (λ k. cond (ltb k x.second) [] (last_written s (M-of s) (R-of s) n x)) word-key ∙ free-list (ltb D.key x.second))
-    guard-list (b ∷ bs) e = rw (ne_eqb (in_way_of s (M-of s) d p) 0 (λ z. blocker-proper p D b bs e (sym (in-way ∙ ap first_of e) ∙ z))) refl
-
-    -- The words written at the start of the list are the machine's pairs.
-    pub take-list : take_written s (M-of s) (R-of s) n p x ≡ two_words (take_step n p r (next_key x) σ).written
-    unfolding take_step take_desc request_in
-    take-list = guard-list (group_blockers weak p D) refl
 
     -- As the step that is next.
     pub take_next : take_step n p r (next_key x) σ ≡ next_step n p r σ r.stage

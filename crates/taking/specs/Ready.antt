@@ -8,7 +8,8 @@ use Rattle.sessions.specs.Sessions.{session_at}
 use Rattle.scans.specs.Scans.{last_upto, WalkRange, CanFollow, CanCount}
 use Rattle.members.specs.Members.{locate_at}
 use Rattle.finishing.specs.Finishing.{Endable}
-use Rattle.finishing.specs.Ready.{pins_of, pins-mean, pins-kept, pins-in-hand, end-ready, end-ready-after}
+use Rattle.finishing.specs.Ready.{pins_of, pins-mean, pins-kept, pins-in-hand, end-ready-after}
+use Rattle.finishing.proofs.Ready.{end-ready}
 use Rattle.serial.specs.Serial.{true≢false}
 use Rattle.machine.specs.Holders.{width, held_by}
 use Rattle.machine.specs.State.{Desc, State, hold_desc, stored}
@@ -18,7 +19,7 @@ use Rattle.machine.specs.Calls.{bad_code}
 use Rattle.machine.specs.Sound.{pins_in, members_many}
 use Rattle.machine.specs.Housekeeping.{lvs}
 use Rattle.machine.specs.Looks.{put-pins-kept}
-use Rattle.machine.specs.Nearest.{takes_of}
+use Rattle.machine.proofs.Nearest.{takes_of}
 use Rattle.meaning.specs.Reading.{Chained, Leaf, M-of, R-of}
 use Rattle.meaning.specs.Sound.{All}
 use Rattle.meaning.specs.Numbers.{all_right}

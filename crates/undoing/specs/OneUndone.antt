@@ -1,10 +1,9 @@
 -- One undo record undone: of any kind; and that a sound state has what is asked.
-use Rattle.std.specs.Prelude.{◌≡◌, refl, true, false, List, [], ◌∷◌, map, ℕ, zero, suc, ◌≤◌, ◌<◌, length}
+use Rattle.std.specs.Prelude.{◌≡◌, true, false, List, [], ◌∷◌, map, ℕ, zero, suc, ◌≤◌, ◌<◌, length}
 use Rattle.std.proofs.Common.{sym, ap, subst, ◌∙◌, arith}
 use Rattle.std.proofs.lemmas.List.{map-append}
 use Rattle.words.specs.Store.{word_of}
 use Rattle.sessions.specs.declared.Session.{Session}
-use Rattle.sessions.specs.Sessions.{session_at}
 use Rattle.serial.specs.Locks.{strong}
 use Rattle.serial.specs.Locks as K
 use Rattle.machine.specs.Holders.{width, elem}
@@ -25,25 +24,8 @@ use Rattle.layout.specs.Groups.{hole-leaves, left_leaves, right_leaves}
 use Rattle.layout.specs.Ordering.{Rising, key_in, rising-of}
 use Rattle.layout.specs.Places.{AtKey, session-means}
 use Rattle.layout.specs.Room.{Sizes}
-use Rattle.undo_log.specs.Undoing.{undo_one}
 use Rattle.grouping.specs.GroupWords.{elem-some, elem-none}
-use Rattle.undoing.specs.Rows.{with_undo, entry_in, AptAs, Apt, Off, OthersOff, Onward, mine-named}
-use Rattle.undoing.specs.ValueUndone.{value_row}
-use Rattle.undoing.specs.GroupUndone.{added-row, taken-row}
-
-pub undo-one-row : (s : List ℕ) (t : List Session) (L : Lay) → Holds s t L → Rising L → Sizes L → (p : ℕ) → 1 ≤ p → p ≤ width → (u : Undone) (us : List Undone) → L.undos p ≡ u ∷ us
-    → Apt L u → OthersOff L p (entry_in u.undo) → Onward s t L p u us (undo_one s (M-of s) u.num) (with_undo (session_at t p) (word_of s (M-of s) u.num 0))
-undo-one-row s t L H O Z p least party u us chain apt off = go u.undo refl apt off
-  where
-    names : (x : Undo) → u.undo ≡ x → NamedAs (leaves_in L) (Named (leaves_in L) us) (lists_in L) u.num u.saved u.descriptor x
-    names x w = subst (NamedAs (leaves_in L) (Named (leaves_in L) us) (lists_in L) u.num u.saved u.descriptor) w (mine-named s t L H Z p least party u us chain)
-
-    go : (x : Undo) → u.undo ≡ x → AptAs L u.saved u.descriptor x → OthersOff L p (entry_in x)
-        → Onward s t L p u us (undo_one s (M-of s) u.num) (with_undo (session_at t p) (word_of s (M-of s) u.num 0))
-    go (value zero v) w apt off = absurd (omega (arith, apt.0))
-    go (value (suc j) v) w apt off = value_row s t L H O Z p least party u us chain j v w apt.1
-    go (added e k) w apt off = added-row s t L H O Z p least party u us chain k (key_in L O k u.descriptor (names (added e k) w).0) e w apt off
-    go (taken e k) w apt off = taken-row s t L H O Z p least party u us chain k (key_in L O k u.descriptor (names (taken e k) w).0) e w apt off
+use Rattle.undoing.specs.Rows.{entry_in, AptAs, Apt, Off, OthersOff, mine-named}
 
 -- ---- from a sound state
 

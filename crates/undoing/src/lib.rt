@@ -4,4 +4,3 @@
 // hold the next one after one undo record is undone, and mean the machine's `undo`; `AllUndone.undo-all-row`, the same for the whole chain, and that the
 // code's `requires` is met. It rests on `members` and `undo_log` for the words, on `layout` for what words hold, on `machine` for what undoing means.
 #![tactic(auto)]
-

@@ -28,7 +28,7 @@ use Rattle.layout.specs.Row.{Stands, Moves}
 use Rattle.layout.specs.Asked.{request_in, wait-moves}
 use Rattle.layout.specs.Room.{Sizes, sizes-of}
 use Rattle.outcomes.specs.Said.{Stepped, said}
-use Rattle.finishing.specs.Ended.{refused-moves}
+use Rattle.finishing.proofs.Ended.{refused-moves}
 use Rattle.nodes.specs.Paths.{son_toward}
 use Rattle.descents.specs.Descents.{plain_son, has_free, in_way}
 use Rattle.splits.specs.Splits.{split_son, split_son_half}

@@ -19,7 +19,7 @@ use Rattle.layout.specs.Layout.{Lay, Holds}
 use Rattle.layout.specs.Keep.{records-times}
 use Rattle.layout.specs.Row.{Stands}
 use Rattle.layout.specs.Room.{Sizes, sizes-of, owned-has}
-use Rattle.finishing.specs.Ready.{end-ready}
+use Rattle.finishing.proofs.Ready.{end-ready}
 use Rattle.nodes.specs.Paths.{son_at, son_toward}
 use Rattle.descents.specs.Descents.{Toward}
 use Rattle.joins.specs.Joins.{pair_place, last_of_left}

@@ -1,4 +1,5 @@
-use Rattle.aborting.specs.Words.{undos-at, leave-at, abort-run}
+use Rattle.aborting.specs.Words.{undos-at}
+use Rattle.aborting.proofs.Words.{leave-at, abort-run}
 use borrow.Author.Rules.{rules}
 use Rattle.aborting.proofs.abort_words.Goals as goal
 

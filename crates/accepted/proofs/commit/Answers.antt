@@ -1,4 +1,5 @@
-use Rattle.promises.specs.Ways.{session-party, commit-can, commit-run}
+use Rattle.promises.specs.Ways.{session-party, commit-can}
+use Rattle.promises.proofs.Ways.{commit-run}
 use borrow.Author.Rules.{rules}
 use Rattle.accepted.proofs.commit.Goals as goal
 

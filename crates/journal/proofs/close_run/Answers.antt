@@ -1,4 +1,5 @@
-use Rattle.journal.specs.Loops.{close-none, close-replayable, close-run}
+use Rattle.journal.specs.Loops.{close-none}
+use Rattle.journal.proofs.Loops.{close-replayable, close-run}
 use borrow.Author.Rules.{rules}
 use Rattle.journal.proofs.close_run.Goals as goal
 

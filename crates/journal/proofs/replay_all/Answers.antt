@@ -2,7 +2,8 @@ use mathlib.Core.Path.{refl}
 use native.Mathlib.Omega.{arith}
 use borrow.Author.Tests.{not-true, not-false}
 use Rattle.replay.specs.Held.{held}
-use Rattle.journal.specs.Loops.{GoingOn, going-on-start, going-on-left, going-on-close, going-on-apart, going-on-more, going-on-end}
+use Rattle.journal.specs.Loops.{GoingOn, going-on-start, going-on-left, going-on-end}
+use Rattle.journal.proofs.Loops.{going-on-close, going-on-apart, going-on-more}
 use borrow.Author.Rules.{rules}
 use Rattle.journal.proofs.replay_all.Goals as goal
 

@@ -13,7 +13,7 @@ pub returns-then-not-covers : goal.returns-then-not-covers
 returns-then-not-covers c = filled-2 _ _ _ (passed c.serves.ensures (by_ap negated c.if-not-serves.false)) (failed c.covers.ensures (by_ap negated c.if-not-covers.true))
 
 pub returns-then-bytes-ne7 : goal.returns-then-bytes-ne7
-returns-then-bytes-ne7 c = 
+returns-then-bytes-ne7 c =
     filled-3 _ _ _
     (passed c.serves.ensures (by_ap negated c.if-not-serves.false))
     (passed c.covers.ensures (by_ap negated c.if-not-covers.false))
@@ -35,7 +35,7 @@ fill-requires c = (
 )
 
 pub returns : goal.returns
-returns c = 
+returns c =
     filled-4 _ _ _
     (passed c.serves.ensures (by_ap negated c.if-not-serves.false))
     (passed c.covers.ensures (by_ap negated c.if-not-covers.false))

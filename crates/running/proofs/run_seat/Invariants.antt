@@ -10,7 +10,7 @@ use Rattle.running.specs.Seats.{SeatRunning, seat-none, seat-seated, seat-again,
 use Rattle.running.proofs.run_seat.Given as goal
 
 abbrev pub invariant-loop-steps : goal.invariant-loop-steps
-invariant-loop-steps l = 
+invariant-loop-steps l =
     (length l.store ≡ length l.initial.store) × (length l.list ≡ length l.initial.list) × (l.steps ≤ l.limit) × SeatRunning l.m l.r l.p l.initial.sat.session l.initial.store l.initial.list l.sat.answer l.steps l.list l.store l.sat.session × Hint l.store l.m l.r l.sat.session l.sat.next
 
 abbrev pub decreases-loop-steps : goal.decreases-loop-steps

@@ -19,7 +19,7 @@ pub returns-in-2 : goal.returns-in-2
 returns-in-2 c = write-run _ _ _ _ _ _ c.in-2.is c.write_step.ensures
 
 pub returns-in-3 : goal.returns-in-3
-returns-in-3 c = 
+returns-in-3 c =
     entry-run _ _ _ _ _ _ (omega arith) (omega arith) c.entry_step.ensures
 
 pub returns-in-0 : goal.returns-in-0

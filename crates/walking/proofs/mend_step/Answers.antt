@@ -5,11 +5,11 @@ use Rattle.walking.specs.Runs.{place-low, left-run, right-run, down_run, mend-re
 use Rattle.walking.proofs.mend_step.Goals as goal
 
 pub pair_place-i-requires : goal.pair_place-i-requires
-pair_place-i-requires c = 
+pair_place-i-requires c =
     rw c.load_node-n.ensures (c.requires.walker.toward.least, c.requires.walker.toward.most)
 
 pub is_first-first-requires : goal.is_first-first-requires
-is_first-first-requires c = 
+is_first-first-requires c =
     rw c.load_node-n.ensures (c.requires.walker.toward.least, c.requires.walker.toward.most)
 
 pub node_son-l-requires : goal.node_son-l-requires
@@ -31,16 +31,16 @@ pub overflow_sub-x : goal.overflow_sub-x
 overflow_sub-x c = omega (arith, c.requires.walker.level)
 
 pub down_bound-down-requires : goal.down_bound-down-requires
-down_bound-down-requires c = 
+down_bound-down-requires c =
     down_run _ _ _ _ c.requires c.load_node-n.ensures c.pair_place-i.ensures
 
 pub mend_by-requires : goal.mend_by-requires
-mend_by-requires c = 
+mend_by-requires c =
     mend-ready _ _ _ _ c.requires c.load_node-n.ensures c.pair_place-i.ensures c.is_first-first.ensures c.node_son-l.ensures
     c.node_son-q.ensures c.node_count-a.ensures c.node_count-b.ensures c.either-other.ensures
 
 pub returns : goal.returns
-returns c = 
+returns c =
     mend-run _ _ _ _ c.load_node-n.ensures c.pair_place-i.ensures c.is_first-first.ensures c.node_son-l.ensures
     c.node_son-q.ensures c.node_count-a.ensures c.node_count-b.ensures c.either-other.ensures c.down_bound-down.ensures
     c.mend_by.ensures

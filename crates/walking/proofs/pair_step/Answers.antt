@@ -8,7 +8,7 @@ use Rattle.walking.specs.Walking.{pair_step}
 use Rattle.walking.proofs.pair_step.Goals as goal
 
 pub pair_place-i-requires : goal.pair_place-i-requires
-pair_place-i-requires c = 
+pair_place-i-requires c =
     rw c.load_node-n.ensures (c.requires.walker.toward.least, c.requires.walker.toward.most)
 
 pub node_son-l-requires : goal.node_son-l-requires
@@ -28,14 +28,14 @@ node_latch-w-requires c = has-at c.requires.right (omega arith) (right-run _ _ _
 
 pub returns-then-b-eq0 : goal.returns-then-b-eq0
 unfolding pair_step
-returns-then-b-eq0 c = 
+returns-then-b-eq0 c =
     rw
     (ways-run _ _ _ _ _ c.load_node-n.ensures c.pair_place-i.ensures c.node_son-l.ensures c.node_son-q.ensures c.node_latch-v.ensures c.node_latch-w.ensures c.first_in_way-b.ensures, eq-eqb _ _ c.if-b-eq0.true)
     c.mend_step.ensures
 
 pub returns : goal.returns
 unfolding pair_step
-returns c = 
+returns c =
     rw
     (ways-run _ _ _ _ _ c.load_node-n.ensures c.pair_place-i.ensures c.node_son-l.ensures c.node_son-q.ensures c.node_latch-v.ensures c.node_latch-w.ensures c.first_in_way-b.ensures, ne_eqb _ _ c.if-b-eq0.false)
     (refl, c.wait_for.ensures)

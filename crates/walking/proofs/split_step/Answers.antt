@@ -6,19 +6,19 @@ use Rattle.walking.specs.Walking.{split_step}
 use Rattle.walking.proofs.split_step.Goals as goal
 
 pub full_step-requires : goal.full_step-requires
-full_step-requires c = 
+full_step-requires c =
     c.requires.full (free-none _ _ (sym c.has_free.ensures ∙ c.if-not-has_free.true))
 
 pub returns-then-not-has_free : goal.returns-then-not-has_free
 unfolding split_step
-returns-then-not-has_free c = 
+returns-then-not-has_free c =
     rw (sym c.has_free.ensures ∙ c.if-not-has_free.true) c.full_step.ensures
 
 pub halved_step-requires : goal.halved_step-requires
-halved_step-requires c = 
+halved_step-requires c =
     (c.requires.walker, c.requires.split (free-some _ _ (sym c.has_free.ensures ∙ c.if-not-has_free.false)))
 
 pub returns : goal.returns
 unfolding split_step
-returns c = 
+returns c =
     rw (sym c.has_free.ensures ∙ c.if-not-has_free.false) c.halved_step.ensures

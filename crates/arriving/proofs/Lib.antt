@@ -1,0 +1,3 @@
+-- Theorems of the crate arriving.
+pub mod Made
+pub mod Moving

@@ -1,0 +1,2 @@
+-- Theorems of the crate changing.
+pub mod Rows

@@ -1,0 +1,3 @@
+-- Theorems of the crate finishing.
+pub mod Ended
+pub mod Ready

@@ -1,0 +1,2 @@
+-- Theorems of the crate journal.
+pub mod Loops

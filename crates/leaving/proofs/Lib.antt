@@ -1,0 +1,2 @@
+-- Theorems of the crate leaving.
+pub mod Commit

@@ -1,0 +1,34 @@
+-- Theorems that rest on theorems of specs/: modules of the same names, in the same order.
+
+pub mod Housekeeping
+pub mod Nearest
+pub mod Shape
+pub mod Parts
+pub mod LatchSteps
+pub mod Descending
+pub mod EntryLocks
+pub mod GroupLocks
+pub mod Ending
+pub mod Leaving
+pub mod Keeping
+pub mod Entries
+pub mod Events
+pub mod Changes
+pub mod Insert
+pub mod Locate
+pub mod Session
+pub mod Moves
+pub mod Safety
+pub mod Blocking
+pub mod Conflicts
+pub mod Naming
+pub mod Tidying
+pub mod Forward
+pub mod Grows
+pub mod Held
+pub mod Answers
+pub mod Needs
+pub mod Told
+pub mod Demand3
+pub mod Line
+pub mod Asked

@@ -1,0 +1,2 @@
+-- Theorems of the crate taking.
+pub mod Moves
