@@ -1,4 +1,4 @@
--- An answer in one number of 64 bits: `packed`. It loses nothing: `unpacked` gives the answer back. So do `unpacked-day` and the place of a day call.
+-- An answer in one number of 64 bits: `packed`. It loses nothing: `unpacked` gives the answer back. So do `unpacked_day` and the place of a day call.
 use Rattle.std.specs.Prelude.{◌≡◌, refl, cond, List, [], ◌∷◌, ℕ, ◌+◌, ◌*◌, ◌/◌, ◌%◌, ◌≤◌, ◌<◌, eqb}
 use Rattle.std.proofs.Common.{sym, ap, ◌∙◌, arith, mod-lt, mod-eq_of_lt, lit<}
 use Rattle.std.proofs.Math.Arith.{digits_div, digits_mod}

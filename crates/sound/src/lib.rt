@@ -2,7 +2,7 @@
 //
 // `first_fault` runs the passes one after the other and answers the first part that is broken, or that none is and how many records are
 // free; `is_sound` answers whether none is. Neither asks anything of the words that it is given. Each result EQUALS a definition
-// of specs/Sound (`firstFault`, `isSound`); specs/Sizes has the sizes that format gives, specs/Faults the numbers of the parts. The time is
+// of specs/Sound (`first_fault`, `is_sound`); specs/Sizes has the sizes that format gives, specs/Faults the numbers of the parts. The time is
 // linear in the words of the store. It rests on the crates words, groups, sessions, seniority, marks, undo_chains, parties, tree_walk, holders
 // and holdings.
 #![tactic(auto)]

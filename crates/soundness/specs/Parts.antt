@@ -82,7 +82,7 @@ AllReached s t = (i : ℕ) → 1 ≤ i → i ≤ R-of s → 1 ≤ times i (joine
 abbrev pub table_fault : ℕ
 table_fault = 11
 
--- Part n. `Sizes` stands in SizesPass, `EntriesHeld` in HeldTests, what is asked of each request in hand (`Parties`) in PartyPass.Party, `Latches-match` in PartiesPass,
+-- Part n. `Sizes` stands in SizesPass, `EntriesHeld` in HeldTests, what is asked of each request in hand (`Parties`) in PartyPass.Party, `LatchesMatch` in PartiesPass,
 -- `Orders` in OrdersPass, `Marks` in MarksPass. A number that is no part's asks for nothing.
 unfoldable pub Part : ℕ → List ℕ → List Session → Type 0
 Part n s t =

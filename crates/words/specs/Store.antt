@@ -1,4 +1,4 @@
--- The records of a store of m entries: 16 header words, `entryWords` words an entry, then records of 20 words, numbered from 1.
+-- The records of a store of m entries: 16 header words, `entry_words` words an entry, then records of 20 words, numbered from 1.
 use Rattle.std.specs.Prelude.{◌≡◌, refl, List, ◌⊎◌, take, drop, length, get_or, set, ℕ, ◌+◌, ◌-◌, ◌*◌, ◌≤◌, ◌<◌}
 use Rattle.std.proofs.Common.{ap, ◌∙◌, inl, inr, eq-or-lt_of_le, length-set}
 use Rattle.std.proofs.Math.Logic.{⊎_elim}
