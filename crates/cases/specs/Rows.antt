@@ -205,12 +205,12 @@ abbrev pub tree : (h : ℕ) → (T ℕ ℕ (suc h) × ℕ) → Fact
 tree h y = ((λ x. shape x.root.height (keys_of x)), shape h y.0)
 
 -- The begun sessions by party, each with its number in the order of begins.
-abbrev pub begun-in : ℕ → List Session → List ℕ
-begun-in p [] = []
-begun-in p (x ∷ xs) = let rest = begun-in (suc p) xs in cond x.begun (p ∷ x.order ∷ rest) rest
+abbrev pub begun_in_table : ℕ → List Session → List ℕ
+begun_in_table p [] = []
+begun_in_table p (x ∷ xs) = let rest = begun_in_table (suc p) xs in cond x.begun (p ∷ x.order ∷ rest) rest
 
 abbrev pub begun : List ℕ → Fact
-begun ns = ((λ x. numbers (begun-in 0 x.table)), numbers ns)
+begun ns = ((λ x. numbers (begun_in_table 0 x.table)), numbers ns)
 
 -- ---- rows
 

@@ -12,7 +12,7 @@ use Rattle.outcomes.specs.Said.{Stepped}
 use Rattle.members.specs.Members.{Pinned, Holdable, Puttable, Takeable, put_member, take_member, update_at, unpin_at}
 use Rattle.undo_log.specs.Undoing.{Loggable, log_added, log_taken}
 use Rattle.endings.specs.Table.{logged_by, idled}
-use Rattle.scans.specs.Scans.{memberOf}
+use Rattle.scans.specs.Scans.{membership_of}
 
 -- Session p holds the key of descriptor d in update mode, and its request pins d no more.
 unfoldable pub hold_and_end : List ℕ → ℕ → ℕ → ℕ → List ℕ
@@ -73,7 +73,7 @@ code_step s m p x d i = cond (eqb x.code 3) (insert_step s m p x d i) (remove_st
 unfoldable pub change_at : List ℕ → ℕ → ℕ → ℕ → Session → ℕ → Stepped
 change_at s m r p x d =
     let q : ℕ = change_blocker s m d p in
-    cond (eqb q 0) (code_step s m p x d (memberOf s m r (descriptor_at s m d).first x.entry)) (wait_step s x q)
+    cond (eqb q 0) (code_step s m p x d (membership_of s m r (descriptor_at s m d).first x.entry)) (wait_step s x q)
 
 unfoldable pub change_step : List ℕ → ℕ → ℕ → ℕ → Session → Stepped
 change_step s m r p x = change_at s m r p x x.low
@@ -124,4 +124,4 @@ pub record ChangeReady (s : List ℕ) (m r p : ℕ) (x : Session) : Type 0 where
   pub first : 1 ≤ p
   pub last : p ≤ 32
   pub walk : Walk s m r (descriptor_at s m x.low).first
-  pub code : CodeReady s m p x x.low (memberOf s m r (descriptor_at s m x.low).first x.entry)
+  pub code : CodeReady s m p x x.low (membership_of s m r (descriptor_at s m x.low).first x.entry)

@@ -23,7 +23,7 @@ use Rattle.meaning.specs.Grouping.{gather-mid, gather-apart}
 use Rattle.layout.specs.Layout.{Lay, Undone, firsts, seconds, Has, NamedAs, Named, member_of, means}
 use Rattle.layout.specs.Groups.{put_at, put-here, put-there}
 use Rattle.layout.specs.Places.{session-means}
-use Rattle.scans.specs.Scans.{memberOf}
+use Rattle.scans.specs.Scans.{membership_of}
 
 -- The entry of a change.
 abbrev pub undo_entry : Undo → ℕ
@@ -77,15 +77,15 @@ others-entries L t seats A p e mine q l ne =
 
 -- What the walk along the members finds.
 pub member-walk : (s : List ℕ) (m e i : ℕ) (c : List (ℕ × ℕ)) (n : ℕ) → Chained s m i (firsts c) → All (λ q. word_of s m q.0 2 ≡ q.1) c → length c ≤ n
-    → memberOf s m n i e ≡ member_of e c
-unfolding memberOf member_of
+    → membership_of s m n i e ≡ member_of e c
+unfolding membership_of member_of
 member-walk s m e i [] zero h w l = refl
-member-walk s m e i [] (suc n) h w l = ap (λ (b : Bool). cond b 0 (cond (eqb (word_of s m i 2) e) i (memberOf s m n (word_of s m i 0) e))) (eq-eqb i 0 h)
+member-walk s m e i [] (suc n) h w l = ap (λ (b : Bool). cond b 0 (cond (eqb (word_of s m i 2) e) i (membership_of s m n (word_of s m i 0) e))) (eq-eqb i 0 h)
 member-walk s m e i (q ∷ c) zero h w l = absurd (omega (arith, l))
 member-walk s m e i (q ∷ c) (suc n) h w l =
     let x : word_of s m i 2 ≡ q.1 = ap (λ j. word_of s m j 2) h.0 ∙ w.0 in
-    ap (λ (b : Bool). cond b 0 (cond (eqb (word_of s m i 2) e) i (memberOf s m n (word_of s m i 0) e))) (ne_eqb i 0 h.1)
-    ∙ ap (λ z. cond (eqb z e) i (memberOf s m n (word_of s m i 0) e)) x
+    ap (λ (b : Bool). cond b 0 (cond (eqb (word_of s m i 2) e) i (membership_of s m n (word_of s m i 0) e))) (ne_eqb i 0 h.1)
+    ∙ ap (λ z. cond (eqb z e) i (membership_of s m n (word_of s m i 0) e)) x
     ∙ ap₂ (λ y z. cond (eqb q.1 e) y z) h.0 (member-walk s m e (word_of s m i 0) c n h.2 w.1 (omega (arith, l)))
 
 -- An entry that is not found is not there.

@@ -33,7 +33,7 @@ use Rattle.layout.specs.Puts.{desc-pins, desc-first}
 use Rattle.layout.specs.Walks.{members-walk}
 use Rattle.members.specs.Members.{Pinned, update_at, put_member, take_member, Puttable}
 use Rattle.undo_log.specs.Undoing.{log_added, log_taken, Loggable}
-use Rattle.scans.specs.Scans.{memberOf}
+use Rattle.scans.specs.Scans.{membership_of}
 use Rattle.grouping.specs.GroupWords.{Within, first-in}
 use Rattle.endings.specs.Table.{logged_by}
 use Rattle.changing.specs.Changing.{added_words, taken_words, Ends, AddsReady, TakesReady, RoomReady, CodeReady, ChangeReady}
@@ -180,9 +180,9 @@ module _ (s : List ℕ) (t : List Session) (A : Stands s t) (p : ℕ) (party : s
       (all_right (λ z. Walk s m (R-of s) (word_of s m z.num 6)) (leaves_before Q.around) (Q.leaf ∷ leaves_behind Q.around)
       (subst (All (λ z. Walk s m (R-of s) (word_of s m z.num 6))) Q.was (members-walk s t L A.holds A.sound))).0
 
-  ready_at : (j : ℕ) → d ≡ j → HasRecord s m j × Walk s m (R-of s) (descriptor_at s m j).first × CodeReady s m (suc p) x j (memberOf s m (R-of s) (descriptor_at s m j).first e)
+  ready_at : (j : ℕ) → d ≡ j → HasRecord s m j × Walk s m (R-of s) (descriptor_at s m j).first × CodeReady s m (suc p) x j (membership_of s m (R-of s) (descriptor_at s m j).first e)
   ready_at j q =
-      subst (λ j. HasRecord s m j × Walk s m (R-of s) (descriptor_at s m j).first × CodeReady s m (suc p) x j (memberOf s m (R-of s) (descriptor_at s m j).first e)) q
+      subst (λ j. HasRecord s m j × Walk s m (R-of s) (descriptor_at s m j).first × CodeReady s m (suc p) x j (membership_of s m (R-of s) (descriptor_at s m j).first e)) q
       (low-has, walk-low, subst (CodeReady s m (suc p) x d) (sym (found s t A p party stage)) code-ready)
 
 -- What the code asks for.

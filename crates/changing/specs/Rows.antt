@@ -33,7 +33,7 @@ use Rattle.layout.specs.Puts.{desc-first}
 use Rattle.layout.specs.Ordering.{Rising, rising-of}
 use Rattle.layout.specs.Room.{Sizes, sizes-of}
 use Rattle.layout.specs.Short.{members-short}
-use Rattle.scans.specs.Scans.{memberOf}
+use Rattle.scans.specs.Scans.{membership_of}
 use Rattle.changing.specs.Changing.{has_two}
 use Rattle.changing.specs.Naming.{undo_entry, others-entries, member-walk}
 use Rattle.changing.specs.Logged.{group-was, desc-was}
@@ -136,5 +136,5 @@ module _ (s : List ℕ) (t : List Session) (A : Stands s t) (p : ℕ) (party : s
       omega (arith, a, many-firsts c, A.holds.fits.records)
 
   -- The entry's membership, as it is found.
-  pub found : memberOf s m (R-of s) (descriptor_at s m l.num).first e ≡ member_of e c
-  found = ap (λ i. memberOf s m (R-of s) i e) (desc-first s m l.num) ∙ member-walk s m e (word_of s m l.num 6) c (R-of s) G.chained G.entries short
+  pub found : membership_of s m (R-of s) (descriptor_at s m l.num).first e ≡ member_of e c
+  found = ap (λ i. membership_of s m (R-of s) i e) (desc-first s m l.num) ∙ member-walk s m e (word_of s m l.num 6) c (R-of s) G.chained G.entries short

@@ -15,7 +15,7 @@ use Rattle.outcomes.specs.Said.{Stepped, moved}
 use Rattle.members.specs.Members.{Pinned, Puttable, put_member, take_member, update_at, unpin_at}
 use Rattle.undo_log.specs.Undoing.{Loggable, log_added, log_taken}
 use Rattle.endings.specs.Table.{logged_by, idled}
-use Rattle.scans.specs.Scans.{memberOf}
+use Rattle.scans.specs.Scans.{membership_of}
 use Rattle.changing.specs.Changing.{hold_and_end, change_blocker, keep_step, added_words, add_step, taken_words, take_step_of, refuse_step, wait_step, has_two, room_step, insert_step, remove_step, code_step, change_at, change_step, Ends, CodeReady}
 
 -- The words t and the session record and answer r are those of z.
@@ -148,25 +148,25 @@ module _ (s t : List ℕ) (r : Moved) (m p : ℕ) (x : Session) (d : ℕ) where
 pub walk-as : (s : List ℕ) (m r d : ℕ) {f : ℕ} → f ≡ (descriptor_at s m d).first → Walk s m r (descriptor_at s m d).first → Walk s m r f
 walk-as s m r d e w = subst (λ i. Walk s m r i) (sym e) w
 
-found-is : (s : List ℕ) (m r d e : ℕ) {f i : ℕ} → f ≡ (descriptor_at s m d).first → i ≡ memberOf s m r f e → i ≡ memberOf s m r (descriptor_at s m d).first e
-found-is s m r d e q w = w ∙ ap (λ j. memberOf s m r j e) q
+found-is : (s : List ℕ) (m r d e : ℕ) {f i : ℕ} → f ≡ (descriptor_at s m d).first → i ≡ membership_of s m r f e → i ≡ membership_of s m r (descriptor_at s m d).first e
+found-is s m r d e q w = w ∙ ap (λ j. membership_of s m r j e) q
 
-pub code-as : (s : List ℕ) (m r p : ℕ) (x : Session) (d : ℕ) {f i : ℕ} → f ≡ (descriptor_at s m d).first → i ≡ memberOf s m r f x.entry
-    → CodeReady s m p x d (memberOf s m r (descriptor_at s m d).first x.entry) → CodeReady s m p x d i
+pub code-as : (s : List ℕ) (m r p : ℕ) (x : Session) (d : ℕ) {f i : ℕ} → f ≡ (descriptor_at s m d).first → i ≡ membership_of s m r f x.entry
+    → CodeReady s m p x d (membership_of s m r (descriptor_at s m d).first x.entry) → CodeReady s m p x d i
 code-as s m r p x d q w h = subst (CodeReady s m p x d) (sym (found-is s m r d x.entry q w)) h
 
 pub wait-run : (s : List ℕ) (m r p : ℕ) (x : Session) {q : ℕ} → q ≡ change_blocker s m x.low p → ¬ (q ≡ 0) → Leaves s (record { answer = Wait q; session = x }) (change_step s m r p x)
 unfolding change_step change_at wait_step
 wait-run s m r p x {q} e n =
     let b = change_blocker s m x.low p in
-    let y = code_step s m p x x.low (memberOf s m r (descriptor_at s m x.low).first x.entry) in
+    let y = code_step s m p x x.low (membership_of s m r (descriptor_at s m x.low).first x.entry) in
     leaves-else s (record { answer = Wait q; session = x }) (eqb b 0) y (wait_step s x b) (ne_eqb b 0 (λ z. n (e ∙ z))) (refl, ap (λ j. record { answer = Wait j; session = x }) e)
 
-pub change-run : (s t : List ℕ) (z : Moved) (m r p : ℕ) (x : Session) {q f i : ℕ} → q ≡ change_blocker s m x.low p → q ≡ 0 → f ≡ (descriptor_at s m x.low).first → i ≡ memberOf s m r f x.entry
+pub change-run : (s t : List ℕ) (z : Moved) (m r p : ℕ) (x : Session) {q f i : ℕ} → q ≡ change_blocker s m x.low p → q ≡ 0 → f ≡ (descriptor_at s m x.low).first → i ≡ membership_of s m r f x.entry
     → Leaves t z (code_step s m p x x.low i) → Leaves t z (change_step s m r p x)
 unfolding change_step change_at
 change-run s t z m r p x {q} {f} {i} e o w v l =
     let b = change_blocker s m x.low p in
-    let j = memberOf s m r (descriptor_at s m x.low).first x.entry in
+    let j = membership_of s m r (descriptor_at s m x.low).first x.entry in
     leaves-if t z (eqb b 0) (code_step s m p x x.low j) (wait_step s x b) (eq-eqb b 0 (sym e ∙ o))
     (leaves-as t z (code_step s m p x x.low i) (code_step s m p x x.low j) (ap (code_step s m p x x.low) (sym (found-is s m r x.low x.entry w v))) l)

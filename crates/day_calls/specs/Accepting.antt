@@ -13,7 +13,7 @@ use Rattle.serial.specs.Serial.{true≢false}
 use Rattle.machine.specs.Calls.{no_party}
 use Rattle.meaning.specs.Reading.{M-of}
 use Rattle.meaning.specs.Sound.{Sound}
-use Rattle.refusals.specs.Refusing.{first_of, begun-in, asked_in, hand_in, step_list, put_list, request_list}
+use Rattle.refusals.specs.Refusing.{first_of, is_begun_in, asked_in, hand_in, step_list, put_list, request_list}
 use Rattle.refusals.specs.Coded.{value_list, change_list, value-first, change-first}
 use Rattle.promises.specs.Ways.{none_true}
 use Rattle.day_calls.specs.Calling.{Handed, handed, day_count, named, other_in_hand, bad_day, day_list}
@@ -45,7 +45,7 @@ pub record CanPut (s : List ℕ) (t : List Session) (p n : ℕ) (r : DayRequest)
 -- No check holds.
 pub record Passed (m : ℕ) (t : List Session) (p : ℕ) (h : Handed) : Type 0 where
   pub party : no_party p ≡ false
-  pub begun : not (begun-in t p) ≡ false
+  pub begun : not (is_begun_in t p) ≡ false
   pub unasked : asked_in t p ≡ false
   pub session : ¬ (p ≡ 0)
   pub whole : ¬ (length h.bytes % 2 ≡ 1)
@@ -70,7 +70,7 @@ pub passed : (m : ℕ) (t : List Session) (p : ℕ) (h : Handed) → first_of (d
 unfolding bad_day
 passed m t p h z =
     let a = none_true 4 (no_party p) _ (λ q. omega (arith, q)) z in
-    let b = none_true 5 (not (begun-in t p)) _ (λ q. omega (arith, q)) a.1 in
+    let b = none_true 5 (not (is_begun_in t p)) _ (λ q. omega (arith, q)) a.1 in
     let k = none_true 21 (asked_in t p) _ (λ q. omega (arith, q)) b.1 in
     let c = none_true 6 (eqb p 0) _ (λ q. omega (arith, q)) k.1 in
     let d = none_true 13 (eqb (length h.bytes % 2) 1) _ (λ q. omega (arith, q)) c.1 in

@@ -8,7 +8,7 @@ use Rattle.serial.specs.Calls as C
 use Rattle.machine.specs.Calls.{no_party}
 use Rattle.meaning.specs.Reading.{M-of}
 use Rattle.meaning.specs.Sound.{Sound}
-use Rattle.refusals.specs.Refusing.{first_of, begun-in, asked_in, hand_in}
+use Rattle.refusals.specs.Refusing.{first_of, is_begun_in, asked_in, hand_in}
 use Rattle.promises.specs.Ways.{Serves}
 use Rattle.outcomes.specs.declared.DayAnswer.{DayAnswer}
 use Rattle.outcomes.specs.declared.DayAnswer.TheVariants.{Ok, More, Wait, Done, Refused}
@@ -47,7 +47,7 @@ number_list m n driver start entry = (8, eqb entry 0 || ltb (m + 1) (entry + n))
 -- After 1 and 2, in order.
 abbrev pub day_list : ℕ → List Session → ℕ → Handed → List (ℕ × Bool)
 day_list m t p h =
-    (4, no_party p) ∷ (5, not (begun-in t p)) ∷ (21, asked_in t p) ∷ (6, eqb p 0) ∷ (13, eqb (length h.bytes % 2) 1) ∷ (14, bad_day (session_at t p) h)
+    (4, no_party p) ∷ (5, not (is_begun_in t p)) ∷ (21, asked_in t p) ∷ (6, eqb p 0) ∷ (13, eqb (length h.bytes % 2) 1) ∷ (14, bad_day (session_at t p) h)
     ∷ number_list m (day_count h) h.driver h.start h.entry
 
 -- The number of the first that holds, 0 for none.

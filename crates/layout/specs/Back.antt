@@ -17,7 +17,7 @@ use Rattle.machine.specs.Sound.{times, Room, stands, of_hand}
 use Rattle.machine.specs.Groups.{Rises}
 use Rattle.machine.specs.Looks.{sound-ordered, ordered-rises}
 use Rattle.meaning.specs.Reading.{chain, Chained, member_chain, member_entries, Leaf, Mark, Numbered, read_tree, erase, numbers, node_numbers, undo_at, hand_of, session-of, sessions_of, M-of, R-of, height_of, tree_of, free_chain, meaning}
-use Rattle.meaning.specs.Sound.{All, leaves_of, joined, undo_chains, owners, Once, Linked, Members, record_of, At-node, Hand, Lists, member_record, lists, set_list, UndoWords, Sound}
+use Rattle.meaning.specs.Sound.{All, leaves_of, joined, undo_chains, owners, Once, Linked, Members, record_of, StandsAtNode, Hand, Lists, member_record, lists, set_list, UndoWords, Sound}
 use Rattle.meaning.specs.Numbers.{In, all_in, all-as, all_both, map-all}
 use Rattle.meaning.specs.Frame.{leaf_records, chain-is}
 use Rattle.meaning.specs.Parts.{root_from, state_from, meaning-from}
@@ -313,7 +313,7 @@ module _ (s : List ℕ) (t : List Session) (L : Lay) (H : Holds s t L) (A : M.So
       ap (record_of k) (leaves-are s t L H) ∙ has-record k d 0 4294967296 (leaves_in L) rise h
 
   -- A party that stands at a node.
-  stands_at : (p : ℕ) → p ≤ width → (session_at t p).stage ≡ 3 → Marked (session_at t p).level (session_at t p).at (latch_word p) (suc L.height) L.tree → At-node s p (session_at t p)
+  stands_at : (p : ℕ) → p ≤ width → (session_at t p).stage ≡ 3 → Marked (session_at t p).level (session_at t p).at (latch_word p) (suc L.height) L.tree → StandsAtNode s p (session_at t p)
   unfolding meaning
   stands_at p l e q =
       let x = session_at t p in

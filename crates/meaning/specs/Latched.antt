@@ -19,7 +19,7 @@ use Rattle.machine.specs.Focus.{latches_around, latches-plug}
 use Rattle.machine.specs.Looks.{sound-ordered}
 use Rattle.machine.specs.Safety.{descent-most}
 use Rattle.meaning.specs.Reading.{Numbered, read_tree, erase, hand_of, session-of, M-of, R-of, height_of, tree_of, meaning}
-use Rattle.meaning.specs.Sound.{number_at, At-node, Sound}
+use Rattle.meaning.specs.Sound.{number_at, StandsAtNode, Sound}
 use Rattle.meaning.specs.Numbers.{one-is}
 use Rattle.meaning.specs.Around.{NCtx, erase_ctx, erase-fill, way-erase}
 use Rattle.meaning.specs.Table.{session_is, table-many}
@@ -130,7 +130,7 @@ at_place s t A p l e =
     (descent-most (meaning s t) A p (at_request x) x.target h (A.standing p (at_request x) h), omega (arith, n), A.placed p (at_request x) x.target h refl)
 
 -- The place of the node, by the session's words.
-stand-at : (s : List ℕ) (t : List Session) (p k : ℕ) → (session_at t p).level ≡ suc k → At-node s p (session_at t p)
+stand-at : (s : List ℕ) (t : List Session) (p k : ℕ) → (session_at t p).level ≡ suc k → StandsAtNode s p (session_at t p)
     → latch_count (latch_word p) (suc (meaning s t).root.height) (meaning s t).root.node ≤ 1
     → Latched (latch_word p) (session_at t p).target (Room (meaning s t) p) (suc (meaning s t).root.height) (meaning s t).root.node
     → Stand s (M-of s) (R-of s) (session_at t p).target (suc k) (suc (height_of s)) (header_word s root_place) top → AtNode s t p
@@ -158,7 +158,7 @@ pub at-node : (s : List ℕ) (t : List Session) → Sound s t → (p : ℕ) → 
 unfolding meaning Ordered tree_of
 at-node s t A p l e = go (session_at t p).level refl ((A.hands p l).at-node e)
   where
-    go : (n : ℕ) → (session_at t p).level ≡ n → At-node s p (session_at t p) → AtNode s t p
+    go : (n : ℕ) → (session_at t p).level ≡ n → StandsAtNode s p (session_at t p) → AtNode s t p
     go zero q a = absurd (omega (arith, q, a.lowest))
     go (suc k) q a =
         let B = at_place s t A.state p (omega (arith, table-many s t A.state, l)) e in

@@ -68,7 +68,7 @@ record_of k [] = 0
 record_of k (l ∷ ls) = let rest = record_of k ls in cond (eqb l.desc.key k) l.num rest
 
 -- The latched node of a descent.
-pub record At-node (s : List ℕ) (p : ℕ) (x : Session) : Type 0 where
+pub record StandsAtNode (s : List ℕ) (p : ℕ) (x : Session) : Type 0 where
   pub lowest : 1 ≤ x.level
   pub highest : x.level ≤ suc (height_of s)
   pub node : x.at ≡ number_at x.level x.target (suc (height_of s)) (tree_of s)
@@ -80,7 +80,7 @@ pins_first x = cond (eqb x.stage 4) true (cond (eqb x.stage 5) true (cond (eqb x
 
 pub record Hand (s : List ℕ) (p : ℕ) (x : Session) : Type 0 where
   pub stage : x.stage ≤ 5
-  pub at-node : x.stage ≡ 3 → At-node s p x
+  pub at-node : x.stage ≡ 3 → StandsAtNode s p x
   pub low : ¬ (x.stage ≡ 0) → pins_first x ≡ true → x.low ≡ record_of x.first (leaves_of s)
   pub high : x.stage ≡ 5 → ¬ (x.first ≡ x.second) → x.high ≡ record_of x.second (leaves_of s)
   -- The last key taken is none, or from first on.

@@ -30,7 +30,7 @@ use Rattle.words.specs.Store.{word_of}
 use Rattle.words.specs.Header.{header_word, free_place}
 use Rattle.words.specs.Entries.{entry_word}
 use Rattle.groups.specs.Descriptor.{descriptor_at, removable}
-use Rattle.scans.specs.Scans.{memberOf}
+use Rattle.scans.specs.Scans.{membership_of}
 use Rattle.taking.specs.Place.{next_taken}
 use Rattle.nodes.specs.Node.{node_at}
 use Rattle.nodes.specs.Ops.{son_for}
@@ -427,7 +427,7 @@ module _ (s : List ℕ) (m : ℕ) (x : Session) where
   change-careful e r p =
       let d = x.low in
       let q : ℕ = change_blocker s m d p in
-      let i = memberOf s m r (descriptor_at s m d).first x.entry in
+      let i = membership_of s m r (descriptor_at s m d).first x.entry in
       either E (eqb q 0) (code_step s m p x d i) (G.wait_step s x q) (code-careful e p i) (rests (G.wait_step s x q) refl refl refl)
 
   take-careful : (r n p : ℕ) → E (take_step_of s m r n p x)

@@ -24,7 +24,7 @@ use Rattle.layout.specs.Row.{Stands, Becomes}
 use Rattle.layout.specs.Laid.{sound-stands}
 use Rattle.layout.specs.Asked.{request_in, hand-means, set_same}
 use Rattle.taking.specs.Taking.{over}
-use Rattle.refusals.specs.Refusing.{first_of, begun-in, hand_in, step_list, step-refused}
+use Rattle.refusals.specs.Refusing.{first_of, is_begun_in, hand_in, step_list, step-refused}
 use Rattle.promises.specs.Relations.{outcome, stays}
 use Rattle.promises.specs.Assembling.{first-not-ending, stands-means, answered-by, set-others}
 use Rattle.promises.specs.Ways.{Serves, none_true, any-party, serve-refused}
@@ -42,7 +42,7 @@ pub has-hand : (t : List Session) (p : ℕ) → first_of (step_list t p) ≡ 0 �
 unfolding hand_in
 has-hand t p z =
     let a = none_true 4 (no_party p) _ (λ q. omega (arith, q)) z in
-    let b = none_true 5 (not (begun-in t p)) _ (λ q. omega (arith, q)) a.1 in
+    let b = none_true 5 (not (is_begun_in t p)) _ (λ q. omega (arith, q)) a.1 in
     let c = none_true 7 (not (hand_in t p)) [] (λ q. omega (arith, q)) b.1 in
     λ e. true≢false {b = not (not (eqb (session_at t p).stage 0))} (ap (λ k. not (not k)) (eq-eqb (session_at t p).stage 0 e)) c.0
 

@@ -37,7 +37,7 @@ use Rattle.aborting.specs.RecoverRow.{Kept, kept, recover_words, recover-spares}
 use Rattle.aborting.proofs.RecoverRow.{recover-becomes}
 use Rattle.recovering.specs.Recovering.{RecoverReady}
 use Rattle.endings.specs.Fresh.{fresh_store, Roomy}
-use Rattle.refusals.specs.Refusing.{first_of, begun-in, asked_in, hand_in, begin_list, put_list, commit_list, abort_list, ask_list, ask-refused, begin-refused, put_refused, commit-refused, abort_refused}
+use Rattle.refusals.specs.Refusing.{first_of, is_begun_in, asked_in, hand_in, begin_list, put_list, commit_list, abort_list, ask_list, ask-refused, begin-refused, put_refused, commit-refused, abort_refused}
 use Rattle.refusals.specs.Coded.{format-refused}
 use Rattle.promises.specs.Relations.{outcome, Renumbered, Others, Calls, Formats, Answered, Around, list_of}
 use Rattle.promises.specs.Assembling.{is_refused, no-refusal, first-not-ending, stands-means, answered-by, answered-refused, set-others}
@@ -99,12 +99,12 @@ begin-others t p y q n = go (ℕ_discrete q 0) (ℕ_discrete (session_at t q).be
 
 pub begin-done : (s : List ℕ) (t : List Session) (p : ℕ) → first_of (begin_list t p) ≡ 0 → Sound s t
     → Answered (C.begin p) s t C.ok [] s (set (renumbered_in t) p (newly_begun (session_at t p) (suc (begun_in t)))) × Around s s
-unfolding call begun-in
+unfolding call is_begun_in
 begin-done s t p e A =
     let B = sound-stands s t A in
     let σ = meaning s t in
-    let x = none_true 4 (no_session p) ((5, begun-in t p) ∷ []) (λ q. omega (arith, q)) e in
-    let y = none_true 5 (begun-in t p) [] (λ q. omega (arith, q)) x.1 in
+    let x = none_true 4 (no_session p) ((5, is_begun_in t p) ∷ []) (λ q. omega (arith, q)) e in
+    let y = none_true 5 (is_begun_in t p) [] (λ q. omega (arith, q)) x.1 in
     let n = session-number p x.0 in
     let unbegun : (session_at t p).begun ≡ 0 = not-begun (eqb p 0) (session_at t p).begun y.0 in
     let next = set (renumbered_in t) p (newly_begun (session_at t p) (suc (begun_in t))) in
@@ -178,7 +178,7 @@ ask-done s t p z A =
     let o = answer ok (asks p σ) in
     let t' = set t p (asked_now (session_at t p)) in
     let x = none_true 4 (no_session p) _ (λ q. omega (arith, q)) z in
-    let y = none_true 5 (not (begun-in t p)) _ (λ q. omega (arith, q)) x.1 in
+    let y = none_true 5 (not (is_begun_in t p)) _ (λ q. omega (arith, q)) x.1 in
     let v = none_true 21 (asked_in t p) _ (λ q. omega (arith, q)) y.1 in
     let w = none_true 7 (hand_in t p) [] (λ q. omega (arith, q)) v.1 in
     let k = session-number p x.0 in

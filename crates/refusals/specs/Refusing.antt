@@ -26,8 +26,8 @@ first_of (c ∷ cs) = let rest = first_of cs in cond c.1 c.0 rest
 -- ---- what the table says
 
 -- 0 always counts as begun.
-unfoldable pub begun-in : List Session → ℕ → Bool
-begun-in t p = eqb p 0 || not (eqb (session_at t p).begun 0)
+unfoldable pub is_begun_in : List Session → ℕ → Bool
+is_begun_in t p = eqb p 0 || not (eqb (session_at t p).begun 0)
 
 unfoldable pub hand_in : List Session → ℕ → Bool
 hand_in t p = not (eqb (session_at t p).stage 0)
@@ -39,23 +39,23 @@ asked_in t p = not (eqb (session_at t p).asked 0)
 -- ---- the lists
 
 abbrev pub begin_list : List Session → ℕ → List (ℕ × Bool)
-begin_list t p = (4, no_session p) ∷ (5, begun-in t p) ∷ []
+begin_list t p = (4, no_session p) ∷ (5, is_begun_in t p) ∷ []
 
 abbrev pub step_list : List Session → ℕ → List (ℕ × Bool)
-step_list t p = (4, no_party p) ∷ (5, not (begun-in t p)) ∷ (7, not (hand_in t p)) ∷ []
+step_list t p = (4, no_party p) ∷ (5, not (is_begun_in t p)) ∷ (7, not (hand_in t p)) ∷ []
 
 abbrev pub commit_list : List Session → ℕ → List (ℕ × Bool)
-commit_list t p = (4, no_session p) ∷ (5, not (begun-in t p)) ∷ (7, hand_in t p) ∷ []
+commit_list t p = (4, no_session p) ∷ (5, not (is_begun_in t p)) ∷ (7, hand_in t p) ∷ []
 
 abbrev pub abort_list : List Session → ℕ → List (ℕ × Bool)
-abort_list t p = (4, no_session p) ∷ (5, not (begun-in t p)) ∷ []
+abort_list t p = (4, no_session p) ∷ (5, not (is_begun_in t p)) ∷ []
 
 abbrev pub ask_list : List Session → ℕ → List (ℕ × Bool)
-ask_list t p = (4, no_session p) ∷ (5, not (begun-in t p)) ∷ (21, asked_in t p) ∷ (7, hand_in t p) ∷ []
+ask_list t p = (4, no_session p) ∷ (5, not (is_begun_in t p)) ∷ (21, asked_in t p) ∷ (7, hand_in t p) ∷ []
 
 -- What refuses a request of party p before it is looked at.
 abbrev pub party_list : List Session → ℕ → List (ℕ × Bool)
-party_list t p = (4, no_party p) ∷ (5, not (begun-in t p)) ∷ (21, asked_in t p) ∷ []
+party_list t p = (4, no_party p) ∷ (5, not (is_begun_in t p)) ∷ (21, asked_in t p) ∷ []
 
 -- M entries.
 abbrev pub entry_out : ℕ → ℕ → ℕ → Bool
@@ -65,13 +65,13 @@ abbrev pub request_list : ℕ → ℕ → ℕ → ℕ → ℕ → ℕ → List (
 request_list m p c e f g = (6, bad_code p c) ∷ (8, entry_out m c e) ∷ (9, bad_key c f g) ∷ (10, eqb c 5 && ltb g f) ∷ []
 
 abbrev pub put_list : ℕ → List Session → ℕ → ℕ → ℕ → ℕ → ℕ → List (ℕ × Bool)
-put_list m t p c e f g = (4, no_party p) ∷ (5, not (begun-in t p)) ∷ (21, asked_in t p) ∷ (7, hand_in t p) ∷ request_list m p c e f g
+put_list m t p c e f g = (4, no_party p) ∷ (5, not (is_begun_in t p)) ∷ (21, asked_in t p) ∷ (7, hand_in t p) ∷ request_list m p c e f g
 
 -- Its number is that of the longer list, where there is one,
 pub party-refused : (t : List Session) (p : ℕ) (cs : List (ℕ × Bool)) {n : ℕ} → n ≡ first_of (party_list t p) → ¬ (n ≡ 0)
-    → n ≡ first_of ((4, no_party p) ∷ (5, not (begun-in t p)) ∷ (21, asked_in t p) ∷ cs)
+    → n ≡ first_of ((4, no_party p) ∷ (5, not (is_begun_in t p)) ∷ (21, asked_in t p) ∷ cs)
 unfolding first_of
-party-refused t p cs {n} e z = e ∙ go (no_party p) (not (begun-in t p)) (asked_in t p) (λ q. z (e ∙ q))
+party-refused t p cs {n} e z = e ∙ go (no_party p) (not (is_begun_in t p)) (asked_in t p) (λ q. z (e ∙ q))
   where
     go : (a b c : Bool) → ¬ (◌≡◌ {A = ℕ} (cond a 4 (cond b 5 (cond c 21 0))) 0) → ◌≡◌ {A = ℕ} (cond a 4 (cond b 5 (cond c 21 0))) (cond a 4 (cond b 5 (cond c 21 (first_of cs))))
     go true b c k = refl
@@ -81,9 +81,9 @@ party-refused t p cs {n} e z = e ∙ go (no_party p) (not (begun-in t p)) (asked
 
 -- and where there is none, the rest of the longer list decides.
 pub party-passed : (t : List Session) (p : ℕ) (cs : List (ℕ × Bool)) {n : ℕ} → n ≡ first_of (party_list t p) → n ≡ 0
-    → first_of cs ≡ first_of ((4, no_party p) ∷ (5, not (begun-in t p)) ∷ (21, asked_in t p) ∷ cs)
+    → first_of cs ≡ first_of ((4, no_party p) ∷ (5, not (is_begun_in t p)) ∷ (21, asked_in t p) ∷ cs)
 unfolding first_of
-party-passed t p cs e z = go (no_party p) (not (begun-in t p)) (asked_in t p) (sym e ∙ z)
+party-passed t p cs e z = go (no_party p) (not (is_begun_in t p)) (asked_in t p) (sym e ∙ z)
   where
     go : (a b c : Bool) → ◌≡◌ {A = ℕ} (cond a 4 (cond b 5 (cond c 21 0))) 0 → ◌≡◌ {A = ℕ} (first_of cs) (cond a 4 (cond b 5 (cond c 21 (first_of cs))))
     go true b c k = absurd (omega (arith, k))
@@ -141,8 +141,8 @@ module _ (s : List ℕ) (t : List Session) (A : Sound s t) where
   seat : (p : ℕ) → no_party p ≡ false → p < length t
   seat p n = omega (arith, table-many s t A.state, leb-not (suc width) p n)
 
-  begun-are : (p : ℕ) → no_party p ≡ false → has_begun p σ ≡ begun-in t p
-  unfolding begun-in
+  begun-are : (p : ℕ) → no_party p ≡ false → has_begun p σ ≡ is_begun_in t p
+  unfolding is_begun_in
   begun-are zero n = refl
   begun-are (suc p) n = ap (λ z. eqb (suc p) 0 || z.begun) (session_is s t (suc p) (seat (suc p) n))
 

@@ -11,7 +11,7 @@ ghost use Rattle.std.specs.Prelude.{◌≡◌, ◌||◌, ◌≤◌, eqb, ltb, se
 ghost use Rattle.sessions.specs.Sessions.{session_at};
 ghost use Rattle.machine.specs.Holders.{width};
 ghost use Rattle.machine.specs.Calls.{infinite, no_party, no_session, format_checks};
-ghost use Rattle.refusals.specs.Refusing.{first_of, begun-in, asked_in, hand_in, begin_list, step_list, commit_list, abort_list, ask_list, party_list, request_list, put_list};
+ghost use Rattle.refusals.specs.Refusing.{first_of, is_begun_in, asked_in, hand_in, begin_list, step_list, commit_list, abort_list, ask_list, party_list, request_list, put_list};
 ghost use Rattle.refusals.specs.Coded.{value_list, change_list, locate_list, tidy_list};
 
 use sessions::{PARTIES, Session};
@@ -41,7 +41,7 @@ pub fn settle(mut t: [Session; PARTIES], p: u32, x: Session) -> [Session; PARTIE
 
 // The housekeeper always counts as begun.
 pub fn is_begun(t: [Session; PARTIES], p: u32) -> bool
-    ensures { result ≡ begun-in t p }
+    ensures { result ≡ is_begun_in t p }
 {
     let s = seat(t, p);
     if p == 0 {

@@ -9,7 +9,7 @@ use lib.ListN.{length}
 use borrow.Author.Tests.{eq-eqb, ne_eqb, le-leb, lt-leb}
 use Rattle.words.specs.Store.{HasRecord, word_of}
 use Rattle.chain.specs.Walk.{Walk}
-use Rattle.scans.specs.Scans.{last_upto, memberOf, entries_in, range_count, WalkRange}
+use Rattle.scans.specs.Scans.{last_upto, membership_of, entries_in, range_count, WalkRange}
 
 one_less : (k : ℕ) → 1 ≤ k → k ≡ suc (k - 1)
 one_less k h = omega arith
@@ -109,14 +109,14 @@ module _ {whole : ℕ} {s : List ℕ} {m at more next k : ℕ} (f : Following wh
 
 pub record Finding (whole : ℕ) (s : List ℕ) (m at more e : ℕ) : Type 0 where
   pub walk : Walk s m more at
-  pub is : memberOf s m more at e ≡ whole
+  pub is : membership_of s m more at e ≡ whole
 
 module _ {whole : ℕ} {s : List ℕ} {m at more e : ℕ} (f : Finding whole s m at more e) where
   pub find-end : at ≡ 0 → 0 ≡ whole
-  unfolding memberOf
+  unfolding membership_of
   find-end z = sym (at-end more) ∙ f.is
     where
-      at-end : (n : ℕ) → memberOf s m n at e ≡ 0
+      at-end : (n : ℕ) → membership_of s m n at e ≡ 0
       at-end zero = refl
       at-end (suc n) = simp (eq-eqb at 0 z)
 
@@ -125,17 +125,17 @@ module _ {whole : ℕ} {s : List ℕ} {m at more e : ℕ} (f : Finding whole s m
     some-member = one_less more (walk-one more f.walk ne).some
 
     pub find-stop : entry ≡ e → at ≡ whole
-    unfolding memberOf
-    find-stop h = (simp (ne_eqb at 0 ne, eq-eqb (word_of s m at 2) e (sym named ∙ h)) at (ap (λ (n : ℕ). memberOf s m n at e) (sym some-member))) ∙ f.is
+    unfolding membership_of
+    find-stop h = (simp (ne_eqb at 0 ne, eq-eqb (word_of s m at 2) e (sym named ∙ h)) at (ap (λ (n : ℕ). membership_of s m n at e) (sym some-member))) ∙ f.is
 
     pub find-more : {next : ℕ} → (entry ≡ e → ⊥) → next ≡ word_of s m at 0 → Finding whole s m next (more - 1) e
-    unfolding memberOf
+    unfolding membership_of
     find-more {next} h q =
         record {
           walk = subst (λ (j : ℕ). Walk s m (more - 1) j) (sym q) (walk-one more f.walk ne).walk;
           is =
-              ap (λ (j : ℕ). memberOf s m (more - 1) j e) q
-              ∙ (simp (ne_eqb at 0 ne, ne_eqb (word_of s m at 2) e (λ z. h (named ∙ z))) at (ap (λ (n : ℕ). memberOf s m n at e) (sym some-member)))
+              ap (λ (j : ℕ). membership_of s m (more - 1) j e) q
+              ∙ (simp (ne_eqb at 0 ne, ne_eqb (word_of s m at 2) e (λ z. h (named ∙ z))) at (ap (λ (n : ℕ). membership_of s m n at e) (sym some-member)))
               ∙ f.is;
         }
 

@@ -19,10 +19,10 @@ pub record CanFollow (s : List ℕ) (m r i : ℕ) : Type 0 where
   pub walk : Walk s m r (word_of s m i 0)
 
 -- the membership of entry e, from record i on; 0 for none
-unfoldable pub memberOf : List ℕ → ℕ → ℕ → ℕ → ℕ → ℕ
-memberOf s m zero i e = 0
-memberOf s m (suc n) i e =
-    let rest : ℕ = memberOf s m n (word_of s m i 0) e in
+unfoldable pub membership_of : List ℕ → ℕ → ℕ → ℕ → ℕ → ℕ
+membership_of s m zero i e = 0
+membership_of s m (suc n) i e =
+    let rest : ℕ = membership_of s m n (word_of s m i 0) e in
     cond (eqb i 0) 0 (cond (eqb (word_of s m i 2) e) i rest)
 
 -- the entries of the members from record i on, in the order of the chain

@@ -7,7 +7,7 @@
 
 ghost use Rattle.std.specs.Prelude.{◌≡◌, ◌++◌, ◌+◌, ◌*◌, ◌≤◌, ◌<◌, length, drop};
 ghost use Rattle.chain.specs.Walk.{Walk};
-ghost use Rattle.scans.specs.Scans.{last_upto, CanFollow, memberOf, entries_in, range_words, range_count, CanCount, CanWrite, Settled, insert_pair, GroupFits, GroupWritten};
+ghost use Rattle.scans.specs.Scans.{last_upto, CanFollow, membership_of, entries_in, range_words, range_count, CanCount, CanWrite, Settled, insert_pair, GroupFits, GroupWritten};
 
 // ---- descriptors and members
 
@@ -33,7 +33,7 @@ pub fn last_upto(store: &[u32], m: usize, r: usize, i: usize, k: u32) -> usize
 // The membership of entry e, from record i on; 0 for none.
 pub fn find_member(store: &[u32], m: usize, r: usize, i: usize, e: u32) -> usize
     requires { Walk store.now m r i }
-    ensures { result ≡ memberOf store.now m r i e }
+    ensures { result ≡ membership_of store.now m r i e }
 {
     let mut at = i;
     let mut more = r;

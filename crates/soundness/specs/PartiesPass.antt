@@ -21,7 +21,7 @@ use Rattle.machine.specs.Housekeeping.{lvs}
 use Rattle.machine.specs.Calls.{request_checks}
 use Rattle.machine.specs.Sound.{stored_in, total, of_hand, times, pins_by, latch_count, stands, Latched, Room, Passes}
 use Rattle.meaning.specs.Reading.{Leaf, erase, hand_of, stage_of, M-of, R-of, height_of, tree_of, meaning}
-use Rattle.meaning.specs.Sound.{All, leaves_of, number_at, At-node, Hand}
+use Rattle.meaning.specs.Sound.{All, leaves_of, number_at, StandsAtNode, Hand}
 use Rattle.marks.specs.Trail.{Turn, then_turn}
 use Rattle.standing.specs.Standing.{party_ok}
 use Rattle.parties.specs.Parties.{parties_from, parties_ok, one_at_node, standing_from, standing_at_nodes}
@@ -392,7 +392,7 @@ module _ (s seen : List ℕ) (t : List Session) (K : TreeKnown s seen) (seats : 
           of_room s t x.level x.target p node one reads
           (at-latched (latch_word p) x.level x.target (Room S p) (levels s) (shape s) one has (kept-placed e))
         where
-          A : At-node s p x
+          A : StandsAtNode s p x
           A = (Q.hands p h).at-node e
 
           node : ℕ

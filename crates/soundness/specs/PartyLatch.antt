@@ -19,7 +19,7 @@ use Rattle.machine.specs.Descent.{sons_of}
 use Rattle.machine.specs.Sound.{OnPath}
 use Rattle.machine.specs.Paths.{path-map}
 use Rattle.meaning.specs.Reading.{erase, M-of, R-of, height_of, tree_of}
-use Rattle.meaning.specs.Sound.{number_at, At-node}
+use Rattle.meaning.specs.Sound.{number_at, StandsAtNode}
 use Rattle.marks.specs.Steps.{both}
 use Rattle.standing.specs.Standing.{may_stand, at_node, descent_ok, latch_ok}
 use Rattle.soundness.specs.TreePaths.{NodeAt, Reads}
@@ -106,7 +106,7 @@ abbrev pub RoomAt : List ℕ → ℕ → Session → Type 0
 RoomAt s p x = NodeAt x.level x.target (Stood s p) (suc (height_of s)) (erase (suc (height_of s)) (tree_of s))
 
 pub record Latching (s : List ℕ) (p : ℕ) (x : Session) : Type 0 where
-  pub at-node : At-node s p x
+  pub at-node : StandsAtNode s p x
   pub room : RoomAt s p x
 
 module _ (s seen : List ℕ) (K : TreeKnown s seen) (p : ℕ) (x : Session) (high : x.target ≤ top) where

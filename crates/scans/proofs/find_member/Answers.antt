@@ -1,7 +1,7 @@
 use mathlib.Core.Path.{refl}
 use native.Mathlib.Omega.{arith}
 use Rattle.groups.specs.Membership.{decode_membership}
-use Rattle.scans.specs.Scans.{memberOf}
+use Rattle.scans.specs.Scans.{membership_of}
 use Rattle.scans.proofs.Turns.{Finding, find-end, find-stop, find-more, walk-one}
 use borrow.Author.Rules.{rules}
 use Rattle.scans.proofs.find_member.Goals as goal
