@@ -12,13 +12,14 @@ use Rattle.machine.specs.Holders.{holds, held_by, elem}
 use Rattle.machine.specs.State.{Desc, change, take, Request, Undo, added, taken, State, or_none, session_of, stored, lowest_from, desc_of, with_free, on_session, on_tree, on_desc, hold_desc, group_desc, with_member, without_member, add_undo, in_stage, same}
 use Rattle.machine.specs.Steps.{group_blockers, updating_state, inserted_state, removed_state, passed_state, located_state}
 use Rattle.machine.specs.View.{holders, group_in, locate_word, seen}
-use Rattle.machine.specs.Sound.{gap_word, UpTo, Passing, cells, set_cell, Holding, Undoable, Sound, Keyed}
+use Rattle.machine.specs.Sound.{gap_word, UpTo, Passing, cells, set_cell, Holding, Undoable, Sound, Keyed, Formed, formed-of}
 use Rattle.machine.specs.Bits.{held_same}
 use Rattle.machine.specs.Housekeeping.{lvs, seen-group}
 use Rattle.machine.specs.Keys.{elem-without-other, elem-without-same, Kept, put-update, was-group, put-group-kept, elem-with-same, elem-with-other}
 use Rattle.machine.specs.Looks.{hand_begun, fit_of, kept-stored, kept-listed, with-upto, without-upto, upto-up, set_back}
 use Rattle.machine.specs.Nearest.{Takes}
 use Rattle.machine.proofs.Nearest.{takes_of}
+use Rattle.machine.specs.Alike.{on-desc-formed}
 use Rattle.machine.specs.Locking.{Grants, locked-grants, grants-like, Locks, undoable-more, only-keyed, undo-locks, undo-keyed, desc-locks}
 use Rattle.machine.specs.Changes.{hold_update, held_state, up-group}
 use Rattle.machine.proofs.Changes.{update-locked}
@@ -169,3 +170,6 @@ module _ (m : ℕ) (r : Request) (s : State) (S : Sound s) (hand : (session_of (
       held z a b (yes q) = subst (λ i. holds (locate_word i (seen (passed_state w d s))) w ≡ true) q
           (ap (λ v. holds v w) (here-word w d.key s N (held_by w) (adds-held w)) ∙ held_same m (locate_word d.key (seen s)))
       held z a b (no q) = loc-old w d.key s N (held_by w) (adds-held w) L.group weak w z (T.below z a (omega (arith, b, q)))
+
+  pub passed-formed : Formed (passed_state w d s)
+  passed-formed = on-desc-formed (hold_desc (held_by w) same (held_by w)) (λ c. refl) (λ c. refl) d.key s (formed-of S)

@@ -33,8 +33,8 @@ use Rattle.machine.specs.Descending.{enter-keyed, level-keyed, keeper-stored}
 use Rattle.machine.proofs.Descending.{make-keyed, tidy-keyed}
 use Rattle.machine.specs.EntryLocks.{shared-formed, written-formed, excluded-holds, excluded-formed}
 use Rattle.machine.proofs.EntryLocks.{shared-keyed, written-keyed, excluded-keyed}
-use Rattle.machine.specs.GroupLocks.{updating-formed, inserted-formed, removed-formed, passed-formed, located-formed}
-use Rattle.machine.proofs.GroupLocks.{updating-keyed, inserted-keyed, removed-keyed, passed-keyed, passed-passing, located-keyed}
+use Rattle.machine.specs.GroupLocks.{updating-formed, inserted-formed, removed-formed, located-formed}
+use Rattle.machine.proofs.GroupLocks.{passed-formed, updating-keyed, inserted-keyed, removed-keyed, passed-keyed, passed-passing, located-keyed}
 use Rattle.machine.specs.Ending.{ended-sound, begin-keeps, ask-keeps, format-keeps}
 use Rattle.machine.proofs.Ending.{put_keeps}
 use Rattle.machine.specs.Leaving.{abort-keeps}

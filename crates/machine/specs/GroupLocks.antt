@@ -106,8 +106,5 @@ module _ (m : ℕ) (r : Request) (s : State) (S : Sound s) (hand : (session_of (
   abbrev d : Desc
   d = or_none (lowest_from x (stored s))
 
-  pub passed-formed : Formed (passed_state w d s)
-  passed-formed = on-desc-formed (hold_desc (held_by w) same (held_by w)) (λ c. refl) (λ c. refl) d.key s (formed-of S)
-
   pub located-formed : Formed (located_state w d s)
   located-formed = on-desc-formed (hold_desc (held_by w) same same) (λ c. refl) (λ c. refl) d.key s (formed-of S)

@@ -26,8 +26,8 @@ use Rattle.layout.specs.Short.{undos-short}
 use Rattle.layout.specs.Written.{written_none, written_then}
 use Rattle.undo_log.specs.Undoing.{Undoing, undo_one, undo_all, Undoings}
 use Rattle.undoing.specs.Rows.{with_undo, Onward, undone_state, newest, mine-fit}
-use Rattle.undoing.specs.OneUndone.{undos-means, sound-off, sound-apt}
-use Rattle.undoing.proofs.OneUndone.{undo-one-row}
+use Rattle.undoing.specs.OneUndone.{undos-means, sound-off}
+use Rattle.undoing.proofs.OneUndone.{undo-one-row, sound-apt}
 use Rattle.undoing.specs.AllUndone.{undo-all-with, all_undone_state, AllUndone}
 
 -- ---- undoing and the session table

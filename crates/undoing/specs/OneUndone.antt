@@ -88,7 +88,7 @@ module _ (s : List ℕ) (t : List Session) (L : Lay) (H : Holds s t L) (A : S.So
       go (taken f j) w r = (apart f w.0.entry_held, r (S.set_cell j f true c) w.2)
 
   module _ (p : ℕ) (least : 1 ≤ p) (party : p ≤ width) (u : Undone) (us : List Undone) (chain : L.undos p ≡ u ∷ us) (Z : Sizes L) where
-    mine : Undoable p (means L t) (u.undo ∷ map (λ y. y.undo) us) (cells (means L t))
+    pub mine : Undoable p (means L t) (u.undo ∷ map (λ y. y.undo) us) (cells (means L t))
     mine = subst (λ ys. Undoable p (means L t) (map (λ y. y.undo) ys) (cells (means L t))) chain (undoable-at p least party)
 
     pub sound-off : OthersOff L p (entry_in u.undo)
@@ -98,16 +98,3 @@ module _ (s : List ℕ) (t : List Session) (L : Lay) (H : Holds s t L) (A : S.So
         go (value e v) w = w.0
         go (added e k) w = w.0.entry_held
         go (taken e k) w = w.0.entry_held
-
-    pub sound-apt : Apt L u
-    unfolding means
-    sound-apt = go u.undo mine (mine-named s t L H Z p least party u us chain)
-      where
-        O : Rising L
-        O = rising-of L t A
-
-        go : (x : Undo) → Undoable p (means L t) (x ∷ map (λ y. y.undo) us) (cells (means L t))
-            → NamedAs (leaves_in L) (Named (leaves_in L) us) (lists_in L) u.num u.saved u.descriptor x → AptAs L u.saved u.descriptor x
-        go (value e v) w n = w.1
-        go (added e k) w n = λ z. cell-some s t L H k u.descriptor (key_in L O k u.descriptor n.0) e w.1 (n.1 ∙ z)
-        go (taken e k) w n = cell-none s t L H k u.descriptor (key_in L O k u.descriptor n.0) e w.1

@@ -1,16 +1,27 @@
-use mathlib.Core.Path.{sym, ◌∙◌}
-use Rattle.refusals.specs.Refusing.{first_of}
+use Rattle.std.specs.Prelude.{◌≡◌, true, false, List, ℕ}
 use borrow.Author.Rules.{rules}
+use Rattle.sessions.specs.declared.Session.{Session}
+use Rattle.machine.specs.Calls.{no_session}
+use Rattle.refusals.specs.Refusing.{first_of, begin_list, is_begun_in}
 use Rattle.refusals.proofs.begin_refusal.Goals as goal
 
-pub returns-then-unknown : goal.returns-then-unknown
+is-unknown : (t : List Session) (p : ℕ) → no_session p ≡ true → 4 ≡ first_of (begin_list t p)
 unfolding first_of
-returns-then-unknown c = simp (sym c.not_session-unknown.ensures ∙ c.if-unknown.true)
+is-unknown t p e = simp e
+
+is-already : (t : List Session) (p : ℕ) → no_session p ≡ false → is_begun_in t p ≡ true → 5 ≡ first_of (begin_list t p)
+unfolding first_of
+is-already t p e f = simp (e, f)
+
+is-new : (t : List Session) (p : ℕ) → no_session p ≡ false → is_begun_in t p ≡ false → 0 ≡ first_of (begin_list t p)
+unfolding first_of
+is-new t p e f = simp (e, f)
+
+pub returns-then-unknown : goal.returns-then-unknown
+returns-then-unknown c = is-unknown c.args.t c.args.p (search rules)
 
 pub returns-then-already : goal.returns-then-already
-unfolding first_of
-returns-then-already c = simp (sym c.not_session-unknown.ensures ∙ c.if-unknown.false, sym c.is_begun-already.ensures ∙ c.if-already.true)
+returns-then-already c = is-already c.args.t c.args.p (search rules) (search rules)
 
 pub returns : goal.returns
-unfolding first_of
-returns c = simp (sym c.not_session-unknown.ensures ∙ c.if-unknown.false, sym c.is_begun-already.ensures ∙ c.if-already.false)
+returns c = is-new c.args.t c.args.p (search rules) (search rules)
