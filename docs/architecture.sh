@@ -26,13 +26,13 @@ draw() {
             "naive_journal made_journals changed_journals compare_journals")
         box("serial", 104, 174, 160, 96, "theory", "theory: model", "demand 3 of any store", "serial")
         box("lent", 304, 174, 270, 96, "store", "lent layer and C", "what a host calls", "tables seats store packing entry_store")
-        box("traces", 614, 174, 160, 96, "beside", "traces", "scripts played, compared", "scripts tracing trace vectors")
+        box("traces", 614, 174, 160, 96, "beside", "traces", "scripts played, compared", "scripts failures tracing trace vectors")
         box("compare", 814, 174, 160, 96, "beside", "compare", "store and second model", "schedules books choices turns compare")
 
         box("machine", 104, 310, 160, 96, "theory", "theory: machine", "each call, each step", "machine cases")
         box("calls", 304, 304, 270, 114, "store", "promises and calls, a card\047s day", "the calls on words, demands 1 to 3", \
             "refusals promises accepted stepping serving running asking batches calls looking card_days day_model day_calls")
-        box("second", 814, 310, 160, 96, "beside", "second model", "plain arrays", "naive_tree naive_steps naive")
+        box("second", 814, 310, 160, 96, "beside", "second model", "plain structs", "naive_tree naive_steps naive")
 
         box("meaning", 104, 446, 160, 116, "theory", "what words mean", "Sound, Holds, Becomes", "meaning layout")
         box("rows", 304, 446, 270, 116, "store", "rows of the steps", "each proved to be the machine\047s", \

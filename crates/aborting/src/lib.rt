@@ -9,14 +9,14 @@
 ghost use Rattle.std.specs.Prelude.{◌≡◌};
 ghost use Rattle.aborting.specs.Words.{hand_ended, HandReady, abort_words, AbortReady};
 
-use sessions::Session;
+use sessions::{Session, Stage};
 
 // The request in hand ends, if there is one.
 pub fn end_hand(store: &mut [u32], m: usize, x: Session)
     requires { HandReady store.old m x }
     ensures { store.new ≡ hand_ended store.old m x }
 {
-    if x.stage == 0 {
+    if x.stage == Stage::Idle as u32 {
         return;
     }
     finishing::end_request(store, m, x);

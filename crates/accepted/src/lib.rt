@@ -127,8 +127,7 @@ pub fn recover(store: &mut [u32], t: [Session; PARTIES]) -> Served
 fn fresh_table() -> [Session; PARTIES]
     ensures { result ≡ fresh_table }
 {
-    let x = endings::fresh_session();
-    [x; PARTIES]
+    [Session::default(); PARTIES]
 }
 
 // An empty store with m entries, and a table with no session begun.

@@ -15,8 +15,10 @@ ghost use Rattle.outcomes.specs.Said.{moved};
 ghost use Rattle.arriving.specs.Arriving.{staged, to_change, to_second, to_take, arrived_at, pin_step, pred_of, make_at, made_step, full_step, make_step, tidy_at, gone_step, left_step, tidy_step, session_step, lowest_step_of};
 ghost use Rattle.arriving.specs.Ready.{PredReady, PinReady, MakeAble, MadeReady, MakeReady, TidyAble, TidyReady, SessionReady, LowestReady};
 
-use outcomes::{Answer, Moved};
-use sessions::Session;
+use groups::Descriptor;
+use kinds::Record;
+use outcomes::{Answer, Moved, Refusal};
+use sessions::{Code, Session, Stage};
 
 // ---- the session record after a descent, whose descriptor is at record d
 
@@ -24,7 +26,7 @@ use sessions::Session;
 fn to_change(mut x: Session, d: u32) -> Session
     ensures { result ≡ to_change x d }
 {
-    x.stage = 4;
+    x.stage = Stage::Change as u32;
     x.low = d;
     x
 }
@@ -33,7 +35,7 @@ fn to_change(mut x: Session, d: u32) -> Session
 fn to_second(mut x: Session, d: u32) -> Session
     ensures { result ≡ to_second x d }
 {
-    x.stage = 2;
+    x.stage = Stage::EnterRoot as u32;
     x.target = x.second;
     x.low = d;
     x
@@ -43,7 +45,7 @@ fn to_second(mut x: Session, d: u32) -> Session
 fn take_one(mut x: Session, d: u32) -> Session
     ensures { result ≡ staged x 5 x.target d x.high 0 }
 {
-    x.stage = 5;
+    x.stage = Stage::Take as u32;
     x.low = d;
     x.last = 0;
     x
@@ -52,7 +54,7 @@ fn take_one(mut x: Session, d: u32) -> Session
 fn take_two(mut x: Session, d: u32) -> Session
     ensures { result ≡ staged x 5 x.target x.low d 0 }
 {
-    x.stage = 5;
+    x.stage = Stage::Take as u32;
     x.high = d;
     x.last = 0;
     x
@@ -70,7 +72,7 @@ fn to_take(x: Session, d: u32) -> Session
 fn arrive_at(x: Session, d: u32) -> Session
     ensures { result ≡ arrived_at x d }
 {
-    if x.code != 5 {
+    if x.code != Code::Locate as u32 {
         return to_change(x, d);
     }
     if x.target == x.second {
@@ -114,11 +116,11 @@ fn make_at(store: &mut [u32], m: usize, at: usize, key: u32, b: usize) -> usize
     requires { MakeAble store.old m at key b }
     ensures { (result ≡ header_word store.old free_place) × (store.new ≡ make_at store.old m at key b) }
 {
-    let d = groups::load_descriptor(store, m, b);
+    let d = Descriptor::load(store, m, b);
     let a = chain::pop_free(store, m);
-    let new = groups::make_descriptor(d.gap, key, d.next);
-    groups::write_descriptor(store, m, a, new);
-    groups::write_descriptor(store, m, b, groups::with_next_descriptor(d, a as u32)); // linked
+    let new = Descriptor::made_in(d.gap, key, d.next);
+    new.write(store, m, a);
+    d.with_next_descriptor(a as u32).write(store, m, b); // linked
     descents::insert_leaf(store, m, at, key, a as u32);
     a
 }
@@ -141,7 +143,7 @@ fn full_step(store: &mut [u32], m: usize, x: Session) -> Moved
     ensures { (store.new ≡ (full_step store.old m x).words) × (result ≡ moved (full_step store.old m x)) }
 {
     Moved {
-        answer: Answer::Refused(11, 0),
+        answer: Answer::Refused(Refusal::Full as u32, 0),
         session: finishing::end_request(store, m, x),
     }
 }
@@ -164,9 +166,9 @@ fn tidy_at(store: &mut [u32], m: usize, at: usize, key: u32, b: usize, d: usize)
     requires { TidyAble store.old m at b d }
     ensures { store.new ≡ tidy_at store.old m at key b d }
 {
-    let before = groups::load_descriptor(store, m, b);
+    let before = Descriptor::load(store, m, b);
     let next = groups::descriptor_next(store, m, d);
-    groups::write_descriptor(store, m, b, groups::with_next_descriptor(before, next)); // unlinked
+    before.with_next_descriptor(next).write(store, m, b); // unlinked
     descents::remove_leaf(store, m, at, key);
     chain::push_free(store, m, d);
 }
@@ -204,8 +206,8 @@ pub fn tidy_step(store: &mut [u32], m: usize, r: usize, x: Session) -> Moved
     let d = descents::son_toward(store, m, at, x.target);
     let b = pred_of(store, m, r, x.target);
     let gap = groups::descriptor_gap(store, m, b);
-    let v = groups::load_descriptor(store, m, d);
-    if groups::is_removable(v, gap) {
+    let v = Descriptor::load(store, m, d);
+    if v.is_removable(gap) {
         return gone_step(store, m, b, d, x);
     }
     left_step(store, m, x)

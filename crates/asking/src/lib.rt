@@ -11,7 +11,7 @@ ghost use Rattle.asking.specs.Asks.{asking, asking_at};
 // The words of an ask.
 const WORDS: usize = 7;
 
-#[derive(Clone, Copy)]
+#[derive(Clone, Copy, PartialEq, Eq, Debug)]
 pub enum Asking {
     Begin(u32),
     // Party, code, entry, first, second.

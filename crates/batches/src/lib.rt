@@ -15,7 +15,7 @@ ghost use Rattle.batches.specs.Batches.{Asks, code_of, pairs_of, used, goes_on, 
 ghost use Rattle.batches.specs.Making.{Turned, Ready, behind};
 
 use asking::Asking;
-use outcomes::{Answer, Made, Ran, Served};
+use outcomes::{Answer, Made, Ran, Refusal, Served};
 use sessions::{PARTIES, Session};
 
 // The most asks of a batch, and the words of an ask.
@@ -40,17 +40,10 @@ pub fn request(
     ensures { Requests p code entry first second bound store.old t list.old (said result.answer) result.steps list.new store.new result.table }
 {
     let served = serving::put(store, t, p, code, entry, first, second);
-    let u = served.table;
-    let answer = served.answer;
-    let taken = running::is_ok(answer);
-    if taken {
-        return running::run(store, list, u, p, bound);
+    if running::is_ok(served.answer) {
+        return running::run(store, list, served.table, p, bound);
     }
-    Ran {
-        table: u,
-        answer: answer,
-        steps: 0,
-    }
+    counted(served, 0)
 }
 
 // ---- one ask
@@ -59,12 +52,11 @@ pub fn request(
 fn counted(served: Served, steps: u32) -> Ran
     ensures { result ≡ record { table = served.table; answer = served.answer; steps = steps } }
 {
-    let t = served.table;
-    let answer = served.answer;
+    let table = served.table;
     Ran {
-        table: t,
-        answer: answer,
-        steps: steps,
+        table,
+        answer: served.answer,
+        steps,
     }
 }
 
@@ -72,11 +64,7 @@ fn counted(served: Served, steps: u32) -> Ran
 fn no_ask(t: [Session; PARTIES]) -> Ran
     ensures { result ≡ record { table = t; answer = Answer.Refused 101 0; steps = 0 } }
 {
-    Ran {
-        table: t,
-        answer: Answer::Refused(101, 0),
-        steps: 0,
-    }
+    Ran::refused(t, Refusal::NoAsk, 0)
 }
 
 fn ask(store: &mut [u32], list: &mut [u32], t: [Session; PARTIES], k: Asking) -> Ran
@@ -84,39 +72,19 @@ fn ask(store: &mut [u32], list: &mut [u32], t: [Session; PARTIES], k: Asking) ->
     ensures { Asks k store.old t list.old (said result.answer) result.steps list.new store.new result.table }
 {
     match k {
-        Asking::Begin(p) => {
-            let served = serving::begin(store, t, p);
-            return counted(served, 0);
-        }
+        Asking::Begin(p) => counted(serving::begin(store, t, p), 0),
         Asking::Put(p, code, entry, first, second) => {
-            let served = serving::put(store, t, p, code, entry, first, second);
-            return counted(served, 0);
+            counted(serving::put(store, t, p, code, entry, first, second), 0)
         }
-        Asking::Step(p) => {
-            let served = serving::step(store, list, t, p);
-            return counted(served, 1);
-        }
-        Asking::Commit(p) => {
-            let served = serving::commit(store, t, p);
-            return counted(served, 0);
-        }
-        Asking::Abort(p) => {
-            let served = serving::abort(store, t, p);
-            return counted(served, 0);
-        }
-        Asking::Run(p, bound) => {
-            return running::run(store, list, t, p, bound);
-        }
+        Asking::Step(p) => counted(serving::step(store, list, t, p), 1),
+        Asking::Commit(p) => counted(serving::commit(store, t, p), 0),
+        Asking::Abort(p) => counted(serving::abort(store, t, p), 0),
+        Asking::Run(p, bound) => running::run(store, list, t, p, bound),
         Asking::Request(p, code, entry, first, second, bound) => {
-            return request(store, list, t, p, code, entry, first, second, bound);
+            request(store, list, t, p, code, entry, first, second, bound)
         }
-        Asking::Ask(p) => {
-            let served = serving::ask(store, t, p);
-            return counted(served, 0);
-        }
-        Asking::Other => {
-            return no_ask(t);
-        }
+        Asking::Ask(p) => counted(serving::ask(store, t, p), 0),
+        Asking::Other => no_ask(t),
     }
 }
 
@@ -141,23 +109,16 @@ fn code_in(k: Asking, t: [Session; PARTIES]) -> u32
     ensures { result ≡ code_of k t }
 {
     match k {
-        Asking::Begin(_) => 0,
-        Asking::Put(_, _, _, _, _) => 0,
-        Asking::Step(p) => party_code(t, p),
-        Asking::Commit(_) => 0,
-        Asking::Abort(_) => 0,
-        Asking::Run(p, _) => party_code(t, p),
+        Asking::Step(p) | Asking::Run(p, _) => party_code(t, p),
         Asking::Request(_, code, _, _, _, _) => code,
-        Asking::Ask(_) => 0,
-        Asking::Other => 0,
+        _ => 0,
     }
 }
 
 fn party_code(t: [Session; PARTIES], p: u32) -> u32
     ensures { result ≡ (session_at t p).code }
 {
-    let x = refusals::seat(t, p);
-    x.code
+    refusals::seat(t, p).code
 }
 
 // Twice so many words as a locate found pairs; nothing else writes the list.
@@ -174,14 +135,9 @@ fn pair_words(code: u32, n: u32) -> usize
 fn words_used(k: Asking, t: [Session; PARTIES], a: Answer) -> usize
     ensures { result ≡ used (code_of k t) (said a) }
 {
-    let code = code_in(k, t);
     match a {
-        Answer::Ok => 0,
-        Answer::More => 0,
-        Answer::Wait(_) => 0,
-        Answer::Done(n) => pair_words(code, n),
-        Answer::Tidied(_, _) => 0,
-        Answer::Refused(_, _) => 0,
+        Answer::Done(n) => pair_words(code_in(k, t), n),
+        _ => 0,
     }
 }
 
@@ -199,17 +155,7 @@ fn place_behind(from: usize, len: usize, n: usize) -> usize
 fn is_single(k: Asking) -> bool
     ensures { result ≡ is_step k }
 {
-    match k {
-        Asking::Begin(_) => false,
-        Asking::Put(_, _, _, _, _) => false,
-        Asking::Step(_) => true,
-        Asking::Commit(_) => false,
-        Asking::Abort(_) => false,
-        Asking::Run(_, _) => false,
-        Asking::Request(_, _, _, _, _, _) => false,
-        Asking::Ask(_) => false,
-        Asking::Other => false,
-    }
+    matches!(k, Asking::Step(_))
 }
 
 // Whether the batch goes on after an ask with this answer. More tells of a step that another is due, of a run that its bound is used up.
@@ -217,12 +163,9 @@ fn may_go_on(k: Asking, a: Answer) -> bool
     ensures { result ≡ goes_on k (said a) }
 {
     match a {
-        Answer::Ok => true,
+        Answer::Ok | Answer::Done(_) | Answer::Tidied(_, _) => true,
         Answer::More => is_single(k),
-        Answer::Wait(_) => false,
-        Answer::Done(_) => true,
-        Answer::Tidied(_, _) => true,
-        Answer::Refused(_, _) => false,
+        Answer::Wait(_) | Answer::Refused(_, _) => false,
     }
 }
 
@@ -249,7 +192,7 @@ fn turn(store: &mut [u32], list: &mut [u32], asks: &[u32], answers: &mut [u64], 
     let ran = ask_from(store, list, from, t, k);
     let answer = ran.answer;
     let made = Made {
-        answer: answer,
+        answer,
         steps: ran.steps,
     };
     answers[i] = packing::pack_made(made);
@@ -277,9 +220,9 @@ fn ended(at: Place) -> Served
     requires { at.made ≤ 65535 }
     ensures { result ≡ record { table = at.table; answer = Answer.Done at.made } }
 {
-    let t = at.table;
+    let table = at.table;
     Served {
-        table: t,
+        table,
         answer: Answer::Done(at.made as u32),
     }
 }

@@ -1,189 +1,167 @@
-// Book: where the numbers of a run stand in the book, what may differ, and the first difference.
-use schedules::book::{Book, copy, count, get, put};
+// Book: the numbers of a run: what a round is like, what its calls told of each party, and what was counted.
+use crate::counts::{Counter, Counts, Difference, What};
+use schedules::content::Content;
+use schedules::days::Day;
+use schedules::logs::Log;
+use schedules::random::Random;
+use schedules::requests::{Code, Request};
+use schedules::side::PARTIES;
 
-// The words of the second model.
-pub type Model = [u32; naive::SIZE];
+// How many words the longest list has that a step is lent.
+pub const LIST: usize = 1024;
 
-// Word 0 is the random state. How many sessions, entries and records the round has; which keys: 0 small ones, 1 the whole range of words, 2 packed ones; and
-// how many.
-pub const SESSIONS: usize = 1;
-
-pub const ENTRIES: usize = 2;
-
-pub const RECORDS: usize = 3;
-
-pub const KEYS: usize = 4;
-
-pub const RANGE: usize = 5;
-
-// How many words the round's store is lent, how many calls the round has, and at every how many the checker is asked.
-pub const WORDS: usize = 6;
-
-pub const TURNS: usize = 7;
-
-pub const CHECKS: usize = 8;
+// Which keys a round has: small ones, some of the whole range of words, or ones packed of two numbers.
+#[derive(Clone, Copy, PartialEq, Eq)]
+pub enum Keys {
+    Small,
+    Whole,
+    Packed,
+}
 
 // What the sessions are mostly at.
-pub const PHASE: usize = 9;
-
-// The key of the last insert or remove that was chosen.
-pub const CHANGED: usize = 10;
-
-// The round, and the call in it. From here on all is 0 where a round begins: the last key of a rising row; not 0 once a difference was found.
-pub const ROUND: usize = 124;
-
-pub const CALL: usize = 125;
-
-pub const RISEN: usize = 126;
-
-pub const IS_STOPPED: usize = 127;
-
-// Counts, in the order of the report: calls made, which are also the lists compared; calls by kind, answers by word, refusals by number from 3 to 14, and
-// behind these the refusals by 21.
-pub const LINES: usize = 16;
-
-pub const MADE: usize = 17;
-
-pub const ANSWERED: usize = 26;
-
-pub const REFUSED: usize = 28;
-
-pub const REFUSED_ASKED: usize = 43;
-
-// Views compared, keys compared, calls that had to change nothing, replays of committed and of other sessions, finished requests, contents compared,
-// aborts and recovers of copies, questions to the checker, damaged copies found sound and unsound, the greatest height and number of descriptors.
-pub const VIEWS: usize = 94;
-
-pub const KEYS_SEEN: usize = 95;
-
-pub const UNCHANGED: usize = 97;
-
-pub const COMMITTED: usize = 98;
-
-pub const UNFINISHED: usize = 99;
-
-pub const REQUESTS: usize = 100;
-
-pub const CONTENTS: usize = 101;
-
-pub const COPIES_ABORTED: usize = 102;
-
-pub const COPIES_RECOVERED: usize = 103;
-
-pub const CHECKED: usize = 104;
-
-pub const DAMAGED_SOUND: usize = 105;
-
-pub const DAMAGED_UNSOUND: usize = 106;
-
-pub const HEIGHT: usize = 107;
-
-pub const DESCRIPTORS: usize = 108;
-
-// Of the day calls that were not refused: those that put a request, those that were a step; the steps that finished a request before the day's last, and
-// the last.
-pub const DAY_PUTS: usize = 109;
-
-pub const DAY_STEPS: usize = 110;
-
-pub const DAY_REQUESTS: usize = 111;
-
-pub const DAYS: usize = 112;
-
-// How often the parties were given other numbers in the order of begins.
-pub const SPREAD: usize = 113;
-
-// The first difference: round and call, the number of the store and that of the model; how many differences there are; what differs first.
-pub const FIRST: usize = 114;
-
-pub const DIFFERENCES: usize = 118;
-
-pub const WHAT: usize = 119;
-
-// What may differ.
-pub const WORD: u32 = 1;
-
-pub const NUMBER: u32 = 2;
-
-pub const BESIDE: u32 = 3;
-
-pub const NAMED: u32 = 4;
-
-pub const LISTED: u32 = 5;
-
-pub const VALUE: u32 = 6;
-
-pub const SHARE: u32 = 7;
-
-pub const EXCLUSIVE: u32 = 8;
-
-pub const LOCATE: u32 = 9;
-
-pub const UPDATE: u32 = 10;
-
-pub const GROUP: u32 = 11;
-
-pub const STORED: u32 = 12;
-
-pub const STORED_KEYS: u32 = 13;
-
-pub const LEVELS: u32 = 14;
-
-pub const FREE: u32 = 15;
-
-pub const NODES: u32 = 16;
-
-pub const TOUCHED: u32 = 17;
-
-pub const BEYOND: u32 = 18;
-
-pub const SOUND: u32 = 19;
-
-pub const COMMIT: u32 = 20;
-
-pub const OTHER: u32 = 21;
-
-pub const ABORT: u32 = 22;
-
-pub const LOGICAL_VALUE: u32 = 23;
-
-pub const LOGICAL_GROUP: u32 = 24;
-
-pub const DAMAGE: u32 = 25;
-
-pub const PLACE: u32 = 26;
-
-pub const ORDER: u32 = 27;
-
-pub const MARK: u32 = 28;
-
-pub const RECOVER: u32 = 29;
-
-fn tell_first(b: &mut Book, what: u32, left: u32, right: u32) {
-    copy(b, ROUND, FIRST, 2);
-    put(b, FIRST + 2, left);
-    put(b, FIRST + 3, right);
-    put(b, WHAT, what);
+#[derive(Clone, Copy, PartialEq, Eq)]
+pub enum Phase {
+    Grow,
+    Mix,
+    Shrink,
+    Rise,
 }
 
-// Tells a difference: what differs, the number of the store, the number of the model.
-pub fn differ(b: &mut Book, what: u32, left: u32, right: u32) {
-    if get(b, DIFFERENCES) == 0 {
-        tell_first(b, what, left, right);
+// How large a round is: how many sessions, entries and records it has; which keys, and how many; and how many words its store is lent.
+#[derive(Clone, Copy)]
+pub struct Size {
+    pub sessions: u32,
+    pub entries: u32,
+    pub records: u32,
+    pub keys: Keys,
+    pub range: u32,
+    pub words: u32,
+}
+
+// What calls and answers tell of a party: the request in hand and whether its last step waited; whether it is begun, and whether it is asked; what it has
+// finished; and the day that it keeps.
+#[derive(Clone, Copy)]
+pub struct Party {
+    pub request: Request,
+    pub waited: bool,
+    pub is_begun: bool,
+    pub is_asked: bool,
+    pub log: Log,
+    pub day: Day,
+}
+
+impl Party {
+    fn new() -> Self {
+        Party {
+            request: Request::new(Code::Read, 0, 0, 0),
+            waited: false,
+            is_begun: false,
+            is_asked: false,
+            log: Log::new(),
+            day: Day::new(),
+        }
     }
-    count(b, DIFFERENCES);
-    put(b, IS_STOPPED, 1);
-}
 
-pub fn same(b: &mut Book, what: u32, left: u32, right: u32) {
-    if left != right {
-        differ(b, what, left, right);
+    // The session has ended, and keeps its day alone.
+    pub fn end(&mut self) {
+        self.waited = false;
+        self.is_begun = false;
+        self.is_asked = false;
+        self.log.clear();
     }
 }
 
-// The greatest number so far.
-pub fn raise(b: &mut Book, at: usize, x: u32) {
-    if get(b, at) < x {
-        put(b, at, x);
+// A round: the number of its last call; the last key of a rising row; whether a difference was found; the lists that store and model are lent.
+#[derive(Clone, Copy)]
+pub struct Round {
+    pub number: u32,
+    pub size: Size,
+    pub phase: Phase,
+    pub call: u32,
+    pub risen: u32,
+    pub is_stopped: bool,
+    pub parties: [Party; PARTIES],
+    pub store_list: [u32; LIST],
+    pub model_list: [u32; LIST],
+    pub content: Content,
+}
+
+impl Round {
+    // A round in which no call is made yet.
+    pub fn new(number: u32, size: Size) -> Self {
+        Round {
+            number,
+            size,
+            phase: Phase::Grow,
+            call: 0,
+            risen: 0,
+            is_stopped: false,
+            parties: [Party::new(); PARTIES],
+            store_list: [0; LIST],
+            model_list: [0; LIST],
+            content: Content::new(),
+        }
+    }
+
+    pub fn party(&self, p: u32) -> &Party {
+        &self.parties[p as usize % PARTIES]
+    }
+
+    pub fn party_mut(&mut self, p: u32) -> &mut Party {
+        &mut self.parties[p as usize % PARTIES]
+    }
+}
+
+// The key of the last insert or remove that was chosen stays from round to round.
+#[derive(Drop)]
+pub struct Book {
+    pub random: Random,
+    pub round: Round,
+    pub changed: Option<u32>,
+    pub counts: Counts,
+    pub first: Option<Difference>,
+    pub differences: Counter,
+}
+
+impl Book {
+    // A run of rounds, of which the first one begins.
+    pub fn new(seed: u32) -> Self {
+        let size = Size {
+            sessions: 0,
+            entries: 0,
+            records: 0,
+            keys: Keys::Small,
+            range: 0,
+            words: 0,
+        };
+        Book {
+            random: Random::new(seed),
+            round: Round::new(0, size),
+            changed: None,
+            counts: Counts::new(),
+            first: None,
+            differences: Counter::ZERO,
+        }
+    }
+
+    // Tells a difference: what differs, the number of the store, the number of the model.
+    pub fn differ(&mut self, what: What, store: u32, model: u32) {
+        if self.first.is_none() {
+            self.first = Some(Difference {
+                round: self.round.number,
+                call: self.round.call,
+                what,
+                store,
+                model,
+            });
+        }
+        self.differences.count();
+        self.round.is_stopped = true;
+    }
+
+    pub fn same(&mut self, what: What, store: u32, model: u32) {
+        if store != model {
+            self.differ(what, store, model);
+        }
     }
 }

@@ -1,101 +1,161 @@
-// Call: a call by its kind, party and numbers; the words of its answer; how many words it is lent.
-ghost use Rattle.std.specs.Prelude.{◌<◌};
+// Call: a call with its party and numbers, and its answer.
+use naive::{Progress, Refusal};
+use schedules::requests::Request;
 
-use crate::book::WORDS;
-use naive_steps::party::Said;
-use schedules::book::{Book, get};
-use schedules::words::wide;
+// The kinds of calls, in the order of the report.
+#[derive(Clone, Copy, PartialEq, Eq)]
+pub enum Kind {
+    Format,
+    Begin,
+    Put,
+    Step,
+    Commit,
+    Abort,
+    Day,
+    Ask,
+    Recover,
+}
 
-pub const FORMAT: u32 = 0;
-
-pub const BEGIN: u32 = 1;
-
-pub const PUT: u32 = 2;
-
-pub const STEP: u32 = 3;
-
-pub const COMMIT: u32 = 4;
-
-pub const ABORT: u32 = 5;
-
-pub const DAY: u32 = 6;
-
-pub const ASK: u32 = 7;
-
-pub const RECOVER: u32 = 8;
-
-// A call. A recover has no party and no numbers. Of a format, entry is M and first the number of words; of a step, first is the number of words of the
-// list; of a day call, code is the place, first the driver and second the start, and the bytes are those that the party keeps.
+// A format names how many words of the store it is lent, and a step how many of the list; the bytes of a day call are those that its party keeps.
 #[derive(Clone, Copy)]
-pub struct Call {
-    pub kind: u32,
+pub enum Call {
+    Format { entries: u32, words: u32 },
+    Begin(u32),
+    Put(u32, Request),
+    Step { party: u32, listed: u32 },
+    Commit(u32),
+    Abort(u32),
+    Day(DayCall),
+    Ask(u32),
+    Recover,
+}
+
+#[derive(Clone, Copy)]
+pub struct DayCall {
     pub party: u32,
-    pub code: u32,
+    pub place: u32,
     pub entry: u32,
-    pub first: u32,
-    pub second: u32,
+    pub driver: u32,
+    pub start: u32,
 }
 
-// The answers' words.
-pub const OK: u32 = 0;
+impl Call {
+    pub fn kind(self) -> Kind {
+        match self {
+            Call::Format { .. } => Kind::Format,
+            Call::Begin(_) => Kind::Begin,
+            Call::Put(..) => Kind::Put,
+            Call::Step { .. } => Kind::Step,
+            Call::Commit(_) => Kind::Commit,
+            Call::Abort(_) => Kind::Abort,
+            Call::Day(_) => Kind::Day,
+            Call::Ask(_) => Kind::Ask,
+            Call::Recover => Kind::Recover,
+        }
+    }
 
-pub const MORE: u32 = 1;
-
-pub const WAIT: u32 = 2;
-
-pub const DONE: u32 = 3;
-
-pub const REFUSED: u32 = 4;
-
-// The words of each of the two lists that are lent.
-pub const LIST: usize = 1024;
-
-// How many words of the list a step is lent.
-pub fn listed(first: u32) -> usize
-    ensures { result < 2000 }
-{
-    if first < 1024 { wide(first) } else { LIST }
-}
-
-// A call of a party alone.
-pub fn plain(kind: u32, p: u32) -> Call {
-    Call {
-        kind: kind,
-        party: p,
-        code: 0,
-        entry: 0,
-        first: 0,
-        second: 0,
+    // The party that makes it; 0 at a format and a recover, which have none.
+    pub fn party(self) -> u32 {
+        match self {
+            Call::Format { .. } | Call::Recover => 0,
+            Call::Begin(p) | Call::Commit(p) | Call::Abort(p) | Call::Ask(p) => p,
+            Call::Put(p, _) => p,
+            Call::Step { party, .. } => party,
+            Call::Day(day) => day.party,
+        }
     }
 }
 
-// How many words the store of a call has.
-pub fn store_words(b: &Book, c: Call) -> u32 {
-    if c.kind == FORMAT {
-        return c.first;
-    }
-    get(b, WORDS)
+// What is said of a call: beside a wait the party that it names; of what is done the answer and, of a tidy, whether it removed; of a refusal its number and
+// the one beside it.
+#[derive(Clone, Copy, PartialEq, Eq)]
+pub enum Said {
+    Ok,
+    More,
+    Wait(u32),
+    Done { answer: u32, beside: u32 },
+    Refused { by: u32, beside: u32 },
 }
 
-// An answer.
-pub fn say(word: u32, first: u32, second: u32) -> Said {
-    Said {
-        word: word,
-        first: first,
-        second: second,
+impl Said {
+    // What is said where nothing was called.
+    pub const UNSERVED: Said = Said::Refused { by: 0, beside: 0 };
+
+    // The answer's word, by its place in the report.
+    pub fn word(self) -> u32 {
+        match self {
+            Said::Ok => 0,
+            Said::More => 1,
+            Said::Wait(_) => 2,
+            Said::Done { .. } => 3,
+            Said::Refused { .. } => 4,
+        }
+    }
+
+    // The number that stands next to the word, and the one beside that; 0 where there is none.
+    pub fn number(self) -> u32 {
+        match self {
+            Said::Ok | Said::More => 0,
+            Said::Wait(p) => p,
+            Said::Done { answer, .. } => answer,
+            Said::Refused { by, .. } => by,
+        }
+    }
+
+    pub fn beside(self) -> u32 {
+        match self {
+            Said::Done { beside, .. } | Said::Refused { beside, .. } => beside,
+            _ => 0,
+        }
+    }
+
+    // A wait changes no word, and neither does a refusal but 11 and 12.
+    pub fn is_still(self) -> bool {
+        match self {
+            Said::Wait(_) => true,
+            Said::Refused { by, .. } => by != 11 && by != 12,
+            _ => false,
+        }
     }
 }
 
-// What is said of a day call: its answer, and the place, 0 at a refusal.
+// What the second model says: of a call that is no step, and of a step.
+impl From<Refusal> for Said {
+    fn from(refusal: Refusal) -> Said {
+        Said::Refused {
+            by: refusal.number(),
+            beside: refusal.beside(),
+        }
+    }
+}
+
+impl From<Result<(), Refusal>> for Said {
+    fn from(answer: Result<(), Refusal>) -> Said {
+        match answer {
+            Ok(()) => Said::Ok,
+            Err(refusal) => Said::from(refusal),
+        }
+    }
+}
+
+impl From<Result<Progress, Refusal>> for Said {
+    fn from(answer: Result<Progress, Refusal>) -> Said {
+        match answer {
+            Ok(Progress::More) => Said::More,
+            Ok(Progress::Wait(q)) => Said::Wait(q),
+            Ok(Progress::Done(answer)) => Said::Done { answer, beside: 0 },
+            Ok(Progress::Tidied(answer, is_gone)) => Said::Done {
+                answer,
+                beside: is_gone as u32,
+            },
+            Err(refusal) => Said::from(refusal),
+        }
+    }
+}
+
+// What is said of a day call: its answer, and the place that the next one is handed, 0 at a refusal.
 #[derive(Clone, Copy)]
 pub struct Told {
     pub said: Said,
     pub place: u32,
-}
-
-pub fn tell(said: Said, place: u32) -> Told {
-    Told {
-        said: said,
-        place: place,
-    }
 }

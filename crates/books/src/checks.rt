@@ -1,41 +1,32 @@
 // Checks: the checker is asked whether a store is sound, and what a copy with one word changed gave is noted.
-use crate::book::{CHECKED, DAMAGE, DAMAGED_SOUND, DAMAGED_UNSOUND, SOUND, WORDS, differ};
+use crate::book::Book;
+use crate::counts::What;
 use crate::seats::table;
-use schedules::book::{Book, count, get};
-use schedules::side::{STORE, Side, TABLE};
-use schedules::words::wide;
+use schedules::side::Side;
 
-fn ask_part(side: &[u32], s: &Side, words: usize) -> bool {
-    if words <= STORE {
-        let end = TABLE + words;
-        if end <= side.len() {
-            return checker::sound_by_paper(&side[TABLE..end], table(s));
-        }
-    }
-    false
-}
-
-// Does the checker find the store sound?
+// Does the checker find the store sound that has so many words?
 pub fn is_sound(s: &Side, words: u32) -> bool {
-    ask_part(s, s, wide(words))
+    match s.store.get(..words as usize) {
+        Some(store) => checker::sound_by_paper(store, table(s)),
+        None => false,
+    }
 }
 
 pub fn ask_checker(s: &Side, b: &mut Book) {
-    count(b, CHECKED);
-    if !is_sound(s, get(b, WORDS)) {
-        differ(b, SOUND, 0, 1);
+    b.counts.checked.count();
+    if !is_sound(s, b.round.size.words) {
+        b.differ(What::Soundness, 0, 1);
     }
 }
 
 // A store with one word changed: whether the checker finds it sound, and whether the store takes calls on it.
 pub fn note_damage(b: &mut Book, is_good: bool, is_kept: bool) {
     if is_good != is_kept {
-        differ(b, DAMAGE, 0, 0);
+        b.differ(What::Damage, 0, 0);
     }
-    let at = if is_good {
-        DAMAGED_SOUND
+    if is_good {
+        b.counts.damaged_sound.count();
     } else {
-        DAMAGED_UNSOUND
-    };
-    count(b, at);
+        b.counts.damaged_unsound.count();
+    }
 }

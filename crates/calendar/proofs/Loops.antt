@@ -60,9 +60,9 @@ find-more {len} {e} {k} {n} {x} f h q l = record { finds = rw (add-one k, q) (sy
 pub find-stop : {len : ℕ → ℕ} {e k n x : ℕ} {whole : Place} → Finding len e whole k n → x ≡ len k → n < x → place k n ≡ whole
 find-stop {len} {e} {k} {n} f q l = sym (find-here len (e - k) k n (omega arith)) ∙ f.finds
 
-pub find-end : {len : ℕ → ℕ} {e k n : ℕ} {whole : Place} → Finding len e whole k n → e ≤ k → place k n ≡ whole
+pub find-end : {len : ℕ → ℕ} {e k n : ℕ} {whole : Place} → Finding len e whole k n → k ≡ e → place e n ≡ whole
 unfolding find
-find-end {len} {e} {k} {n} f h = ap (λ (j : ℕ). find len j k n) none ∙ f.finds
+find-end {len} {e} {k} {n} f h = ap (λ (j : ℕ). place j n) (sym h) ∙ ap (λ (j : ℕ). find len j k n) none ∙ f.finds
   where
     none : 0 ≡ e - k
     none = omega arith

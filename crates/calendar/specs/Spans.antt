@@ -19,6 +19,10 @@ unfoldable pub find : (ℕ → ℕ) → ℕ → ℕ → ℕ → Place
 find len zero k n = place k n
 find len (suc j) k n = elim (ltb n (len k)) [ true ↦ place k n | false ↦ find len j (suc k) (n - len k) ]
 
+-- lengths that are given, as a relation, are those of len up to e
+abbrev pub Gives : (ℕ → ℕ → Type 0) → ℕ → (ℕ → ℕ) → Type 0
+Gives given e len = (k x : ℕ) → k < e → given k x → x ≡ len k
+
 -- ---- what a test of find leads to
 
 pub find-here : (len : ℕ → ℕ) (j k n : ℕ) → n < len k → find len j k n ≡ place k n

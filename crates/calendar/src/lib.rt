@@ -4,9 +4,10 @@
 // the date and the weekday after those of the day before. It rests on no other crate.
 #![tactic(auto)]
 
-ghost use Rattle.std.specs.Prelude.{◌≡◌, ◌≤◌, ◌<◌};
+ghost use Rattle.std.specs.Prelude.{◌≡◌, ℕ, ◌-◌, ◌≤◌, ◌<◌};
+ghost use Rattle.calendar.specs.Spans.{find, Gives};
 ghost use Rattle.calendar.specs.Near.{Near};
-ghost use Rattle.calendar.specs.Calendar.{leap, year_days, thirty, month_days, first_day, days_before, day_number, year_of, date_in, date_of, IsDate, last_sunday};
+ghost use Rattle.calendar.specs.Calendar.{leap, year_days, month_days, first_day, days_before, day_number, year_of, date_in, date_of, IsDate, last_sunday};
 
 // A span of a row of spans, and how far into it.
 #[derive(Clone, Copy)]
@@ -24,61 +25,30 @@ pub struct Date {
 
 // ---- years and months
 
+#[tactic(auto, unfolding(crate::specs::Calendar::leap))]
 pub fn is_leap(year: u32) -> bool
     ensures { result ≡ leap year }
 {
-    if year % 400 == 0 {
-        return true;
-    }
-    if year % 100 == 0 {
-        return false;
-    }
-    year % 4 == 0
+    year % 400 == 0 || (year % 100 != 0 && year % 4 == 0)
 }
 
+#[tactic(auto, unfolding(crate::specs::Calendar::year_days))]
 pub fn year_days(year: u32) -> u32
     ensures { result ≡ year_days year }
 {
-    if is_leap(year) {
-        return 366;
-    }
-    365
+    if is_leap(year) { 366 } else { 365 }
 }
 
-fn has_thirty(month: u32) -> bool
-    ensures { result ≡ thirty month }
-{
-    if month == 4 {
-        return true;
-    }
-    if month == 6 {
-        return true;
-    }
-    if month == 9 {
-        return true;
-    }
-    month == 11
-}
-
-fn february(year: u32) -> u32
-    ensures { result ≡ month_days year 2 }
-{
-    if is_leap(year) {
-        return 29;
-    }
-    28
-}
-
+#[tactic(auto, unfolding(crate::specs::Calendar::month_days, crate::specs::Calendar::thirty))]
 pub fn month_days(year: u32, month: u32) -> u32
     ensures { result ≡ month_days year month }
 {
-    if month == 2 {
-        return february(year);
+    match month {
+        2 if is_leap(year) => 29,
+        2 => 28,
+        4 | 6 | 9 | 11 => 30,
+        _ => 31,
     }
-    if has_thirty(month) {
-        return 30;
-    }
-    31
 }
 
 // ---- the number of a day
@@ -97,15 +67,14 @@ fn days_before(year: u32, month: u32) -> u32
     requires { (1 ≤ month) × (month ≤ 12) }
     ensures { (result ≡ days_before year month) × (result ≤ 341) }
 {
-    let mut m: u32 = 1;
     let mut n: u32 = 0;
-    while m < month {
+    for m in 1..month {
         n += month_days(year, m);
-        m += 1;
     }
     n
 }
 
+// The three stand apart, and in no Date, since a stamp has them apart.
 pub fn day_number(year: u32, month: u32, day: u32) -> u32
     requires { IsDate year month day }
     ensures { (result ≡ day_number year month day) × (result ≤ 50147) }
@@ -119,27 +88,33 @@ pub fn day_number(year: u32, month: u32, day: u32) -> u32
 fn near_year(n: u32) -> u32
     ensures { Near n result }
 {
-    if n < 49776 {
-        return 1970 + n / 366;
+    (1970 + n / 366).min(2106)
+}
+
+// The span in which n lies, of spans from `first` on whose lengths a closure gives, and how far into it; `last` if in none before it.
+fn find<F: Fn(u32) -> u32>(first: u32, last: u32, n: u32, length: F) -> Place
+    requires ordered { first ≤ last }
+    requires callable { F.IsAlwaysCallable length }
+    ensures within { result.rest ≤ n }
+    ensures found { (len : ℕ → ℕ) → Gives (F.post length) last len → result ≡ find len (last - first) first n }
+{
+    let mut rest = n;
+    for at in first..last {
+        let span = length(at);
+        if rest < span {
+            return Place { at, rest };
+        }
+        rest -= span;
     }
-    2106
+    Place { at: last, rest }
 }
 
 // The year of a day, and the day in it.
 pub fn year_of(n: u32) -> Place
     ensures { result ≡ year_of n }
 {
-    let mut y = near_year(n);
-    let mut rest = n - first_day(y);
-    while y < 2106 {
-        let days = year_days(y);
-        if rest < days {
-            return Place { at: y, rest: rest };
-        }
-        rest -= days;
-        y += 1;
-    }
-    Place { at: y, rest: rest }
+    let near = near_year(n);
+    find(near, 2106, n - first_day(near), year_days)
 }
 
 // The date of a day of a year.
@@ -147,27 +122,15 @@ fn date_in(year: u32, n: u32) -> Date
     requires { n < 4294967295 }
     ensures { result ≡ date_in year n }
 {
-    let mut m: u32 = 1;
-    let mut rest = n;
-    while m < 12 {
-        let days = month_days(year, m);
-        if rest < days {
-            return Date {
-                year: year,
-                month: m,
-                day: rest + 1,
-            };
-        }
-        rest -= days;
-        m += 1;
-    }
+    let place = find(1, 12, n, |month| month_days(year, month));
     Date {
-        year: year,
-        month: m,
-        day: rest + 1,
+        year,
+        month: place.at,
+        day: place.rest + 1,
     }
 }
 
+#[tactic(auto, unfolding(crate::specs::Calendar::date_of))]
 pub fn date_of(n: u32) -> Date
     requires { n < 50038 }
     ensures { result ≡ date_of n }
@@ -178,6 +141,7 @@ pub fn date_of(n: u32) -> Date
 
 // ---- Sundays
 
+#[tactic(auto, unfolding(crate::specs::Calendar::last_sunday, crate::specs::Calendar::weekday))]
 pub fn last_sunday(n: u32) -> u32
     requires { (4 ≤ n) × (n ≤ 50147) }
     ensures { (result ≡ last_sunday n) × (result ≤ n) }

@@ -15,22 +15,22 @@ ghost use Rattle.promises.specs.Runs.{Runs, Requests};
 ghost use Rattle.batches.specs.Batches.{Batches};
 ghost use Rattle.day_calls.specs.Calling.{handed, Days};
 
-use outcomes::{Answer, DayAnswer, DayServed, Ran, Served};
+use outcomes::{DayServed, Ran, Refusal, Served};
 use sessions::{PARTIES, Session};
+
+// The test stands in each call, and not in one function that takes what is served as a closure: the calls are lent a store, a store and a list, or these
+// and answers, and would each pass on to the closure what it may write, since what a closure does to what it captures is not known after its call. That
+// takes more lines than the test.
 
 // ---- begin
 
 pub fn begin(store: &[u32], t: [Session; PARTIES], p: u32) -> Served
     ensures { Calls (C.begin p) store.now t (said result.answer) [] store.now result.table }
 {
-    let good = soundness::is_sound(store, t);
-    if good {
-        return serving::begin(store, t, p);
+    if !soundness::is_sound(store, t) {
+        return Served::refused(t, Refusal::Unsound);
     }
-    Served {
-        table: t,
-        answer: Answer::Refused(2, 0),
-    }
+    serving::begin(store, t, p)
 }
 
 // ---- put
@@ -46,14 +46,10 @@ pub fn put(
 ) -> Served
     ensures { Calls (C.put p code entry first second) store.now t (said result.answer) [] store.now result.table }
 {
-    let good = soundness::is_sound(store, t);
-    if good {
-        return serving::put(store, t, p, code, entry, first, second);
+    if !soundness::is_sound(store, t) {
+        return Served::refused(t, Refusal::Unsound);
     }
-    Served {
-        table: t,
-        answer: Answer::Refused(2, 0),
-    }
+    serving::put(store, t, p, code, entry, first, second)
 }
 
 // ---- step
@@ -61,14 +57,10 @@ pub fn put(
 pub fn step(store: &mut [u32], list: &mut [u32], t: [Session; PARTIES], p: u32) -> Served
     ensures { Calls (C.step p list.old) store.old t (said result.answer) list.new store.new result.table }
 {
-    let good = soundness::is_sound(store, t);
-    if good {
-        return serving::step(store, list, t, p);
+    if !soundness::is_sound(store, t) {
+        return Served::refused(t, Refusal::Unsound);
     }
-    Served {
-        table: t,
-        answer: Answer::Refused(2, 0),
-    }
+    serving::step(store, list, t, p)
 }
 
 // ---- commit
@@ -76,14 +68,10 @@ pub fn step(store: &mut [u32], list: &mut [u32], t: [Session; PARTIES], p: u32) 
 pub fn commit(store: &mut [u32], t: [Session; PARTIES], p: u32) -> Served
     ensures { Calls (C.commit p) store.old t (said result.answer) [] store.new result.table }
 {
-    let good = soundness::is_sound(store, t);
-    if good {
-        return serving::commit(store, t, p);
+    if !soundness::is_sound(store, t) {
+        return Served::refused(t, Refusal::Unsound);
     }
-    Served {
-        table: t,
-        answer: Answer::Refused(2, 0),
-    }
+    serving::commit(store, t, p)
 }
 
 // ---- abort
@@ -91,14 +79,10 @@ pub fn commit(store: &mut [u32], t: [Session; PARTIES], p: u32) -> Served
 pub fn abort(store: &mut [u32], t: [Session; PARTIES], p: u32) -> Served
     ensures { Calls (C.abort p) store.old t (said result.answer) [] store.new result.table }
 {
-    let good = soundness::is_sound(store, t);
-    if good {
-        return serving::abort(store, t, p);
+    if !soundness::is_sound(store, t) {
+        return Served::refused(t, Refusal::Unsound);
     }
-    Served {
-        table: t,
-        answer: Answer::Refused(2, 0),
-    }
+    serving::abort(store, t, p)
 }
 
 // ---- ask
@@ -106,14 +90,10 @@ pub fn abort(store: &mut [u32], t: [Session; PARTIES], p: u32) -> Served
 pub fn ask(store: &[u32], t: [Session; PARTIES], p: u32) -> Served
     ensures { Calls (C.ask p) store.now t (said result.answer) [] store.now result.table }
 {
-    let good = soundness::is_sound(store, t);
-    if good {
-        return serving::ask(store, t, p);
+    if !soundness::is_sound(store, t) {
+        return Served::refused(t, Refusal::Unsound);
     }
-    Served {
-        table: t,
-        answer: Answer::Refused(2, 0),
-    }
+    serving::ask(store, t, p)
 }
 
 // ---- recover
@@ -121,14 +101,10 @@ pub fn ask(store: &[u32], t: [Session; PARTIES], p: u32) -> Served
 pub fn recover(store: &mut [u32], t: [Session; PARTIES]) -> Served
     ensures { Calls C.recover store.old t (said result.answer) [] store.new result.table }
 {
-    let good = soundness::is_sound(store, t);
-    if good {
-        return accepted::recover(store, t);
+    if !soundness::is_sound(store, t) {
+        return Served::refused(t, Refusal::Unsound);
     }
-    Served {
-        table: t,
-        answer: Answer::Refused(2, 0),
-    }
+    accepted::recover(store, t)
 }
 
 // ---- format
@@ -136,14 +112,10 @@ pub fn recover(store: &mut [u32], t: [Session; PARTIES]) -> Served
 pub fn format(store: &mut [u32], t: [Session; PARTIES], m: u32) -> Served
     ensures { Formats m store.old t (said result.answer) store.new result.table }
 {
-    let n = refusals::format_refusal(m, store.len());
-    if n != 0 {
-        return Served {
-            table: t,
-            answer: Answer::Refused(n, 0),
-        };
+    match refusals::check_format(m, store.len()) {
+        Ok(()) => accepted::format(store, t, m),
+        Err(refusal) => Served::refused(t, refusal),
     }
-    accepted::format(store, t, m)
 }
 
 // ---- several calls for one test
@@ -152,15 +124,10 @@ pub fn format(store: &mut [u32], t: [Session; PARTIES], m: u32) -> Served
 pub fn run(store: &mut [u32], list: &mut [u32], t: [Session; PARTIES], p: u32, bound: u32) -> Ran
     ensures { Runs p bound store.old t list.old (said result.answer) result.steps list.new store.new result.table }
 {
-    let good = soundness::is_sound(store, t);
-    if good {
-        return running::run(store, list, t, p, bound);
+    if !soundness::is_sound(store, t) {
+        return Ran::refused(t, Refusal::Unsound, 1);
     }
-    Ran {
-        table: t,
-        answer: Answer::Refused(2, 0),
-        steps: 1,
-    }
+    running::run(store, list, t, p, bound)
 }
 
 // A put, and if it is accepted a run.
@@ -177,15 +144,10 @@ pub fn request(
 ) -> Ran
     ensures { Requests p code entry first second bound store.old t list.old (said result.answer) result.steps list.new store.new result.table }
 {
-    let good = soundness::is_sound(store, t);
-    if good {
-        return batches::request(store, list, t, p, code, entry, first, second, bound);
+    if !soundness::is_sound(store, t) {
+        return Ran::refused(t, Refusal::Unsound, 0);
     }
-    Ran {
-        table: t,
-        answer: Answer::Refused(2, 0),
-        steps: 0,
-    }
+    batches::request(store, list, t, p, code, entry, first, second, bound)
 }
 
 // A list of asks, one after another, and their answers.
@@ -198,21 +160,13 @@ pub fn batch(
 ) -> Served
     ensures { Batches asks.now store.old t list.old answers.old (said result.answer) answers.new list.new store.new result.table }
 {
-    let good = soundness::is_sound(store, t);
-    if !good {
-        return Served {
-            table: t,
-            answer: Answer::Refused(2, 0),
-        };
+    if !soundness::is_sound(store, t) {
+        return Served::refused(t, Refusal::Unsound);
     }
-    let fit = batches::fits(asks.len(), answers.len());
-    if fit {
-        return batches::batch(store, list, t, asks, answers);
+    if !batches::fits(asks.len(), answers.len()) {
+        return Served::refused(t, Refusal::Answers);
     }
-    Served {
-        table: t,
-        answer: Answer::Refused(102, 0),
-    }
+    batches::batch(store, list, t, asks, answers)
 }
 
 // ---- a card's day
@@ -230,12 +184,8 @@ pub fn day(
 ) -> DayServed
     ensures { Days p (handed bytes.now driver start entry place) store.old t result.answer store.new result.table }
 {
-    let good = soundness::is_sound(store, t);
-    if good {
-        return day_calls::day(store, t, p, bytes, driver, start, entry, place);
+    if !soundness::is_sound(store, t) {
+        return DayServed::refused(t, Refusal::Unsound);
     }
-    DayServed {
-        table: t,
-        answer: DayAnswer::Refused(2, 0),
-    }
+    day_calls::day(store, t, p, bytes, driver, start, entry, place)
 }

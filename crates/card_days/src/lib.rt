@@ -9,7 +9,7 @@ ghost use Rattle.std.specs.Prelude.{◌≡◌, ◌++◌, ◌+◌, ◌*◌, ◌�
 ghost use Rattle.card_days.specs.Day.{words, proper, stretch, stretches, no_stretch, day_key, word_out, written_out, valued, of_day, all_of_day, writable, WritesDay};
 ghost use Rattle.card_days.specs.Loops.{WordAt, RequestFrom, still, ended, started, passed};
 
-#[derive(Clone, Copy)]
+#[derive(Clone, Copy, Default, PartialEq, Eq, Debug)]
 pub struct Stretch {
     // The minute of the day that it starts at.
     pub minute: u32,
@@ -17,8 +17,9 @@ pub struct Stretch {
     pub value: u32,
 }
 
-// A request as its code and the arguments that the code uses, as numbers that nothing bounds yet.
-#[derive(Clone, Copy)]
+// A request as its code and the arguments that the code uses, as numbers that nothing bounds yet. They are numbers and no enum because a day call holds them,
+// word by word, to the code, entry and first argument of the request in hand.
+#[derive(Clone, Copy, PartialEq, Eq, Debug)]
 pub struct DayRequest {
     pub code: u32,
     pub entry: u64,
@@ -26,12 +27,12 @@ pub struct DayRequest {
 }
 
 // What one walk of the bytes tells.
-#[derive(Clone, Copy)]
+#[derive(Clone, Copy, PartialEq, Eq, Debug)]
 pub struct Surveyed {
     pub is_proper: bool,
     // How many stretches there are.
     pub count: usize,
-    // The one that was asked for; all 0 if there are not so many.
+    // The one that was asked for; all 0 if there are not so many, since a place past the last one names a request too.
     pub stretch: Stretch,
 }
 
@@ -44,128 +45,85 @@ struct Walk {
 
 // ---- words
 
-fn wide(b: u8) -> u32
-    ensures { (result ≡ b) × (result < 256) }
-{
-    b as u32
-}
-
 // The word whose high byte stands at `at`.
 fn word_at(bytes: &[u8], at: usize) -> u32
     requires { at + 2 ≤ length bytes.now }
     ensures { WordAt bytes.now at result }
 {
-    wide(bytes[at]) * 256 + wide(bytes[at + 1])
+    u32::from(bytes[at]) * 256 + u32::from(bytes[at + 1])
 }
 
 // ---- one walk of the bytes
-
-fn none() -> Stretch
-    ensures { result ≡ no_stretch }
-{
-    Stretch {
-        minute: 0,
-        value: 0,
-    }
-}
 
 // The stretch of a word that runs to `end`.
 fn stretch_of(w: u32, end: u32) -> Stretch
     requires { (w < 65536) × (end ≤ 2048) }
     ensures { result ≡ stretch w end }
 {
-    let m = w % 2048;
-    let base = w / 2048 * 2048;
-    if end < m {
-        return Stretch {
-            minute: m,
-            value: base,
-        };
-    }
+    let minute = w % 2048;
     Stretch {
-        minute: m,
-        value: base + (end - m),
+        minute,
+        value: w / 2048 * 2048 + end.saturating_sub(minute),
     }
 }
 
 // Whether a day that was proper to the word w is so to the word v after it: minutes don't fall, and each is below 1,440.
+#[tactic(auto, unfolding(crate::specs::Loops::still))]
 fn is_still(proper: bool, w: u32, v: u32) -> bool
     ensures { result ≡ still proper w v }
 {
-    if !proper {
-        return false;
-    }
-    if v % 2048 < w % 2048 {
-        return false;
-    }
-    if 1440 <= v % 2048 {
-        return false;
-    }
-    true
+    proper && w % 2048 <= v % 2048 && v % 2048 < 1440
 }
 
-// A stretch ends, that of the word w: one more, and the one that is asked for if its number is k.
-fn end_stretch(s: Surveyed, k: usize, w: u32, end: u32) -> Surveyed
-    requires { (s.count < 18446744073709551615) × (w < 65536) × (end ≤ 2048) }
-    ensures { result ≡ ended k s w end }
-{
-    let n = s.count;
-    if n == k {
-        let found = stretch_of(w, end);
-        return Surveyed {
-            is_proper: s.is_proper,
-            count: n + 1,
-            stretch: found,
+impl Surveyed {
+    // A stretch ends, that of the word w: one more, and the one that is asked for if its number is k.
+    #[tactic(auto, unfolding(crate::specs::Loops::ended))]
+    fn end_stretch(self, k: usize, w: u32, end: u32) -> Surveyed
+        requires { (self.count < 18446744073709551615) × (w < 65536) × (end ≤ 2048) }
+        ensures { result ≡ ended k self w end }
+    {
+        Surveyed {
+            count: self.count + 1,
+            stretch: if self.count == k {
+                stretch_of(w, end)
+            } else {
+                self.stretch
+            },
+            ..self
+        }
+    }
+}
+
+impl Walk {
+    // The walk at the first word of a day.
+    #[tactic(auto, unfolding(crate::specs::Loops::started))]
+    fn start(word: u32) -> Walk
+        ensures { result ≡ started word }
+    {
+        let told = Surveyed {
+            is_proper: word % 2048 == 0,
+            count: 0,
+            stretch: Stretch::default(),
         };
+        Walk { word, told }
     }
-    let before = s.stretch;
-    Surveyed {
-        is_proper: s.is_proper,
-        count: n + 1,
-        stretch: before,
-    }
-}
 
-fn at_word(word: u32, told: Surveyed) -> Walk
-    ensures { result ≡ record { word = word; told = told } }
-{
-    Walk {
-        word: word,
-        told: told,
+    // The walk goes on to the next word, v. Where the minutes are equal the later word counts.
+    #[tactic(auto, unfolding(crate::specs::Loops::passed))]
+    fn pass(self, k: usize, v: u32) -> Walk
+        requires { (self.told.count < 18446744073709551615) × (self.word < 65536) }
+        ensures { result ≡ passed k self v }
+    {
+        let told = Surveyed {
+            is_proper: is_still(self.told.is_proper, self.word, v),
+            ..self.told
+        };
+        if self.word % 2048 == v % 2048 {
+            return Walk { word: v, told };
+        }
+        let told = told.end_stretch(k, self.word, v % 2048);
+        Walk { word: v, told }
     }
-}
-
-// The walk goes on to the next word, v. Where the minutes are equal the later word counts.
-fn pass(x: Walk, k: usize, v: u32) -> Walk
-    requires { (x.told.count < 18446744073709551615) × (x.word < 65536) }
-    ensures { result ≡ passed k x v }
-{
-    let w = x.word;
-    let s = x.told;
-    let before = s.stretch;
-    let next = Surveyed {
-        is_proper: is_still(s.is_proper, w, v),
-        count: s.count,
-        stretch: before,
-    };
-    if w % 2048 == v % 2048 {
-        return at_word(v, next);
-    }
-    let more = end_stretch(next, k, w, v % 2048);
-    at_word(v, more)
-}
-
-// The walk at the first word of a day.
-fn first(w: u32) -> Walk
-    ensures { result ≡ started w }
-{
-    let nothing = none();
-    let told = Surveyed {
-        is_proper: w % 2048 == 0,
-        count: 0,
-        stretch: nothing,
-    };
-    at_word(w, told)
 }
 
 // Whether the bytes are a proper day, how many stretches it has, and stretch k of them, counted from 0.
@@ -173,21 +131,17 @@ pub fn survey(bytes: &[u8], k: usize) -> Surveyed
     ensures { (result.is_proper ≡ proper (words bytes.now)) × (result.count ≡ length (stretches (words bytes.now))) × (result.stretch ≡ get_or (stretches (words bytes.now)) k no_stretch) }
 {
     if bytes.len() < 2 {
-        let nothing = none();
         return Surveyed {
             is_proper: false,
             count: 0,
-            stretch: nothing,
+            stretch: Stretch::default(),
         };
     }
-    let mut x = first(word_at(bytes, 0));
-    let mut at: usize = 2;
-    while 2 <= bytes.len() - at {
-        x = pass(x, k, word_at(bytes, at));
-        at += 2;
+    let mut walk = Walk::start(word_at(bytes, 0));
+    for i in 1..bytes.len() / 2 {
+        walk = walk.pass(k, word_at(bytes, 2 * i));
     }
-    let s = x.told;
-    end_stretch(s, k, x.word, 1440)
+    walk.told.end_stretch(k, walk.word, 1440)
 }
 
 // ---- requests
@@ -196,50 +150,40 @@ pub fn survey(bytes: &[u8], k: usize) -> Surveyed
 pub fn request_from(st: Stretch, driver: u32, start: u32, entry: u32, j: u32) -> DayRequest
     ensures { RequestFrom st driver start entry j result }
 {
-    let e = entry as u64 + (j / 2) as u64;
+    let entry = u64::from(entry) + u64::from(j / 2);
     if j % 2 == 0 {
         return DayRequest {
             code: 2,
-            entry: e,
-            first: st.value as u64,
+            entry,
+            first: u64::from(st.value),
         };
     }
     DayRequest {
         code: 3,
-        entry: e,
-        first: driver as u64 * 1048576 + start as u64 + st.minute as u64,
+        entry,
+        first: u64::from(driver) * 1048576 + u64::from(start) + u64::from(st.minute),
     }
 }
 
 // ---- written out
 
 // Whether the key is one of the day that starts at key k0, and the value one of a stretch.
+#[tactic(auto, unfolding(crate::specs::Day::of_day))]
 fn is_of_day(k0: u64, key: u32, value: u32) -> bool
     ensures { result ≡ of_day k0 key value }
 {
-    if (key as u64) < k0 {
-        return false;
-    }
-    if k0 + 1440 <= key as u64 {
-        return false;
-    }
-    if 65536 <= value {
-        return false;
-    }
-    true
+    let key = u64::from(key);
+    k0 <= key && key <= k0 + 1439 && value < 65536
 }
 
 fn are_of_day(k0: u64, pairs: &[u32], values: &[u32]) -> bool
     requires { 2 * length values.now ≤ length pairs.now }
     ensures { result ≡ all_of_day k0 (valued pairs.now values.now) }
 {
-    let mut i: usize = 0;
-    while i < values.len() {
-        let good = is_of_day(k0, pairs[2 * i], values[i]);
-        if !good {
+    for (i, &value) in values.iter().enumerate() {
+        if !is_of_day(k0, pairs[2 * i], value) {
             return false;
         }
-        i += 1;
     }
     true
 }
@@ -248,11 +192,7 @@ fn are_of_day(k0: u64, pairs: &[u32], values: &[u32]) -> bool
 fn out_word(k0: u64, key: u32, value: u32) -> u64
     ensures { result ≡ word_out k0 key value }
 {
-    let base = value as u64 / 2048 * 2048;
-    if (key as u64) < k0 {
-        return base;
-    }
-    base + (key as u64 - k0)
+    u64::from(value) / 2048 * 2048 + u64::from(key).saturating_sub(k0)
 }
 
 fn low_byte(w: u64) -> u8
@@ -266,28 +206,21 @@ fn write_out(k0: u64, pairs: &[u32], values: &[u32], out: &mut [u8])
     requires { (2 * length values.now ≤ length pairs.now) × (2 * length values.now ≤ length out.old) }
     ensures { out.new ≡ written_out k0 (valued pairs.now values.now) ++ drop (2 * length values.now) out.old }
 {
-    let mut i: usize = 0;
-    while i < values.len() {
-        let w = out_word(k0, pairs[2 * i], values[i]);
+    for (i, &value) in values.iter().enumerate() {
+        let w = out_word(k0, pairs[2 * i], value);
         out[2 * i] = low_byte(w / 256);
         out[2 * i + 1] = low_byte(w);
-        i += 1;
     }
 }
 
+#[tactic(auto, unfolding(crate::specs::Day::writable))]
 fn is_writable(k0: u64, pairs: &[u32], values: &[u32], room: usize) -> bool
     ensures { result ≡ writable k0 pairs.now values.now room }
 {
-    if 1440 < values.len() {
-        return false;
-    }
-    if pairs.len() < 2 * values.len() {
-        return false;
-    }
-    if room < 2 * values.len() {
-        return false;
-    }
-    are_of_day(k0, pairs, values)
+    values.len() <= 1440
+        && 2 * values.len() <= pairs.len()
+        && 2 * values.len() <= room
+        && are_of_day(k0, pairs, values)
 }
 
 // A locate's pairs (key, entry) and the values of these entries, written out as the bytes of that day of the driver. Later bytes stay. False if they are
@@ -295,11 +228,10 @@ fn is_writable(k0: u64, pairs: &[u32], values: &[u32], room: usize) -> bool
 pub fn write_day(driver: u32, start: u32, pairs: &[u32], values: &[u32], out: &mut [u8]) -> bool
     ensures { WritesDay (day_key driver start) pairs.now values.now out.old result out.new }
 {
-    let k0 = driver as u64 * 1048576 + start as u64;
-    let good = is_writable(k0, pairs, values, out.len());
-    if !good {
-        return false;
+    let k0 = u64::from(driver) * 1048576 + u64::from(start);
+    let writable = is_writable(k0, pairs, values, out.len());
+    if writable {
+        write_out(k0, pairs, values, out);
     }
-    write_out(k0, pairs, values, out);
-    true
+    writable
 }

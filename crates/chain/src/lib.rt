@@ -5,20 +5,13 @@
 // be walked. It rests on `words` for where the words lie.
 #![tactic(auto)]
 
-ghost use Rattle.std.specs.Prelude.{◌≡◌, length, set};
+ghost use Rattle.std.specs.Prelude.{◌≡◌};
 ghost use Rattle.words.specs.Store.{HasRecord};
 ghost use Rattle.words.specs.Header.{header_word, free_place};
 ghost use Rattle.chain.specs.Free.{Poppable, pop_free, push_free};
 
-// Writes the next word of the record that is lent.
-fn link(part: &mut [u32], next: u32)
-    requires { length part.old ≡ 20 }
-    ensures { part.new ≡ set part.old 0 next }
-{
-    part[0] = next;
-}
-
-// Takes the first record off the chain: its number, or 0 where there is none.
+// Takes the first record off the chain: its number, or 0 where there is none. The answer is no Option: it is promised to be the
+// header's word, and so it stands in the definitions of the callers.
 pub fn pop_free(store: &mut [u32], m: usize) -> usize
     requires { Poppable store.old m }
     ensures { (result ≡ header_word store.old free_place) × (store.new ≡ pop_free store.old m) }
@@ -39,8 +32,6 @@ pub fn push_free(store: &mut [u32], m: usize, i: usize)
 {
     let next = words::free(store);
     let head = i as u32;
-    let at = words::base(m, i);
-    let end = at + 20;
-    link(&mut store[at..end], next);
+    words::set_word(store, m, i, 0, next);
     words::set_free(store, head);
 }

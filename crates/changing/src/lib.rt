@@ -16,8 +16,10 @@ ghost use Rattle.outcomes.specs.Said.{moved};
 ghost use Rattle.members.specs.Members.{Pinned, Takeable, put_member};
 ghost use Rattle.changing.specs.Changing.{hold_and_end, change_blocker, added_words, taken_words, keep_step, add_step, take_step_of, refuse_step, has_two, room_step, insert_step, remove_step, code_step, change_step, Ends, AddReady, AddsReady, TakesReady, RoomReady, InsertReady, RemoveReady, CodeReady, ChangeReady, BlockerReady};
 
-use outcomes::{Answer, Moved};
-use sessions::Session;
+use groups::Descriptor;
+use kinds::Record;
+use outcomes::{Answer, Moved, Refusal};
+use sessions::{Code, Session};
 
 // ---- what the rows share
 
@@ -26,7 +28,7 @@ fn change_blocker(store: &[u32], m: usize, d: usize, p: u32) -> u32
     requires { BlockerReady store.now m d p }
     ensures { result ≡ change_blocker store.now m d p }
 {
-    let v = groups::load_descriptor(store, m, d);
+    let v = Descriptor::load(store, m, d);
     locks::lowest_blocker(1, 1, p, v.locate, v.update)
 }
 
@@ -118,7 +120,7 @@ fn refuse_step(store: &mut [u32], m: usize, x: Session, d: usize) -> Moved
 {
     members::unpin_at(store, m, d);
     Moved {
-        answer: Answer::Refused(11, 0),
+        answer: Answer::Refused(Refusal::Full as u32, 0),
         session: endings::idle_session(x),
     }
 }
@@ -158,7 +160,7 @@ fn code_step(store: &mut [u32], m: usize, p: u32, x: Session, d: usize, i: usize
     requires { CodeReady store.old m p x d i }
     ensures { (store.new ≡ (code_step store.old m p x d i).words) × (result ≡ moved (code_step store.old m p x d i)) }
 {
-    if x.code == 3 {
+    if x.code == Code::Insert as u32 {
         return insert_step(store, m, p, x, d, i);
     }
     remove_step(store, m, p, x, d, i)

@@ -7,11 +7,11 @@
 #![tactic(auto)]
 
 ghost use Rattle.std.specs.Prelude.{◌≡◌, length};
-ghost use Rattle.check_journal.specs.Counts.{IsPrefixLen};
 ghost use Rattle.journal_lines.specs.Journal.{verdict_of};
 ghost use Rattle.check_journal.specs.Text.{text_of};
 ghost use Rattle.check_journal.specs.Cut.{room};
 
+use failures::Failure;
 use std::io;
 use std::io::Read;
 
@@ -22,59 +22,18 @@ fn empty() -> [u8; 65537]
     [0; 65537]
 }
 
-// How many bytes of the input were read, and whether that is all of it, as far as it matters.
-#[derive(Clone, Copy)]
-struct Input {
-    length: usize,
-    is_read: bool,
-}
-
-// The system's reason, without its number.
-fn reason(text: &str) -> &str {
-    match text.split_once(" (os error ") {
-        Some((reason, _)) => reason,
-        None => text,
-    }
-}
-
-// Says on standard error what failed, with the system's reason, as far as that can be written.
-fn fail(rt: &(impl Eprint + Alloc), what: &str, error: io::Error) {
-    if let Ok(text) = format!(in rt.alloc(); "{error}") {
-        let reason = reason(text.as_str());
-        let _ = eprintln!(rt; "{what}: {reason}");
-    }
-}
-
-// Reads until buf is full or the input ends.
-fn read_input(rt: &(impl io::Input + Eprint + Alloc), buf: &mut [u8]) -> Input
-    ensures { IsPrefixLen result.length buf.new }
-{
+// Reads until buf is full or the input ends; what was read. A buffer on the stack and no Vec: the program needs no heap.
+fn read_input<'a>(rt: &impl io::Input, buf: &'a mut [u8]) -> Result<&'a [u8], Failure> {
     let mut reader = rt.reader();
     let mut done = 0;
     while done < buf.len() {
-        match reader.read(&mut buf[done..]) {
-            Ok(n) => {
-                if n == 0 {
-                    return Input {
-                        length: done,
-                        is_read: true,
-                    };
-                }
-                done += n;
-            }
-            Err(error) => {
-                fail(rt, "check_journal: standard input cannot be read", error);
-                return Input {
-                    length: done,
-                    is_read: false,
-                };
-            }
+        let n = reader.read(&mut buf[done..]).map_err(Failure::Input)?;
+        if n == 0 {
+            break;
         }
+        done += n;
     }
-    Input {
-        length: done,
-        is_read: true,
-    }
+    Ok(&buf[..done])
 }
 
 // A verdict as it is printed, with the line end.
@@ -82,10 +41,10 @@ fn text(verdict: u32) -> [u8; 3]
     ensures { result ≡ text_of verdict }
 {
     match verdict {
-        0 => [b'o', b'k', b'\n'],
-        15 => [b'1', b'5', b'\n'],
-        16 => [b'1', b'6', b'\n'],
-        _ => [b'1', b'7', b'\n'],
+        0 => *b"ok\n",
+        15 => *b"15\n",
+        16 => *b"16\n",
+        _ => *b"17\n",
     }
 }
 
@@ -96,19 +55,14 @@ fn judge(bytes: &[u8]) -> [u8; 3]
     text(journal::verdict(bytes))
 }
 
-fn main(rt: HostRuntime) {
+fn run(rt: &(impl io::Input + Print)) -> Result<(), Failure> {
     let mut buf = empty();
-    let input = read_input(&rt, &mut buf);
-    if !input.is_read {
-        return;
-    }
-    let n = input.length;
-    let line = judge(&buf[..n]);
-    if let Err(error) = rt.write_all(&line) {
-        fail(
-            &rt,
-            "check_journal: standard output cannot be written",
-            error,
-        );
+    let bytes = read_input(rt, &mut buf)?;
+    rt.write_all(&judge(bytes)).map_err(Failure::Output)
+}
+
+fn main(rt: HostRuntime) {
+    if let Err(failure) = run(&rt) {
+        let _ = eprintln!(rt; "check_journal: {failure}");
     }
 }

@@ -1,178 +1,167 @@
-// Clauses: the paragraph's clauses by number, in its order, and what each asks of records, parties and entries; last the clauses that M-101 and
-// M-105 add.
+// Clauses: the paragraph's clauses in its order, and what each asks of records, parties and entries; last the clauses that M-101 and M-105 add.
 use super::asks::are_asked_idle;
 use super::holders::{agree_on_entry, are_begun};
+use super::judge::{Item, Judge, Reached};
 use super::orders::are_apart;
-use super::reach::{
-    BEFORE, DESCRIPTOR, FROM, KIND, List, MEMBERSHIP, NODE, RECORD, UNDO, found, item, place_of,
-};
-use super::requests::party_keeps;
-use super::table::{PARTIES, Table};
-use super::tree::{descriptor_keeps, node_keeps};
-use super::undos::{is_undo_locked, is_undone};
-use super::words::{
-    BACK, ENTRIES, ENTRY, EXCLUSIVE, RECORDS, SHARE, are_sizes, entry_field, field, records, word,
-};
+use super::store::MOST_ENTRIES;
 
-pub const SIZES: u32 = 0;
+/// A clause. Its number is its place, from 0.
+#[derive(Clone, Copy, PartialEq, Eq, Debug)]
+pub enum Clause {
+    Sizes,
+    Reached,
+    Rising,
+    Chained,
+    Separated,
+    Lowest,
+    Fanout,
+    Root,
+    ZeroStored,
+    ZeroEmpty,
+    ListedOnce,
+    ListedEntry,
+    LinkedBack,
+    Begun,
+    Agreed,
+    PinCounts,
+    PinsNamed,
+    Latches,
+    Targets,
+    Levels,
+    OnPath,
+    Codes,
+    Arguments,
+    Stages,
+    EntryLocks,
+    LatchedFanout,
+    Choice,
+    Passed,
+    UndoLocks,
+    Undone,
+    Orders,
+    Asked,
+}
 
-pub const REACHED: u32 = 1;
-
-pub const RISING: u32 = 2;
-
-pub const CHAINED: u32 = 3;
-
-pub const SEPARATED: u32 = 4;
-
-pub const LOWEST: u32 = 5;
-
-pub const FANOUT: u32 = 6;
-
-pub const ROOT: u32 = 7;
-
-pub const ZERO_STORED: u32 = 8;
-
-pub const ZERO_EMPTY: u32 = 9;
-
-pub const LISTED_ONCE: u32 = 10;
-
-pub const LISTED_ENTRY: u32 = 11;
-
-pub const LINKED_BACK: u32 = 12;
-
-pub const BEGUN: u32 = 13;
-
-pub const AGREED: u32 = 14;
-
-pub const PIN_COUNTS: u32 = 15;
-
-pub const PINS_NAMED: u32 = 16;
-
-pub const LATCHES: u32 = 17;
-
-pub const TARGETS: u32 = 18;
-
-pub const LEVELS: u32 = 19;
-
-pub const ON_PATH: u32 = 20;
-
-pub const CODES: u32 = 21;
-
-pub const ARGUMENTS: u32 = 22;
-
-pub const STAGES: u32 = 23;
-
-pub const ENTRY_LOCKS: u32 = 24;
-
-pub const LATCHED_FANOUT: u32 = 25;
-
-pub const CHOICE: u32 = 26;
-
-pub const PASSED: u32 = 27;
-
-pub const UNDO_LOCKS: u32 = 28;
-
-pub const UNDONE: u32 = 29;
-
-pub const ORDERS: u32 = 30;
-
-pub const ASKED: u32 = 31;
-
+/// How many clauses there are, and all of them by number.
 pub const CLAUSES: u32 = 32;
 
-// Does the membership in record i, at place j, keep clause c?
-fn member_keeps(s: &[u32], list: &List, n: u32, c: u32, j: u32, i: u32) -> bool {
-    let entry = field(s, i, ENTRY);
-    match c {
-        // "no group lists an entry twice"
-        LISTED_ONCE => found(s, list, n, MEMBERSHIP, item(list, j, FROM), entry) == i,
-        // "or one outside 1 to M"
-        LISTED_ENTRY => (1 <= entry) & (entry <= word(s, ENTRIES)),
-        // A membership's link back names the member before it.
-        LINKED_BACK => field(s, i, BACK) == item(list, j, BEFORE),
-        _ => true,
-    }
-}
+pub const ALL: [Clause; CLAUSES as usize] = [
+    Clause::Sizes,
+    Clause::Reached,
+    Clause::Rising,
+    Clause::Chained,
+    Clause::Separated,
+    Clause::Lowest,
+    Clause::Fanout,
+    Clause::Root,
+    Clause::ZeroStored,
+    Clause::ZeroEmpty,
+    Clause::ListedOnce,
+    Clause::ListedEntry,
+    Clause::LinkedBack,
+    Clause::Begun,
+    Clause::Agreed,
+    Clause::PinCounts,
+    Clause::PinsNamed,
+    Clause::Latches,
+    Clause::Targets,
+    Clause::Levels,
+    Clause::OnPath,
+    Clause::Codes,
+    Clause::Arguments,
+    Clause::Stages,
+    Clause::EntryLocks,
+    Clause::LatchedFanout,
+    Clause::Choice,
+    Clause::Passed,
+    Clause::UndoLocks,
+    Clause::Undone,
+    Clause::Orders,
+    Clause::Asked,
+];
 
-// Does what was reached at place j keep clause c?
-fn item_keeps(s: &[u32], t: &Table, list: &List, n: u32, c: u32, j: u32) -> bool {
-    let i = item(list, j, RECORD);
-    let kind = item(list, j, KIND);
-    // "every record is reached exactly once": there are R in the list, all of them records, none of them twice
-    if c == REACHED {
-        return (n == records(s)) & (1 <= i) & (i <= n) & (place_of(list, n, 0, i) == j);
+impl Judge<'_, '_> {
+    /// "every record is reached exactly once": there are R in the list, all of them records, none of them twice
+    fn is_reached_once(&self, place: usize, i: u32) -> bool {
+        let records = self.store.records();
+        self.items.len() == records as usize
+            && 1 <= i
+            && i <= records
+            && self.place_of(i) == Some(place)
     }
-    match kind {
-        NODE => node_keeps(s, t, list, c, j, i),
-        DESCRIPTOR => descriptor_keeps(s, t, list, c, j, i),
-        MEMBERSHIP => member_keeps(s, list, n, c, j, i),
-        UNDO => match c {
-            UNDO_LOCKS => is_undo_locked(s, list, n, item(list, j, FROM), i),
-            UNDONE => is_undone(s, list, n, j, i),
+
+    /// Does the membership that was reached in a group keep a clause?
+    fn member_keeps(&self, clause: Clause, i: u32, group: u32, before: u32) -> bool {
+        let entry = self.store.entry(i);
+        match clause {
+            // "no group lists an entry twice"
+            Clause::ListedOnce => self.membership_of(group, entry) == Some(i),
+            // "or one outside 1 to M"
+            Clause::ListedEntry => 1 <= entry && entry <= self.store.entries(),
+            // A membership's link back names the member before it.
+            Clause::LinkedBack => self.store.back(i) == before,
             _ => true,
-        },
-        _ => true,
-    }
-}
-
-fn all_items_keep(s: &[u32], t: &Table, list: &List, n: u32, c: u32) -> bool {
-    let mut j = 0;
-    while j < n {
-        if !item_keeps(s, t, list, n, c, j) {
-            return false;
-        }
-        j += 1;
-    }
-    true
-}
-
-fn all_parties_keep(s: &[u32], t: &Table, list: &List, n: u32, c: u32) -> bool {
-    if c < PINS_NAMED {
-        return true;
-    }
-    let mut p = 0;
-    while p < PARTIES {
-        if !party_keeps(s, t, list, n, c, p) {
-            return false;
-        }
-        p += 1;
-    }
-    true
-}
-
-fn all_entries_keep(s: &[u32], t: &Table, c: u32) -> bool {
-    let m = word(s, ENTRIES);
-    let mut e = 0;
-    while e < m && e < 1024 {
-        e += 1;
-        let share = entry_field(s, e, SHARE);
-        let exclusive = entry_field(s, e, EXCLUSIVE);
-        let is_kept = match c {
-            BEGUN => are_begun(t, share | exclusive),
-            AGREED => agree_on_entry(share, exclusive),
-            _ => return true,
-        };
-        if !is_kept {
-            return false;
         }
     }
-    true
-}
 
-// Does the whole keep clause c?
-pub fn keeps(s: &[u32], t: &Table, list: &List, n: u32, c: u32) -> bool {
-    match c {
-        SIZES => are_sizes(s.len(), word(s, ENTRIES), word(s, RECORDS)),
-        // "the root .. never a descriptor"
-        ROOT => item(list, 0, KIND) == NODE,
-        // "key 0 is stored"
-        ZERO_STORED => found(s, list, n, DESCRIPTOR, 0, 0) != 0,
-        ORDERS => are_apart(t),
-        ASKED => are_asked_idle(t),
-        _ => {
-            all_items_keep(s, t, list, n, c)
-                && all_parties_keep(s, t, list, n, c)
-                && all_entries_keep(s, t, c)
+    /// Does what was reached at a place keep a clause?
+    fn item_keeps(&self, clause: Clause, place: usize, item: Item) -> bool {
+        let i = item.record;
+        if clause == Clause::Reached {
+            return self.is_reached_once(place, i);
+        }
+        match item.reached {
+            Reached::Node { level, .. } => self.node_keeps(clause, place, i, level),
+            Reached::Descriptor { .. } => self.descriptor_keeps(clause, place, i),
+            Reached::Membership { group, before } => self.member_keeps(clause, i, group, before),
+            Reached::Undo { session } => match clause {
+                Clause::UndoLocks => self.is_undo_locked(session, i),
+                Clause::Undone => self.is_undone(place, session, i),
+                _ => true,
+            },
+            Reached::Free => true,
+        }
+    }
+
+    fn all_items_keep(&self, clause: Clause) -> bool {
+        let mut items = self.items.iter().enumerate();
+        items.all(|(place, item)| self.item_keeps(clause, place, *item))
+    }
+
+    fn all_parties_keep(&self, clause: Clause) -> bool {
+        let table = self.table;
+        let mut parties = table.iter().enumerate();
+        parties.all(|(p, x)| self.party_keeps(clause, p, x))
+    }
+
+    fn entry_keeps(&self, clause: Clause, e: u32) -> bool {
+        let share = self.store.share(e);
+        let exclusive = self.store.exclusive(e);
+        match clause {
+            Clause::Begun => are_begun(self.table, share | exclusive),
+            Clause::Agreed => agree_on_entry(share, exclusive),
+            _ => true,
+        }
+    }
+
+    fn all_entries_keep(&self, clause: Clause) -> bool {
+        (1..=self.store.entries().min(MOST_ENTRIES)).all(|e| self.entry_keeps(clause, e))
+    }
+
+    /// Does the whole keep a clause?
+    pub fn keeps(&self, clause: Clause) -> bool {
+        match clause {
+            Clause::Sizes => self.store.are_sizes(),
+            // "the root .. never a descriptor"
+            Clause::Root => self.at(0).is_some_and(|item| item.is_node()),
+            // "key 0 is stored"
+            Clause::ZeroStored => self.descriptor_of(0).is_some(),
+            Clause::Orders => are_apart(self.table),
+            Clause::Asked => are_asked_idle(self.table),
+            Clause::Begun | Clause::Agreed => {
+                self.all_items_keep(clause) && self.all_entries_keep(clause)
+            }
+            _ => self.all_items_keep(clause) && self.all_parties_keep(clause),
         }
     }
 }

@@ -9,37 +9,39 @@
 mod asks;
 pub mod clauses;
 mod holders;
+mod judge;
 mod orders;
-mod reach;
 mod requests;
+mod store;
 mod table;
 mod tree;
 mod undos;
-mod words;
 
-use clauses::{CLAUSES, SIZES, keeps};
-use reach::reach;
+use clauses::{ALL, Clause};
+use judge::{Judge, List};
 use sessions::Session;
-use table::{ROWS, rows};
-use words::{ENTRIES, RECORDS, are_sizes, word};
+use store::Store;
+use table::{PARTIES, Table};
 
-// Are store and session table sound? No clause refuses.
-pub fn sound_by_paper(store: &[u32], t: [Session; ROWS]) -> bool {
-    are_sizes(store.len(), word(store, ENTRIES), word(store, RECORDS))
-        && is_only_refusal(store, t, CLAUSES)
+// Does this clause, and no other, refuse store and table? With none, are they sound?
+fn is_refused_by<'a>(words: &'a [u32], table: &'a Table, clause: Option<Clause>) -> bool {
+    let store = Store::new(words);
+    let mut list = List::new();
+    list.reach(&store, table);
+    let judge = Judge {
+        store,
+        table,
+        items: list.items(),
+    };
+    ALL.iter().all(|&c| judge.keeps(c) == (Some(c) != clause))
 }
 
-// Does this clause, and no other, refuse store and table? The clauses one after the other, up to the first that says otherwise.
-pub fn is_only_refusal(store: &[u32], t: [Session; ROWS], clause: u32) -> bool {
-    let table = rows(t);
-    let mut list = [[0u32; 4]; 4100];
-    let n = reach(store, &table, &mut list);
-    let mut c = SIZES;
-    while c < CLAUSES {
-        if keeps(store, &table, &list, n, c) == (c == clause) {
-            return false;
-        }
-        c += 1;
-    }
-    true
+// Are store and session table sound? No clause refuses.
+pub fn sound_by_paper(store: &[u32], t: [Session; PARTIES]) -> bool {
+    Store::new(store).are_sizes() && is_refused_by(store, &t, None)
+}
+
+// Does this clause, by its number, and no other, refuse store and table? The cases of damage's input name clauses so; a higher number is none.
+pub fn is_only_refusal(store: &[u32], t: [Session; PARTIES], clause: u32) -> bool {
+    is_refused_by(store, &t, ALL.get(clause as usize).copied())
 }

@@ -1,27 +1,14 @@
 // Orders: the clause on the order of begins.
-use super::table::{BEGUN, ORDER, PARTIES, Table, said};
+use super::table::{Table, is_begun};
 
-// Has no begun session from 1 to 16 but p the number of session p?
-fn is_alone(t: &Table, p: u32) -> bool {
-    let number = said(t, p, ORDER);
-    let mut q = 1;
-    while q < PARTIES {
-        if (q != p) & (said(t, q, BEGUN) != 0) & (said(t, q, ORDER) == number) {
-            return false;
-        }
-        q += 1;
-    }
-    true
-}
-
-// "in a sound table no two begun sessions share a number"
+/// "in a sound table no two begun sessions share a number"
 pub fn are_apart(t: &Table) -> bool {
-    let mut p = 1;
-    while p < PARTIES {
-        if said(t, p, BEGUN) != 0 && !is_alone(t, p) {
-            return false;
+    for (p, x) in t.iter().enumerate() {
+        for (q, y) in t.iter().enumerate() {
+            if p != q && is_begun(t, p) && is_begun(t, q) && x.order == y.order {
+                return false;
+            }
         }
-        p += 1;
     }
     true
 }

@@ -1,201 +1,195 @@
 // Requests: the clauses on requests in hand.
-use super::clauses::{
-    ARGUMENTS, CHOICE, CODES, ENTRY_LOCKS, LATCHED_FANOUT, LATCHES, LEVELS, ON_PATH, PASSED,
-    PINS_NAMED, STAGES, TARGETS,
-};
-use super::reach::{DESCRIPTOR, KIND, LEVEL, List, NODE, RECORD, found, item, key_above, place_of};
-use super::table::{
-    AT, AT_LEVEL, AT_NODE, BEGUN, CHANGE, CODE, ENTER, ENTRY, FIRST, HIGH, LAST, LOW, NONE,
-    PARTIES, SECOND, STAGE, START, TAKE, TARGET, Table, said,
-};
-use super::tree::is_on_path;
-use super::words::{
-    COUNT, ENTRIES, EXCLUSIVE, GAP, INFINITY, KEY, LATCH, LOCATE, entry_field, field, is_holder,
-    word,
-};
+use super::clauses::Clause;
+use super::judge::{Item, Judge, Reached};
+use super::store::INFINITY;
+use super::table::{Code, Stage, is_begun, is_holder};
+use sessions::Session;
 
-// How many descriptors party p pins: first's in a change, in a locate's second descent and while a locate takes, and then second's if it is
-// another.
-fn pinned(t: &Table, p: u32) -> u32 {
-    let code = said(t, p, CODE);
-    let stage = said(t, p, STAGE);
-    let first = said(t, p, FIRST);
-    let second = said(t, p, SECOND);
-    let target = said(t, p, TARGET);
-    let is_second = (target == second) & (target != first);
-    let is_change = (stage == CHANGE) & ((code == 3) | (code == 4));
-    let is_descent = (code == 5) & ((stage == ENTER) | (stage == AT)) & is_second;
-    if (code == 5) & (stage == TAKE) & (first != second) {
-        return 2;
-    }
-    if is_change | is_descent | (code == 5) & (stage == TAKE) {
-        1
-    } else {
-        0
+/// How many descriptors a party pins: first's in a change, in a locate's second descent and while a locate takes, and then second's if it is another.
+fn pinned(x: &Session) -> u32 {
+    let is_second = x.target == x.second && x.target != x.first;
+    match (Code::from(x.code), Stage::from(x.stage)) {
+        (Code::Insert | Code::Remove, Stage::Change) => 1,
+        (Code::Locate, Stage::Enter | Stage::At) if is_second => 1,
+        (Code::Locate, Stage::Take) if x.first == x.second => 1,
+        (Code::Locate, Stage::Take) => 2,
+        _ => 0,
     }
 }
 
-// How many requests in hand pin the descriptor of a key.
-pub fn pins(t: &Table, key: u32) -> u32 {
-    let mut count = 0;
-    let mut p = 0;
-    while p < PARTIES {
-        let all = pinned(t, p);
-        let is_first = (0 < all) & (said(t, p, FIRST) == key);
-        if is_first | (1 < all) & (said(t, p, SECOND) == key) {
-            count = std::num::wrapping_add_u32(count, 1);
-        }
-        p += 1;
-    }
-    count
+fn is_descent(stage: Stage) -> bool {
+    stage == Stage::Enter || stage == Stage::At
 }
 
-// What is seized is stored, where the session record says.
-fn are_pins_named(s: &[u32], t: &Table, list: &List, n: u32, p: u32) -> bool {
-    let all = pinned(t, p);
-    let low = said(t, p, LOW);
-    let high = said(t, p, HIGH);
-    let first = found(s, list, n, DESCRIPTOR, 0, said(t, p, FIRST));
-    let second = found(s, list, n, DESCRIPTOR, 0, said(t, p, SECOND));
-    let is_low = (low != 0) & (low == first);
-    let is_high = (high != 0) & (high == second);
-    ((all < 1) | is_low) & ((all < 2) | is_high)
-}
-
-// Does party p, that is at a node, keep clause c?
-fn walk_keeps(s: &[u32], t: &Table, list: &List, n: u32, c: u32, p: u32) -> bool {
-    let node = said(t, p, AT_NODE);
-    let count = field(s, node, COUNT);
-    let j = place_of(list, n, NODE, node);
-    let level = item(list, j, LEVEL);
-    match c {
-        // "short locks .. match the requests in hand": a party that is at a node has its latch
-        LATCHES => (j < n) & (std::num::wrapping_sub_u32(field(s, node, LATCH), 1) == p),
-        // "walks match the requests in hand": the level that the descent has come to
-        LEVELS => (n <= j) | (level == said(t, p, AT_LEVEL)),
-        // "with each short lock on the path to its key"
-        ON_PATH => (n <= j) | is_on_path(s, list, j, said(t, p, TARGET)),
-        // "a session's short-locked node has at most 7 sons; the housekeeper's has at least 4, or is the root and has no lone node for a son"
-        LATCHED_FANOUT => {
-            let is_root = (j == 0) & ((count != 1) | (level == 1));
-            (p != 0) & (count <= 7) | (p == 0) & ((4 <= count) | is_root)
-        }
-        _ => true,
-    }
-}
-
-// What a locate of session p that has come from first to last holds at the leaf at place j: its key, if passed; its gap, if a key of it was
-// passed, or if it is the highest stored key up to the last.
-fn is_passed_held(s: &[u32], list: &List, j: u32, p: u32, first: u32, last: u32) -> bool {
-    let leaf = item(list, j, RECORD);
-    if item(list, j, KIND) != DESCRIPTOR {
-        return true;
-    }
-    let key = field(s, leaf, KEY);
-    let above = key_above(s, list, j);
-    let has_between = (key < above) & (1 < std::num::wrapping_sub_u32(above, key));
-    let is_gap_passed = has_between & (key < last) & (first < above);
-    let is_highest = (key <= last) & (last < above);
-    let is_passed = (first <= key) & (key <= last);
-    (!is_passed | is_holder(field(s, leaf, LOCATE), p))
-        & (!(is_gap_passed | is_highest) | is_holder(field(s, leaf, GAP), p))
-}
-
-// "a locate holds every key it has passed": from first to the last one taken, which lies below second
-fn are_passed_held(s: &[u32], t: &Table, list: &List, n: u32, p: u32) -> bool {
-    let first = said(t, p, FIRST);
-    let last = said(t, p, LAST);
-    if last == 0 {
-        return true;
-    }
-    if (last < first) | (said(t, p, SECOND) <= last) {
-        return false;
-    }
-    let mut j = 0;
-    while j < n {
-        if !is_passed_held(s, list, j, p, first, last) {
-            return false;
-        }
-        j += 1;
-    }
-    true
-}
-
-// Do the numbers of a request keep clause c, in a store of m entries?
-fn request_keeps(
-    c: u32,
-    m: u32,
-    code: u32,
-    stage: u32,
-    entry: u32,
-    first: u32,
-    second: u32,
-    target: u32,
-) -> bool {
-    let is_descent = (stage == ENTER) | (stage == AT);
-    let is_entry = (1 <= entry) & (entry <= m);
-    let is_key = (1 <= first) & (first < INFINITY);
-    match c {
-        // "walks match the requests in hand": the key that the descent goes to
-        TARGETS => match code {
-            3 => !is_descent | (target == first),
-            4 => !is_descent | (target == first),
-            5 => !is_descent | (target == first) | (target == second),
-            6 => !is_descent | (first < target),
+/// "walks match the requests in hand": the key that the descent goes to
+fn is_target_right(x: &Session) -> bool {
+    !is_descent(Stage::from(x.stage))
+        || match Code::from(x.code) {
+            Code::Insert | Code::Remove => x.target == x.first,
+            Code::Locate => x.target == x.first || x.target == x.second,
+            Code::Tidy => x.first < x.target,
             _ => true,
-        },
-        // "each request in hand passes the checks that put makes on .. arguments": the entry, the keys, their order
-        ARGUMENTS => match code {
-            5 => is_key & (first <= second) & (second < INFINITY),
-            _ => (4 < code) | is_entry & (is_key | (code < 3)),
-        },
-        // "and stands where its own steps can bring it": the stages of its code
-        STAGES => match code {
-            1 => stage == START,
-            2 => stage == START,
-            3 => stage <= CHANGE,
-            4 => stage <= CHANGE,
-            5 => is_descent | (stage == TAKE),
-            6 => is_descent | (stage == START),
-            _ => true,
-        },
-        _ => true,
+        }
+}
+
+/// "each request in hand passes the checks that put makes on .. arguments": the entry, the keys, their order, in a store of m entries. A code below the
+/// first has an entry too.
+fn are_arguments_right(x: &Session, m: u32) -> bool {
+    let is_entry = 1 <= x.entry && x.entry <= m;
+    let is_key = 1 <= x.first && x.first < INFINITY;
+    match Code::from(x.code) {
+        Code::Read | Code::Write => is_entry,
+        Code::Insert | Code::Remove => is_entry && is_key,
+        Code::Locate => is_key && x.first <= x.second && x.second < INFINITY,
+        Code::Tidy => true,
+        Code::Unknown => x.code != 0 || is_entry,
     }
 }
 
-// Does party p keep clause c?
-pub fn party_keeps(s: &[u32], t: &Table, list: &List, n: u32, c: u32, p: u32) -> bool {
-    let stage = said(t, p, STAGE);
-    if stage == NONE {
-        return true;
+/// "and stands where its own steps can bring it": the stages of its code
+fn is_stage_right(x: &Session) -> bool {
+    let stage = Stage::from(x.stage);
+    match Code::from(x.code) {
+        Code::Read | Code::Write => stage == Stage::Start,
+        Code::Insert | Code::Remove => {
+            is_descent(stage) || stage == Stage::Start || stage == Stage::Change
+        }
+        Code::Locate => is_descent(stage) || stage == Stage::Take,
+        Code::Tidy => is_descent(stage) || stage == Stage::Start,
+        Code::Unknown => true,
     }
-    let code = said(t, p, CODE);
-    let entry = said(t, p, ENTRY);
-    let target = said(t, p, TARGET);
-    match c {
-        PINS_NAMED => are_pins_named(s, t, list, n, p),
-        // "each request in hand passes the checks that put makes on code": a session is begun; tidy is the housekeeper's
-        CODES => {
-            let is_session = (1 <= code) & (code <= 5) & (said(t, p, BEGUN) != 0);
-            (p == 0) & (code == 6) | (p != 0) & is_session
+}
+
+impl Judge<'_, '_> {
+    /// How many requests in hand pin the descriptor of a key.
+    pub fn pins(&self, key: u32) -> usize {
+        let table = self.table;
+        table
+            .iter()
+            .filter(|x| {
+                let all = pinned(x);
+                0 < all && x.first == key || 1 < all && x.second == key
+            })
+            .count()
+    }
+
+    /// What is seized is stored, where the session record says.
+    fn are_pins_named(&self, x: &Session) -> bool {
+        let all = pinned(x);
+        let is_low = x.low != 0 && self.descriptor_of(x.first) == Some(x.low);
+        let is_high = x.high != 0 && self.descriptor_of(x.second) == Some(x.high);
+        (all < 1 || is_low) && (all < 2 || is_high)
+    }
+
+    /// Does party p, that is at a node, keep a clause?
+    fn walk_keeps(&self, clause: Clause, p: usize, x: &Session) -> bool {
+        let Some(place) = self.place_of_node(x.at) else {
+            return self.lost_walk_keeps(clause, p, x);
+        };
+        let level = match self.at(place).map(|item| item.reached) {
+            Some(Reached::Node { level, .. }) => level,
+            _ => 0,
+        };
+        match clause {
+            // "short locks .. match the requests in hand": a party that is at a node has its latch
+            Clause::Latches => self.store.latch(x.at) as usize == p.saturating_add(1),
+            // "walks match the requests in hand": the level that the descent has come to
+            Clause::Levels => level == x.level,
+            // "with each short lock on the path to its key"
+            Clause::OnPath => self.is_on_path(place, x.target),
+            // "a session's short-locked node has at most 7 sons; the housekeeper's has at least 4, or is the root and has no lone node for a son"
+            Clause::LatchedFanout => {
+                let is_lone = self.store.count(x.at) == 1 && level != 1;
+                self.is_fanout_right(p, x, place == 0 && !is_lone)
+            }
+            _ => true,
         }
-        // past its first step an insert or remove has its entry's lock
-        ENTRY_LOCKS => {
-            let holders = entry_field(s, entry, EXCLUSIVE);
-            (stage == START) | (code != 3) & (code != 4) | is_holder(holders, p)
+    }
+
+    /// The same of a party at a node that was not reached.
+    fn lost_walk_keeps(&self, clause: Clause, p: usize, x: &Session) -> bool {
+        match clause {
+            Clause::Latches => false,
+            Clause::LatchedFanout => self.is_fanout_right(p, x, false),
+            _ => true,
         }
-        // "tidy's choice, if any, is stored"
-        CHOICE => {
-            let choice = found(s, list, n, DESCRIPTOR, 0, target);
-            (code != 6) | (stage != ENTER) & (stage != AT) | (choice != 0)
+    }
+
+    fn is_fanout_right(&self, p: usize, x: &Session, is_root: bool) -> bool {
+        let count = self.store.count(x.at);
+        if p == 0 {
+            4 <= count || is_root
+        } else {
+            count <= 7
         }
-        PASSED => code != 5 || stage != TAKE || are_passed_held(s, t, list, n, p),
-        _ => {
-            let first = said(t, p, FIRST);
-            let second = said(t, p, SECOND);
-            let m = word(s, ENTRIES);
-            request_keeps(c, m, code, stage, entry, first, second, target)
-                && (stage != AT || walk_keeps(s, t, list, n, c, p))
+    }
+
+    /// What a locate of session p that has come from first to last holds at the leaf at a place: its key, if passed; its gap, if a key of it was passed, or
+    /// if it is the highest stored key up to the last.
+    fn is_passed_held(&self, place: usize, item: Item, p: usize, x: &Session) -> bool {
+        if !item.is_descriptor() {
+            return true;
+        }
+        let key = self.store.key(item.record);
+        let above = self.key_above(place);
+        let has_between = key < above && 1 < above - key;
+        let is_gap_passed = has_between && key < x.last && x.first < above;
+        let is_highest = key <= x.last && x.last < above;
+        let is_passed = x.first <= key && key <= x.last;
+        (!is_passed || is_holder(self.store.locate(item.record), p))
+            && (!(is_gap_passed || is_highest) || is_holder(self.store.gap(item.record), p))
+    }
+
+    /// "a locate holds every key it has passed": from first to the last one taken, which lies below second
+    fn are_passed_held(&self, p: usize, x: &Session) -> bool {
+        if x.last == 0 {
+            return true;
+        }
+        x.first <= x.last
+            && x.last < x.second
+            && self
+                .items
+                .iter()
+                .enumerate()
+                .all(|(place, item)| self.is_passed_held(place, *item, p, x))
+    }
+
+    /// "each request in hand passes the checks that put makes on code": a session is begun; tidy is the housekeeper's
+    fn is_code_right(&self, p: usize, x: &Session) -> bool {
+        match Code::from(x.code) {
+            Code::Unknown => false,
+            Code::Tidy => p == 0,
+            _ => is_begun(self.table, p),
+        }
+    }
+
+    /// Does party p keep a clause?
+    pub fn party_keeps(&self, clause: Clause, p: usize, x: &Session) -> bool {
+        let code = Code::from(x.code);
+        let stage = Stage::from(x.stage);
+        if stage == Stage::None {
+            return true;
+        }
+        match clause {
+            Clause::PinsNamed => self.are_pins_named(x),
+            Clause::Codes => self.is_code_right(p, x),
+            // past its first step an insert or remove has its entry's lock
+            Clause::EntryLocks => {
+                stage == Stage::Start
+                    || code != Code::Insert && code != Code::Remove
+                    || is_holder(self.store.exclusive(x.entry), p)
+            }
+            // "tidy's choice, if any, is stored"
+            Clause::Choice => {
+                code != Code::Tidy || !is_descent(stage) || self.descriptor_of(x.target).is_some()
+            }
+            Clause::Passed => {
+                code != Code::Locate || stage != Stage::Take || self.are_passed_held(p, x)
+            }
+            Clause::Targets => is_target_right(x),
+            Clause::Arguments => are_arguments_right(x, self.store.entries()),
+            Clause::Stages => is_stage_right(x),
+            _ => stage != Stage::At || self.walk_keeps(clause, p, x),
         }
     }
 }

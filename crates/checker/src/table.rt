@@ -1,82 +1,70 @@
-// Table: the session table as rows of words, so that it can be lent.
-use super::words::wide;
+// Table: the session table, and what its numbers mean.
 use sessions::Session;
 
-// How many parties there are, as a number and as so many rows, and the words of a row.
-pub const PARTIES: u32 = 17;
+/// How many parties there are.
+pub const PARTIES: usize = 17;
 
-pub const ROWS: usize = PARTIES as usize;
+/// The session table: party 0 is the housekeeper.
+pub type Table = [Session; PARTIES];
 
-const ROW_WORDS: usize = 15;
-
-pub type Table = [[u32; ROW_WORDS]; ROWS];
-
-// The fields of a party's row.
-pub const BEGUN: usize = 0;
-
-pub const CODE: usize = 1;
-
-pub const ENTRY: usize = 2;
-
-pub const FIRST: usize = 3;
-
-pub const SECOND: usize = 4;
-
-pub const STAGE: usize = 5;
-
-pub const TARGET: usize = 6;
-
-pub const AT_NODE: usize = 7;
-
-pub const AT_LEVEL: usize = 8;
-
-pub const LOW: usize = 9;
-
-pub const HIGH: usize = 10;
-
-pub const LAST: usize = 11;
-
-pub const UNDO: usize = 12;
-
-pub const ORDER: usize = 13;
-
-pub const ASKED: usize = 14;
-
-// The stages of a request in hand.
-pub const NONE: u32 = 0;
-
-pub const START: u32 = 1;
-
-pub const ENTER: u32 = 2;
-
-pub const AT: u32 = 3;
-
-pub const CHANGE: u32 = 4;
-
-pub const TAKE: u32 = 5;
-
-fn row(x: Session) -> [u32; ROW_WORDS] {
-    [
-        x.begun, x.code, x.entry, x.first, x.second, x.stage, x.target, x.at, x.level, x.low,
-        x.high, x.last, x.undo, x.order, x.asked,
-    ]
+/// What a request asks for.
+#[derive(Clone, Copy, PartialEq, Eq, Debug)]
+pub enum Code {
+    Read,
+    Write,
+    Insert,
+    Remove,
+    Locate,
+    Tidy,
+    Unknown,
 }
 
-pub fn rows(t: [Session; ROWS]) -> Table {
-    let mut w = [[0u32; ROW_WORDS]; ROWS];
-    let mut p = 0;
-    while p < ROWS {
-        w[p] = row(t[p]);
-        p += 1;
+impl From<u32> for Code {
+    fn from(code: u32) -> Code {
+        match code {
+            1 => Code::Read,
+            2 => Code::Write,
+            3 => Code::Insert,
+            4 => Code::Remove,
+            5 => Code::Locate,
+            6 => Code::Tidy,
+            _ => Code::Unknown,
+        }
     }
-    w
 }
 
-// Field k of party p's row; 0 for a party that there is not.
-pub fn said(t: &Table, p: u32, k: usize) -> u32 {
-    if p < PARTIES {
-        t[wide(p)][k % ROW_WORDS]
-    } else {
-        0
+/// How far a request in hand is; None where there is none.
+#[derive(Clone, Copy, PartialEq, Eq, Debug)]
+pub enum Stage {
+    None,
+    Start,
+    Enter,
+    At,
+    Change,
+    Take,
+    Unknown,
+}
+
+impl From<u32> for Stage {
+    fn from(stage: u32) -> Stage {
+        match stage {
+            0 => Stage::None,
+            1 => Stage::Start,
+            2 => Stage::Enter,
+            3 => Stage::At,
+            4 => Stage::Change,
+            5 => Stage::Take,
+            _ => Stage::Unknown,
+        }
     }
+}
+
+/// Is session p begun, one from 1 to 16?
+pub fn is_begun(t: &Table, p: usize) -> bool {
+    p != 0 && t.get(p).is_some_and(|x| x.begun != 0)
+}
+
+/// Is session p among the holders?
+pub fn is_holder(holders: u32, p: usize) -> bool {
+    1 <= p && p < PARTIES && holders >> (p - 1) & 1 == 1
 }

@@ -1,95 +1,103 @@
 // Tree: the clauses on the search tree, node by node and descriptor by descriptor.
-use super::clauses::{
-    AGREED, BEGUN, CHAINED, FANOUT, LATCHES, LOWEST, PIN_COUNTS, RISING, SEPARATED, ZERO_EMPTY,
-};
+use super::clauses::Clause;
 use super::holders::{agree_on_group, are_begun};
-use super::reach::{DESCRIPTOR, FROM, KIND, LEVEL, List, RECORD, item, key_above, next_leaf};
-use super::requests::pins;
-use super::table::{AT, AT_NODE, STAGE, Table, said};
-use super::words::{
-    BOUND, COUNT, FIRST_DESCRIPTOR, GAP, KEY, LATCH, LOCATE, MEMBER, NEXT, PINS, SON, UPDATE,
-    field, records, word,
-};
+use super::judge::{Judge, Reached};
+use super::table::Stage;
 
-// Does the path to a key go through what stands at place j? From there up to the root each is the son where the key is looked for:
-// "Boundary[i-1] < Key <= Boundary[i] if they exist" (002, A5); there are 7 of them.
-pub fn is_on_path(s: &[u32], list: &List, j: u32, key: u32) -> bool {
-    let mut at = j;
-    let mut left = records(s);
-    while 0 < left && at != 0 {
-        let from = item(list, at, FROM);
-        let i = from % 16;
-        at = from / 16;
-        let node = item(list, at, RECORD);
-        let above = if i < 8 { field(s, node, BOUND + i) } else { 0 };
-        let is_low = (1 < i) & (key <= field(s, node, i));
-        if is_low | (i < field(s, node, COUNT)) & (above < key) {
-            return false;
+impl Judge<'_, '_> {
+    /// The father of what stands at a place, and which son it is.
+    fn way_to(&self, place: usize) -> (usize, u32) {
+        match self.at(place).map(|item| item.reached) {
+            Some(Reached::Node { father, son, .. }) => (father as usize, son),
+            Some(Reached::Descriptor { father, son }) => (father as usize, son),
+            _ => (0, 0),
         }
-        left -= 1;
     }
-    at == 0
-}
 
-// "and chained in that order": from the header's first
-fn is_chained(s: &[u32], list: &List, j: u32, i: u32) -> bool {
-    let before = std::num::wrapping_sub_u32(j, 1);
-    let is_first = item(list, before, KIND) != DESCRIPTOR;
-    let is_head = word(s, FIRST_DESCRIPTOR) == i;
-    (is_head | !is_first) & (field(s, i, NEXT) == next_leaf(list, j))
-}
-
-// "at a lowest node each is the key of the descriptor before it"
-fn are_bounds_keys(s: &[u32], node: u32) -> bool {
-    let count = field(s, node, COUNT);
-    let mut i = 1;
-    while i < 8 {
-        let son = field(s, node, SON + i);
-        if (i < count) & (field(s, node, BOUND + i) != field(s, son, KEY)) {
-            return false;
-        }
-        i += 1;
+    /// Is son i of a node the one where a key is looked for? "Boundary[i-1] < Key <= Boundary[i] if they exist" (002, A5); there are 7 of them.
+    fn is_way(&self, node: u32, i: u32, key: u32) -> bool {
+        let is_low = 1 < i && key <= self.store.bound(node, i.saturating_sub(1));
+        let is_high = i < self.store.count(node) && self.store.bound(node, i) < key;
+        !is_low && !is_high
     }
-    true
-}
 
-// Does the node in record i, at place j, keep clause c?
-pub fn node_keeps(s: &[u32], t: &Table, list: &List, c: u32, j: u32, i: u32) -> bool {
-    match c {
-        LOWEST => item(list, j, LEVEL) != 1 || are_bounds_keys(s, i),
-        // "a node has 3 to 8 sons, the root 1 to 8"
-        FANOUT => {
-            let count = field(s, i, COUNT);
-            (count <= 8) & ((3 <= count) | (j == 0) & (1 <= count))
+    /// Does the path to a key go through what stands at a place? From there up to the root each is the son where the key is looked for.
+    pub fn is_on_path(&self, place: usize, key: u32) -> bool {
+        let mut at = place;
+        for _ in 0..self.store.records() {
+            if at == 0 {
+                return true;
+            }
+            let (father, son) = self.way_to(at);
+            let node = self.at(father).map_or(0, |item| item.record);
+            if !self.is_way(node, son, key) {
+                return false;
+            }
+            at = father;
         }
-        // "short locks .. match the requests in hand": a latch is that of a party that is at this node
-        LATCHES => {
-            let latch = field(s, i, LATCH);
-            let p = std::num::wrapping_sub_u32(latch, 1);
-            (latch == 0) | (said(t, p, STAGE) == AT) & (said(t, p, AT_NODE) == i)
-        }
-        _ => true,
+        at == 0
     }
-}
 
-// Does the descriptor in record i, at place j, keep clause c?
-pub fn descriptor_keeps(s: &[u32], t: &Table, list: &List, c: u32, j: u32, i: u32) -> bool {
-    let key = field(s, i, KEY);
-    let locate = field(s, i, LOCATE);
-    let update = field(s, i, UPDATE);
-    match c {
-        // "all leaves are descriptors at one depth, keys rising": the last below the upper infinity
-        RISING => key < key_above(s, list, j),
-        CHAINED => is_chained(s, list, j, i),
-        // "boundaries separate sons"
-        SEPARATED => is_on_path(s, list, j, key),
-        // key 0 "has no member"
-        ZERO_EMPTY => (key != 0) | (field(s, i, MEMBER) == 0),
-        // "only begun sessions hold", groups with their gaps; "no two holders conflict": a gap has no update holders
-        BEGUN => are_begun(t, locate | update | field(s, i, GAP)),
-        AGREED => agree_on_group(locate, update),
-        // "seize counts .. match the requests in hand"
-        PIN_COUNTS => field(s, i, PINS) == pins(t, key),
-        _ => true,
+    /// "and chained in that order": from the header's first
+    fn is_chained(&self, place: usize, i: u32) -> bool {
+        let before = place.checked_sub(1).and_then(|k| self.at(k));
+        let is_first = !before.is_some_and(|item| item.is_descriptor());
+        let is_head = self.store.first_descriptor() == i;
+        (is_head || !is_first) && self.store.next(i) == self.next_leaf(place).unwrap_or(0)
+    }
+
+    /// "at a lowest node each is the key of the descriptor before it"
+    fn are_bounds_keys(&self, node: u32) -> bool {
+        let count = self.store.count(node);
+        (1..8).all(|i| {
+            count <= i || self.store.bound(node, i) == self.store.key(self.store.son(node, i))
+        })
+    }
+
+    /// "short locks .. match the requests in hand": a latch is that of a party that is at this node
+    fn is_latch_right(&self, node: u32) -> bool {
+        let table = self.table;
+        match self.store.latch(node).checked_sub(1) {
+            Some(p) => table
+                .get(p as usize)
+                .is_some_and(|x| Stage::from(x.stage) == Stage::At && x.at == node),
+            None => true,
+        }
+    }
+
+    /// Does the node in record i, at a place, with so many levels from there down, keep a clause?
+    pub fn node_keeps(&self, clause: Clause, place: usize, i: u32, level: u32) -> bool {
+        match clause {
+            Clause::Lowest => level != 1 || self.are_bounds_keys(i),
+            // "a node has 3 to 8 sons, the root 1 to 8"
+            Clause::Fanout => {
+                let count = self.store.count(i);
+                count <= 8 && (3 <= count || place == 0 && 1 <= count)
+            }
+            Clause::Latches => self.is_latch_right(i),
+            _ => true,
+        }
+    }
+
+    /// Does the descriptor in record i, at a place, keep a clause?
+    pub fn descriptor_keeps(&self, clause: Clause, place: usize, i: u32) -> bool {
+        let key = self.store.key(i);
+        let locate = self.store.locate(i);
+        let update = self.store.update(i);
+        match clause {
+            // "all leaves are descriptors at one depth, keys rising": the last below the upper infinity
+            Clause::Rising => key < self.key_above(place),
+            Clause::Chained => self.is_chained(place, i),
+            // "boundaries separate sons"
+            Clause::Separated => self.is_on_path(place, key),
+            // key 0 "has no member"
+            Clause::ZeroEmpty => key != 0 || self.store.member(i) == 0,
+            // "only begun sessions hold", groups with their gaps; "no two holders conflict": a gap has no update holders
+            Clause::Begun => are_begun(self.table, locate | update | self.store.gap(i)),
+            Clause::Agreed => agree_on_group(locate, update),
+            // "seize counts .. match the requests in hand"
+            Clause::PinCounts => self.store.pins(i) as usize == self.pins(key),
+            _ => true,
+        }
     }
 }

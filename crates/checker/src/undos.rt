@@ -1,68 +1,53 @@
 // Undos: the clause on take-back chains.
-use super::reach::{DESCRIPTOR, FROM, KIND, List, MEMBERSHIP, RECORD, UNDO, found, item, place_of};
-use super::words::{
-    ENTRY, EXCLUSIVE, KEY, UNDO_GROUP, UNDO_KIND, UNDO_MEMBER, UPDATE, entry_field, field,
-    is_holder,
-};
+use super::judge::{Judge, Reached};
+use super::store::Change;
+use super::table::is_holder;
 
-// The kinds of undo records.
-const WRITE: u32 = 1;
-
-const ADDED: u32 = 2;
-
-const TAKEN: u32 = 3;
-
-// "each take-back chain can be undone .. under locks that its session holds": exclusive on the entry and, for a membership, update on its
-// group, whose key is not 0
-pub fn is_undo_locked(s: &[u32], list: &List, n: u32, p: u32, i: u32) -> bool {
-    let entry = field(s, i, ENTRY);
-    let group = field(s, i, UNDO_GROUP);
-    if !is_holder(entry_field(s, entry, EXCLUSIVE), p) {
-        return false;
-    }
-    if field(s, i, UNDO_KIND) == WRITE {
-        return true;
-    }
-    (place_of(list, n, DESCRIPTOR, group) < n)
-        & (field(s, group, KEY) != 0)
-        & is_holder(field(s, group, UPDATE), p)
-}
-
-// The undo record of the same session, group and entry that is undone last before the one at place j; 0 if there is none.
-fn newer(s: &[u32], list: &List, j: u32, group: u32, entry: u32) -> u32 {
-    let p = item(list, j, FROM);
-    let mut found = 0;
-    let mut k = 0;
-    while k < j {
-        let i = item(list, k, RECORD);
-        let is_own = (item(list, k, KIND) == UNDO) & (item(list, k, FROM) == p);
-        let is_same = (field(s, i, UNDO_GROUP) == group) & (field(s, i, ENTRY) == entry);
-        if is_own & is_same & (field(s, i, UNDO_KIND) != WRITE) {
-            found = i;
+impl Judge<'_, '_> {
+    /// "each take-back chain can be undone .. under locks that its session holds": exclusive on the entry and, for a membership, update on its
+    /// group, whose key is not 0
+    pub fn is_undo_locked(&self, session: u32, i: u32) -> bool {
+        let group = self.store.undo_group(i);
+        let entry = self.store.entry(i);
+        if !is_holder(self.store.exclusive(entry), session as usize) {
+            return false;
         }
-        k += 1;
+        self.store.change(i) == Change::Write
+            || self.is_reached_descriptor(group)
+                && self.store.key(group) != 0
+                && is_holder(self.store.update(group), session as usize)
     }
-    found
-}
 
-// "newest first": what was added is there, in the record that is named; what was taken out is not. Once the newer ones are undone, a "taken
-// out" is a membership again.
-pub fn is_undone(s: &[u32], list: &List, n: u32, j: u32, i: u32) -> bool {
-    let kind = field(s, i, UNDO_KIND);
-    let group = field(s, i, UNDO_GROUP);
-    let entry = field(s, i, ENTRY);
-    let y = newer(s, list, j, group, entry);
-    let mut there = 0;
-    if y == 0 {
-        there = found(s, list, n, MEMBERSHIP, group, entry);
+    /// The undo record of the same session, group and entry that is undone last before the one at a place.
+    fn newer(&self, place: usize, session: u32, group: u32, entry: u32) -> Option<u32> {
+        self.items
+            .iter()
+            .take(place)
+            .filter(|item| {
+                item.reached == Reached::Undo { session }
+                    && self.store.undo_group(item.record) == group
+                    && self.store.entry(item.record) == entry
+                    && self.store.change(item.record) != Change::Write
+            })
+            .last()
+            .map(|item| item.record)
     }
-    if field(s, y, UNDO_KIND) == TAKEN {
-        there = y;
-    }
-    match kind {
-        WRITE => true,
-        ADDED => (there != 0) & (there == field(s, i, UNDO_MEMBER)),
-        TAKEN => there == 0,
-        _ => false,
+
+    /// "newest first": what was added is there, in the record that is named; what was taken out is not. Once the newer ones are undone, a "taken
+    /// out" is a membership again.
+    pub fn is_undone(&self, place: usize, session: u32, i: u32) -> bool {
+        let group = self.store.undo_group(i);
+        let entry = self.store.entry(i);
+        let there = match self.newer(place, session, group, entry) {
+            None => self.membership_of(group, entry),
+            Some(y) if self.store.change(y) == Change::Taken => Some(y),
+            Some(_) => None,
+        };
+        match self.store.change(i) {
+            Change::Write => true,
+            Change::Added => there == Some(self.store.undo_member(i)),
+            Change::Taken => there.is_none(),
+            Change::Unknown => false,
+        }
     }
 }

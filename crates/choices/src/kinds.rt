@@ -1,121 +1,117 @@
 // Kinds: what a round is like, by its number: how large, which keys, how many calls, and what the sessions are at.
-use crate::shares::{GROW, MIX, RISE, SHRINK};
-use books::book::{CALL, CHECKS, ENTRIES, PHASE, RECORDS, ROUND, SESSIONS, TURNS, WORDS};
-use books::call::{Call, FORMAT};
-use schedules::book::{Book, clear_from, get, put, put_five};
-use schedules::random::below;
-use schedules::side;
-use schedules::side::{ENTRY_WORDS, HEADER_WORDS, RECORD_WORDS};
-use std::num::wrapping_add_u32;
+use books::book::{Book, Keys, Phase, Round, Size};
+use books::call::Call;
+use schedules::side::{ENTRY_WORDS, HEADER_WORDS, RECORD_WORDS, SESSIONS};
 
 // How many kinds of rounds there are.
 pub const KINDS: u32 = 10;
 
-// All sessions.
-pub const ALL: u32 = side::SESSIONS;
+// A kind of round: how many sessions, entries and records it has; which keys, and how many of them.
+#[derive(Clone, Copy)]
+struct RoundKind(u32, u32, u32, Keys, u32);
 
-// Sessions, entries and records of a kind; which keys, and how many of them.
-fn kind(number: u32) -> [u32; 5] {
-    match number {
-        0 => [6, 3, 8, 0, 12],
-        1 => [ALL, 16, 40, 0, 40],
-        2 => [6, 8, 24, 0, 12],
-        3 => [ALL, 32, 200, 1, 60],
-        4 => [6, 2, 20, 2, 20],
-        5 => [ALL, 32, 700, 0, 400],
-        6 => [6, 24, 40, 1, 20],
-        7 => [ALL, 20, 200, 2, 300],
-        8 => [6, 32, 700, 1, 200],
-        _ => [ALL, 5, 32, 0, 12],
+fn kind(number: u32) -> RoundKind {
+    match number % KINDS {
+        0 => RoundKind(6, 3, 8, Keys::Small, 12),
+        1 => RoundKind(SESSIONS, 16, 40, Keys::Small, 40),
+        2 => RoundKind(6, 8, 24, Keys::Small, 12),
+        3 => RoundKind(SESSIONS, 32, 200, Keys::Whole, 60),
+        4 => RoundKind(6, 2, 20, Keys::Packed, 20),
+        5 => RoundKind(SESSIONS, 32, 700, Keys::Small, 400),
+        6 => RoundKind(6, 24, 40, Keys::Whole, 20),
+        7 => RoundKind(SESSIONS, 20, 200, Keys::Packed, 300),
+        8 => RoundKind(6, 32, 700, Keys::Whole, 200),
+        _ => RoundKind(SESSIONS, 5, 32, Keys::Small, 12),
     }
 }
 
 // How many records more a round has, by chance.
 fn more_records(b: &mut Book, number: u32) -> u32 {
-    match number {
-        0 => below(b, 8),
-        4 => below(b, 16),
+    match number % KINDS {
+        0 => b.random.below(8),
+        4 => b.random.below(16),
         _ => 0,
     }
 }
 
-// How many calls a round has, and at every how many the checker is asked: by its records.
-fn turns(records: u32) -> u32 {
-    if records < 100 { 6000 } else { 10000 }
+// Is it a round with few records?
+fn is_small(size: &Size) -> bool {
+    size.records < 100
 }
 
-fn checks(records: u32) -> u32 {
-    if records < 100 { 2 } else { 1 + records / 8 }
+// How many calls a round has, and at every how many the checker is asked.
+pub fn turns(size: &Size) -> u32 {
+    if is_small(size) { 6000 } else { 10000 }
 }
 
-// The words of the header, of an entry and of a record.
-const HEADER: u32 = HEADER_WORDS as u32;
+pub fn checks(size: &Size) -> u32 {
+    if is_small(size) {
+        2
+    } else {
+        1 + size.records / 8
+    }
+}
 
-const ENTRY: u32 = ENTRY_WORDS as u32;
-
-const RECORD: u32 = RECORD_WORDS as u32;
-
-fn set_size(b: &mut Book, records: u32) {
-    put(b, RECORDS, records);
-    put(b, TURNS, turns(records));
-    put(b, CHECKS, checks(records));
-    let m = get(b, ENTRIES);
-    let fit = HEADER + ENTRY * (m % 64) + RECORD * (records % 1024);
-    let words = wrapping_add_u32(fit, below(b, 20));
-    put(b, WORDS, words);
+// How many words a store of so many entries and records has.
+fn fitting(entries: u32, records: u32) -> u32 {
+    let words = HEADER_WORDS
+        + ENTRY_WORDS * (entries % 64) as usize
+        + RECORD_WORDS * (records % 1024) as usize;
+    words as u32
 }
 
 // The book where a round begins.
 pub fn start(b: &mut Book, number: u32) {
-    clear_from(b, CALL);
-    put(b, ROUND, number);
-    put_five(b, SESSIONS, kind(number % KINDS));
-    let more = more_records(b, number % KINDS);
-    let records = wrapping_add_u32(get(b, RECORDS), more);
-    set_size(b, records);
+    let RoundKind(sessions, entries, fewest, keys, range) = kind(number);
+    let records = fewest.wrapping_add(more_records(b, number));
+    let size = Size {
+        sessions,
+        entries,
+        records,
+        keys,
+        range,
+        words: fitting(entries, records).wrapping_add(b.random.below(20)),
+    };
+    b.round = Round::new(number, size);
 }
 
-// What the sessions are at in eighth i of a small round, and, 8 further on, of a large one.
-fn phase(i: u32) -> u32 {
-    match i {
-        0 => GROW,
-        1 => MIX,
-        2 => MIX,
-        4 => GROW,
-        5 => MIX,
-        8 => RISE,
-        9 => RISE,
-        10 => GROW,
-        11 => MIX,
-        13 => MIX,
-        _ => SHRINK,
-    }
-}
+// What the sessions are at in each eighth of a small round, and of a large one.
+static SMALL: [Phase; 8] = [
+    Phase::Grow,
+    Phase::Mix,
+    Phase::Mix,
+    Phase::Shrink,
+    Phase::Grow,
+    Phase::Mix,
+    Phase::Shrink,
+    Phase::Shrink,
+];
+
+static LARGE: [Phase; 8] = [
+    Phase::Rise,
+    Phase::Rise,
+    Phase::Grow,
+    Phase::Mix,
+    Phase::Shrink,
+    Phase::Mix,
+    Phase::Shrink,
+    Phase::Shrink,
+];
 
 // What the sessions are at in this turn of the round.
-fn phase_at(b: &Book, turn: u32) -> u32 {
-    let turns = get(b, TURNS);
-    let eighth = (turn % 65536) * 8 / (1 + turns % 65536);
-    if get(b, RECORDS) < 100 {
-        phase(eighth)
+pub fn phase(size: &Size, turn: u32) -> Phase {
+    let eighth = turn % 65536 * 8 / (1 + turns(size) % 65536) % 8;
+    if is_small(size) {
+        SMALL[eighth as usize]
     } else {
-        phase(wrapping_add_u32(eighth, 8))
+        LARGE[eighth as usize]
     }
-}
-
-pub fn set_phase(b: &mut Book, turn: u32) {
-    let x = phase_at(b, turn);
-    put(b, PHASE, x);
 }
 
 // The round's first call.
-pub fn first_call(b: &Book) -> Call {
-    Call {
-        kind: FORMAT,
-        party: 0,
-        code: 0,
-        entry: get(b, ENTRIES),
-        first: get(b, WORDS),
-        second: 0,
+pub fn first_call(size: &Size) -> Call {
+    Call::Format {
+        entries: size.entries,
+        words: size.words,
     }
 }

@@ -1,65 +1,57 @@
 // Rounds: a round begins with a format and ends with the abort of all that are begun; its parameters go by its number.
-use crate::make::make;
-use books::book::{IS_STOPPED, Model, TURNS};
-use books::call;
-use books::call::plain;
+use crate::run::Run;
+use books::call::Call;
 use books::contents::see_all;
-use books::seats::is_begun;
 use choices::choose::{in_sequence, next};
-use choices::kinds::{first_call, start};
-use schedules::book::{Book, get};
-use schedules::random::{chance, random};
-use schedules::side::{SESSIONS, Side};
+use choices::kinds::{first_call, start, turns};
+use schedules::side::SESSIONS;
 use turns::numbers::spread;
 
 // One of so many calls is made on a table with other numbers in the order of begins.
 const SPREADS: u32 = 50;
 
-fn turn(s: &mut Side, a: &mut Model, b: &mut Book, i: u32) {
-    if chance(b, 1, SPREADS) {
-        spread(s, a, b);
-    }
-    let c = next(s, a, b, i);
-    make(s, a, b, c);
-}
-
-fn turns(s: &mut Side, a: &mut Model, b: &mut Book) {
-    let n = get(b, TURNS);
-    let mut i = 0;
-    while i < n {
-        if get(b, IS_STOPPED) != 0 {
-            return;
+impl Run {
+    fn turn(&mut self, i: u32) {
+        if self.book.random.chance(1, SPREADS) {
+            spread(&mut self.side, &mut self.model, &mut self.book);
         }
-        turn(s, a, b, i);
-        i += 1;
+        let c = next(&self.side, &self.model, &mut self.book, i);
+        self.make(c);
     }
-}
 
-// Aborts session p if it is begun.
-fn end_one(s: &mut Side, a: &mut Model, b: &mut Book, p: u32) {
-    if is_begun(s, p) {
-        make(s, a, b, plain(call::ABORT, p));
+    fn turns(&mut self) {
+        for i in 0..turns(&self.book.round.size) {
+            if self.book.round.is_stopped {
+                return;
+            }
+            self.turn(i);
+        }
     }
-}
 
-// Aborts all that are begun, in a random sequence.
-fn end(s: &mut Side, a: &mut Model, b: &mut Book) {
-    let x = random(b);
-    let mut i = 0;
-    while i < SESSIONS {
-        end_one(s, a, b, in_sequence(x, i));
-        i += 1;
+    // Aborts session p if it is begun.
+    fn end_one(&mut self, p: u32) {
+        if self.side.is_begun(p) {
+            self.make(Call::Abort(p));
+        }
     }
-}
 
-// Where no difference was found, the store has at the end what the logical model has.
-pub fn round(s: &mut Side, a: &mut Model, b: &mut Book, number: u32) {
-    start(b, number);
-    let c = first_call(b);
-    make(s, a, b, c);
-    turns(s, a, b);
-    end(s, a, b);
-    if get(b, IS_STOPPED) == 0 {
-        see_all(s, b);
+    // Aborts all that are begun, in a random sequence.
+    fn end(&mut self) {
+        let x = self.book.random.word();
+        for i in 0..SESSIONS {
+            self.end_one(in_sequence(x, i));
+        }
+    }
+
+    // Where no difference was found, the store has at the end what the logical model has.
+    pub fn round(&mut self, number: u32) {
+        start(&mut self.book, number);
+        let size = self.book.round.size;
+        self.make(first_call(&size));
+        self.turns();
+        self.end();
+        if !self.book.round.is_stopped {
+            see_all(&self.side, &mut self.book);
+        }
     }
 }

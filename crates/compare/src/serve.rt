@@ -1,32 +1,10 @@
 // Serve: a call made on the store; every second one that a batch can have as a batch of one, a step as a run of one, with the answer read off its number.
-use books::book::CALL;
-use books::call::{
-    ASK, BEGIN, COMMIT, Call, DONE, FORMAT, MORE, OK, PUT, RECOVER, REFUSED, STEP, WAIT, listed,
-    say,
-};
+use books::book::{Book, LIST};
+use books::call::{Call, Said};
 use books::seats::{set_table, table};
-use naive_steps::party::Said;
 use outcomes::{Answer, Served};
-use schedules::book::{Book, LISTS, get};
-use schedules::side::{Side, TABLE};
-use schedules::words::wide;
+use schedules::side::Side;
 use sessions::{PARTIES, Session};
-
-// The call on a store and a list.
-fn served(store: &mut [u32], list: &mut [u32], t: [Session; PARTIES], c: Call) -> Served {
-    let kind = c.kind;
-    let p = c.party;
-    match kind {
-        FORMAT => calls::format(store, t, c.entry),
-        BEGIN => calls::begin(store, t, p),
-        PUT => calls::put(store, t, p, c.code, c.entry, c.first, c.second),
-        STEP => calls::step(store, list, t, p),
-        COMMIT => calls::commit(store, t, p),
-        ASK => calls::ask(store, t, p),
-        RECOVER => calls::recover(store, t),
-        _ => calls::abort(store, t, p),
-    }
-}
 
 // What a call leaves of the table, and its answer.
 #[derive(Clone, Copy)]
@@ -35,30 +13,61 @@ struct Reply {
     said: Said,
 }
 
-fn alone(store: &mut [u32], list: &mut [u32], t: [Session; PARTIES], c: Call) -> Reply {
-    let x = served(store, list, t, c);
-    let after = x.table;
-    let answer = x.answer;
-    Reply {
-        table: after,
-        said: said(answer),
+fn said(answer: Answer) -> Said {
+    match answer {
+        Answer::Ok => Said::Ok,
+        Answer::More => Said::More,
+        Answer::Wait(q) => Said::Wait(q),
+        Answer::Done(answer) => Said::Done { answer, beside: 0 },
+        Answer::Tidied(answer, beside) => Said::Done { answer, beside },
+        Answer::Refused(by, beside) => Said::Refused { by, beside },
     }
 }
 
-// Can a batch have a call of this kind?
-fn is_batched(kind: u32) -> bool {
-    kind != FORMAT && kind != RECOVER
+// The call on a store and a list. A day call is made elsewhere.
+fn served(store: &mut [u32], list: &mut [u32], t: [Session; PARTIES], c: Call) -> Option<Served> {
+    Some(match c {
+        Call::Format { entries, .. } => calls::format(store, t, entries),
+        Call::Begin(p) => calls::begin(store, t, p),
+        Call::Put(p, r) => calls::put(store, t, p, r.code, r.entry, r.first, r.second),
+        Call::Step { party, .. } => calls::step(store, list, t, party),
+        Call::Commit(p) => calls::commit(store, t, p),
+        Call::Abort(p) => calls::abort(store, t, p),
+        Call::Ask(p) => calls::ask(store, t, p),
+        Call::Recover => calls::recover(store, t),
+        Call::Day(_) => return None,
+    })
 }
 
-// The kind that the call has in a batch.
-fn ask_kind(kind: u32) -> u32 {
-    match kind {
-        BEGIN => 1,
-        PUT => 2,
-        STEP => 6,
-        COMMIT => 4,
-        ASK => 8,
-        _ => 5,
+fn alone(store: &mut [u32], list: &mut [u32], t: [Session; PARTIES], c: Call) -> Reply {
+    match served(store, list, t, c) {
+        Some(x) => {
+            let table = x.table;
+            Reply {
+                table,
+                said: said(x.answer),
+            }
+        }
+        None => Reply {
+            table: t,
+            said: Said::UNSERVED,
+        },
+    }
+}
+
+// The words of an ask of a batch.
+type AskWords = [u32; 7];
+
+// The ask of a batch that the call is, if it can be one; what it does not use may be any word.
+fn ask(c: Call, any: u32) -> Option<AskWords> {
+    match c {
+        Call::Begin(p) => Some([1, p, any, any, any, any, 1]),
+        Call::Put(p, r) => Some([2, p, r.code, r.entry, r.first, r.second, 1]),
+        Call::Commit(p) => Some([4, p, any, any, any, any, 1]),
+        Call::Abort(p) => Some([5, p, any, any, any, any, 1]),
+        Call::Step { party, .. } => Some([6, party, any, any, any, any, 1]),
+        Call::Ask(p) => Some([8, p, any, any, any, any, 1]),
+        Call::Format { .. } | Call::Day(_) | Call::Recover => None,
     }
 }
 
@@ -66,108 +75,67 @@ fn ask_kind(kind: u32) -> u32 {
 fn read(number: u64) -> Said {
     let value = (number % 4294967296) as u32;
     let beside = (number / 4294967296 % 256) as u32;
-    let word = (number / 1099511627776 % 256) as u32;
-    match word {
-        0 => say(OK, 0, 0),
-        1 => say(MORE, 0, 0),
-        2 => say(WAIT, value, 0),
-        3 => say(DONE, value, beside),
-        _ => say(REFUSED, beside, value),
+    match number / 1099511627776 % 256 {
+        0 => Said::Ok,
+        1 => Said::More,
+        2 => Said::Wait(value),
+        3 => Said::Done {
+            answer: value,
+            beside,
+        },
+        _ => Said::Refused {
+            by: beside,
+            beside: value,
+        },
     }
 }
 
 fn read_batch(own: Answer, number: u64) -> Said {
     match own {
-        Answer::Refused(n, beside) => say(REFUSED, n, beside),
+        Answer::Refused(by, beside) => Said::Refused { by, beside },
         _ => read(number),
     }
 }
 
-fn in_batch(store: &mut [u32], list: &mut [u32], t: [Session; PARTIES], c: Call) -> Reply {
-    let asks = [
-        ask_kind(c.kind),
-        c.party,
-        c.code,
-        c.entry,
-        c.first,
-        c.second,
-        1,
-    ];
+fn in_batch(store: &mut [u32], list: &mut [u32], t: [Session; PARTIES], ask: AskWords) -> Reply {
     let mut answers = [0u64; 1];
-    let x = calls::batch(store, list, t, &asks, &mut answers);
-    let after = x.table;
-    let own = x.answer;
+    let Served { table, answer } = calls::batch(store, list, t, &ask, &mut answers);
     Reply {
-        table: after,
-        said: read_batch(own, answers[0]),
+        table,
+        said: read_batch(answer, answers[0]),
     }
 }
 
-// No such call: the sizes are wrong.
-fn unserved(t: [Session; PARTIES]) -> Reply {
-    Reply {
-        table: t,
-        said: say(REFUSED, 0, 0),
+// How many words of the list the call names.
+fn listed(c: Call) -> usize {
+    match c {
+        Call::Step { listed, .. } => listed as usize,
+        _ => 0,
     }
 }
 
-fn make(
-    store: &mut [u32],
-    list: &mut [u32],
-    t: [Session; PARTIES],
-    c: Call,
-    is_batch: bool,
-) -> Reply {
-    if is_batch {
-        if is_batched(c.kind) {
-            return in_batch(store, list, t, c);
-        }
-    }
-    alone(store, list, t, c)
-}
-
-// The call on the store of a side, lent so many words of it, and of the list in the book as many as the call names.
-fn with_store(
-    side: &mut [u32],
-    book: &mut [u32],
-    t: [Session; PARTIES],
-    c: Call,
-    words: u32,
-    is_batch: bool,
-) -> Reply {
-    let end = TABLE + wide(words);
-    let list_end = LISTS + listed(c.first);
-    if end <= side.len() {
-        if list_end <= book.len() {
-            return make(
-                &mut side[TABLE..end],
-                &mut book[LISTS..list_end],
-                t,
-                c,
-                is_batch,
-            );
-        }
-    }
-    unserved(t)
-}
-
-fn said(a: Answer) -> Said {
-    match a {
-        Answer::Ok => say(OK, 0, 0),
-        Answer::More => say(MORE, 0, 0),
-        Answer::Wait(q) => say(WAIT, q, 0),
-        Answer::Done(k) => say(DONE, k, 0),
-        Answer::Tidied(key, is_gone) => say(DONE, key, is_gone),
-        Answer::Refused(n, beside) => say(REFUSED, n, beside),
+// The call on the store of a side, lent so many words of it, if there are as many.
+fn on_words(s: &mut Side, b: &mut Book, words: u32, c: Call) -> Reply {
+    let t = table(s);
+    let Some(store) = s.store.get_mut(..words as usize) else {
+        return Reply {
+            table: t,
+            said: Said::UNSERVED,
+        };
+    };
+    let is_batch = b.round.call % 2 == 1;
+    let asked = ask(c, b.round.call);
+    let list_end = listed(c).min(LIST);
+    let list = &mut b.round.store_list[..list_end];
+    match asked {
+        Some(ask) if is_batch => in_batch(store, list, t, ask),
+        _ => alone(store, list, t, c),
     }
 }
 
 // The call on the store, whose words are so many.
 pub fn on_store(s: &mut Side, b: &mut Book, words: u32, c: Call) -> Said {
-    let t = table(s);
-    let is_batch = get(b, CALL) % 2 == 1;
-    let x = with_store(s, b, t, c, words, is_batch);
-    let after = x.table;
-    set_table(s, after);
+    let x = on_words(s, b, words, c);
+    set_table(s, x.table);
     x.said
 }

@@ -7,12 +7,10 @@
 
 mod report;
 
-use changed_journals::{CHANGES, change};
-use made_journals::book::{BOOK, Book, FULL, LENGTH, NUMBER, RECORDS, get, put, raise};
-use made_journals::choices::{choose, is_full};
-use made_journals::make::make;
-use made_journals::records::{BYTES, Journal, copy};
-use report::{note, report};
+use changed_journals::Change;
+use made_journals::book::{Book, raise};
+use made_journals::records::Journal;
+use report::Report;
 use std::io;
 
 const JOURNALS: u32 = 12000;
@@ -20,60 +18,57 @@ const JOURNALS: u32 = 12000;
 // How often each change is made to a journal. To one of 2,048 records it is made once.
 const TIMES: u32 = 2;
 
-// The first n bytes.
-fn part(j: &[u8], n: u32) -> &[u8] {
-    let end = n as usize;
-    if end <= j.len() { &j[0..end] } else { j }
-}
-
 // What both say of a journal.
-fn judge(b: &mut Book, j: &Journal, change: u32) {
-    let n = get(b, LENGTH);
-    let first = journal::verdict(part(j, n));
-    let second = naive_journal::verdict(part(j, n));
-    note(b, change, first, second);
+fn judge(report: &mut Report, b: &Book, j: &Journal, change: Change) {
+    let bytes = j.part(b.length);
+    let first = journal::verdict(bytes);
+    let second = naive_journal::verdict(bytes);
+    report.note(b.number, change, first, second);
 }
 
 // Judges the journal with a change. Its length is again what it was.
-fn judge_changed(b: &mut Book, j: &Journal, other: &mut Journal, number: u32) {
-    let n = get(b, LENGTH);
-    copy(j, other, n);
-    change(b, other, number);
-    judge(b, other, number);
-    put(b, LENGTH, n);
+fn judge_changed(
+    report: &mut Report,
+    b: &mut Book,
+    j: &Journal,
+    other: &mut Journal,
+    change: Change,
+) {
+    let length = b.length;
+    other.copy_from(j, length);
+    change.make(b, other);
+    judge(report, b, other, change);
+    b.length = length;
 }
 
-// Makes a change so many times, each time to the journal as it was made.
-fn judge_often(b: &mut Book, j: &Journal, other: &mut Journal, number: u32, times: u32) {
-    for i in 0..times {
-        judge_changed(b, j, other, number);
+// Judges the journal with each change, each time as it was made.
+fn judge_all(report: &mut Report, b: &mut Book, j: &Journal, other: &mut Journal) {
+    let times = if b.is_full() { 1 } else { TIMES };
+    for change in Change::ALL.iter().skip(1) {
+        for _ in 0..times {
+            judge_changed(report, b, j, other, *change);
+        }
     }
 }
 
-fn judge_all(b: &mut Book, j: &Journal, other: &mut Journal) {
-    let times = if is_full(b) { 1 } else { TIMES };
-    for number in 1..CHANGES {
-        judge_often(b, j, other, number, times);
+fn round(report: &mut Report, b: &mut Book, j: &mut Journal, other: &mut Journal) {
+    b.choose();
+    b.make(j);
+    if b.records == 2048 {
+        raise(&mut report.full);
     }
-}
-
-fn round(b: &mut Book, j: &mut Journal, other: &mut Journal) {
-    choose(b);
-    make(b, j);
-    if get(b, RECORDS) == 2048 {
-        raise(b, FULL);
-    }
-    judge(b, j, 0);
-    judge_all(b, j, other);
-    raise(b, NUMBER);
+    judge(report, b, j, Change::None);
+    judge_all(report, b, j, other);
+    raise(&mut b.number);
 }
 
 fn main(rt: HostRuntime) -> io::Result<()> {
-    let mut b = [0u32; BOOK];
-    let mut j = [0u8; BYTES];
-    let mut other = [0u8; BYTES];
-    for number in 0..JOURNALS {
-        round(&mut b, &mut j, &mut other);
+    let mut report = Report::new();
+    let mut book = Book::new();
+    let mut journal = Journal::new();
+    let mut other = Journal::new();
+    for _ in 0..JOURNALS {
+        round(&mut report, &mut book, &mut journal, &mut other);
     }
-    report(&rt, &b)
+    report.tell(&rt, &book)
 }

@@ -14,67 +14,99 @@ ghost use Rattle.std.specs.Io.{ReadsAtMost};
 
 use checker::clauses::CLAUSES;
 use judge::{damage, is_only_refused};
-use samples::lines::{next_line, number};
-use samples::words::{WORDS, Words, store_words};
+use samples::lines::number;
+use samples::words::Words;
 use std::io;
 use std::io::Read;
-use tally::{CASES, SAMPLES, count, report};
+use tally::{Count, add_one, report};
 
-// Writes what the lines from a heading up to the next say.
-fn write(text: &[u8], from: usize, w: &mut Words) {
-    let mut at = from;
-    while at < text.len() {
-        let letter = text[at];
-        if at != from {
-            match letter {
-                b'B' | b'S' => return,
-                b'C' => return,
-                _ => {}
-            }
-        }
-        samples::add(w, letter, text, at);
-        at = next_line(text, at);
+// The lines of a text.
+fn is_end(b: &u8) -> bool {
+    *b == b'\n'
+}
+
+// What a line begins: a base, a sound sample over the last base, or one over the last sample that a clause alone refuses.
+#[derive(Clone, Copy, PartialEq, Eq)]
+enum Heading {
+    Base,
+    Sample,
+    Case,
+}
+
+fn heading_of(line: &[u8]) -> Option<Heading> {
+    match line.first() {
+        Some(b'B') => Some(Heading::Base),
+        Some(b'S') => Some(Heading::Sample),
+        Some(b'C') => Some(Heading::Case),
+        _ => None,
     }
 }
 
-// The sample or case that begins at a line, over what other headings begin. No clause refuses a sample.
-fn sample(
-    rt: &impl Print,
-    text: &[u8],
-    base: usize,
-    over: usize,
-    at: usize,
-    clause: u32,
-    w: &mut Words,
-) -> io::Result<()> {
-    write(text, base, w);
-    write(text, over, w);
-    write(text, at, w);
-    let words = store_words(w, number(text, at, 1));
-    let k = if clause == CLAUSES { SAMPLES } else { CASES };
-    count(w, k);
+// Writes what the lines from a heading up to the next say.
+fn write(text: &[u8], w: &mut Words) {
+    for (i, line) in text.split(is_end).enumerate() {
+        if i != 0 && heading_of(line).is_some() {
+            return;
+        }
+        samples::add(w, line);
+    }
+}
+
+// A sample or case: the text from its base on, from the heading that it is over and from its own.
+#[derive(Clone, Copy)]
+struct Parts<'a> {
+    base: &'a [u8],
+    over: &'a [u8],
+    own: &'a [u8],
+}
+
+// The number that follows space k of the first line of a text.
+fn first_number(text: &[u8], k: usize) -> u32 {
+    text.split(is_end).next().map_or(0, |line| number(line, k))
+}
+
+// Judges a sample or case. No clause refuses a sample.
+fn sample(rt: &impl Print, parts: Parts<'_>, clause: u32, w: &mut Words) -> io::Result<()> {
+    write(parts.base, w);
+    write(parts.over, w);
+    write(parts.own, w);
+    let words = w.store_words(first_number(parts.own, 1));
+    let (all, as_said) = if clause == CLAUSES {
+        (Count::Samples, Count::SamplesSound)
+    } else {
+        (Count::Cases, Count::CasesRefused)
+    };
+    add_one(w, all);
     if is_only_refused(w, words, clause) {
-        count(w, std::num::wrapping_add_u32(k, 1));
+        add_one(w, as_said);
     }
     damage(rt, w, words)
 }
 
 fn run(rt: &impl Print, text: &[u8], w: &mut Words) -> io::Result<()> {
-    let mut base = 0;
-    let mut over = 0;
-    let mut at = 0;
-    while at < text.len() {
-        let letter = text[at];
-        match letter {
-            b'B' => base = at,
-            b'S' => {
-                over = at;
-                sample(rt, text, base, base, at, CLAUSES, w)?;
+    let mut base = text;
+    let mut over = text;
+    let mut own = text;
+    for line in text.split(is_end) {
+        match heading_of(line) {
+            Some(Heading::Base) => base = own,
+            Some(Heading::Sample) => {
+                over = own;
+                sample(
+                    rt,
+                    Parts {
+                        base,
+                        over: base,
+                        own,
+                    },
+                    CLAUSES,
+                    w,
+                )?;
             }
-            b'C' => sample(rt, text, base, over, at, number(text, at, 2), w)?,
-            _ => {}
+            Some(Heading::Case) => sample(rt, Parts { base, over, own }, number(line, 2), w)?,
+            None => {}
         }
-        at = next_line(text, at);
+        own = own.get(line.len() + 1..).unwrap_or(&[]);
     }
     Ok(())
 }
@@ -98,7 +130,7 @@ fn read_full(rt: &impl Input, buf: &mut [u8]) -> io::Result<usize>
 fn main(rt: HostRuntime) -> io::Result<()> {
     let mut text = [0u8; 65536];
     let n = read_full(&rt, &mut text)?;
-    let mut w = [0u32; WORDS];
+    let mut w = Words::new();
     run(&rt, &text[..n], &mut w)?;
     report(&rt, &w)
 }

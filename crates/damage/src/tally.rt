@@ -1,71 +1,102 @@
-// Tally: what is counted, in the words behind a sample, and how it is told.
-use samples::words::{BEHIND, Words, get, put, wide};
+// Tally: what is counted, in the words behind a sample, and how it is told. A line of the input may name these words too, so they stay there.
+use samples::words::{BEHIND, Words};
 use std::io;
 
-// Sound samples, and next how many of these the checker accepts.
-pub const SAMPLES: u32 = 0;
-
-// Cases, and next how many of these their clause alone refuses.
-pub const CASES: u32 = 2;
-
-// Stores judged: refused by both, accepted by both, judged differently; of these, sound to the test alone and sound to the checker
-// alone. Last the number of the change that was judged differently.
-pub const REFUSED: u32 = 4;
-
-pub const ACCEPTED: u32 = 5;
-
-const DIFFERENCES: u32 = 6;
-
-pub const TEST_ALONE: u32 = 7;
-
-pub const PAPER_ALONE: u32 = 8;
-
-pub fn count(w: &mut Words, k: u32) {
-    let at = BEHIND + wide(k);
-    let n = get(w, at);
-    put(w, at, std::num::wrapping_add_u32(n, 1));
+// Where what is counted stands behind the sample.
+#[derive(Clone, Copy)]
+pub enum Count {
+    // Sound samples, and how many of these the checker accepts.
+    Samples,
+    SamplesSound,
+    // Cases, and how many of these their clause alone refuses.
+    Cases,
+    CasesRefused,
+    // Stores judged: refused by both, accepted by both, judged differently; of these, sound to the test alone and sound to the checker alone.
+    Refused,
+    Accepted,
+    Differences,
+    TestAlone,
+    PaperAlone,
+    // The number of the change that was judged differently last.
+    Change,
 }
 
-// Writes a text. A digit in it stands for what was counted there.
-fn tell(rt: &impl Print, text: &[u8], w: &Words) -> io::Result<()> {
-    let mut i = 0;
-    while i < text.len() {
-        let k = std::num::wrapping_sub_u8(text[i], b'0') as usize;
-        let next = i + 1;
-        if k < 10 {
-            rt.print(get(w, BEHIND + k))?;
-        } else {
-            rt.write_all(&text[i..next])?;
+// What test and checker say of a store.
+#[derive(Clone, Copy, PartialEq, Eq)]
+pub enum Verdict {
+    Refused,
+    Accepted,
+    TestAlone,
+    PaperAlone,
+}
+
+impl Verdict {
+    pub fn new(test: bool, paper: bool) -> Self {
+        match (test, paper) {
+            (false, false) => Verdict::Refused,
+            (true, true) => Verdict::Accepted,
+            (true, false) => Verdict::TestAlone,
+            (false, true) => Verdict::PaperAlone,
         }
-        i = next;
     }
-    Ok(())
+
+    // Where it is counted.
+    fn place(self) -> Count {
+        match self {
+            Verdict::Refused => Count::Refused,
+            Verdict::Accepted => Count::Accepted,
+            Verdict::TestAlone => Count::TestAlone,
+            Verdict::PaperAlone => Count::PaperAlone,
+        }
+    }
+
+    fn is_difference(self) -> bool {
+        self == Verdict::TestAlone || self == Verdict::PaperAlone
+    }
 }
 
-// Counts what was said of change r. The first differences are told one by one: the sample or case by its number, and the change.
-pub fn note(rt: &impl Print, w: &mut Words, verdict: u32, r: u32) -> io::Result<()> {
-    count(w, verdict);
-    if verdict < TEST_ALONE {
+fn number(w: &Words, k: Count) -> u32 {
+    w.get(BEHIND + k as usize)
+}
+
+pub fn add_one(w: &mut Words, k: Count) {
+    w.set(BEHIND + k as usize, number(w, k).wrapping_add(1));
+}
+
+// A difference: the sample or case by its number, the change, and how many are judged by test or checker alone by now.
+fn tell(rt: &impl Print, w: &Words) -> io::Result<()> {
+    let samples = number(w, Count::Samples);
+    let cases = number(w, Count::Cases);
+    let change = number(w, Count::Change);
+    let test = number(w, Count::TestAlone);
+    let paper = number(w, Count::PaperAlone);
+    println!(rt;
+        "{samples}. sample, {cases}. case, change {change}: now {test} sound to the test alone, {paper} to the checker alone"
+    )
+}
+
+// Counts what was said of change r. The first differences are told one by one.
+pub fn note(rt: &impl Print, w: &mut Words, verdict: Verdict, r: u32) -> io::Result<()> {
+    add_one(w, verdict.place());
+    if !verdict.is_difference() {
         return Ok(());
     }
-    count(w, DIFFERENCES);
-    put(w, BEHIND + 9, r);
-    if get(w, BEHIND + 6) <= 60 {
-        tell(
-            rt,
-            b"0. sample, 2. case, change 9: now 7 sound to the test alone, 8 to the checker alone\n",
-            w,
-        )?;
+    add_one(w, Count::Differences);
+    w.set(BEHIND + Count::Change as usize, r);
+    if number(w, Count::Differences) <= 60 {
+        tell(rt, w)?;
     }
     Ok(())
 }
 
 pub fn report(rt: &impl Print, w: &Words) -> io::Result<()> {
-    tell(rt, b"0 sound samples, 1 of them sound to the checker\n", w)?;
-    tell(rt, b"2 cases, 3 of them refused by their clause alone\n", w)?;
-    tell(
-        rt,
-        b"4 refused by both\n5 accepted by both\n6 differences\n",
-        w,
-    )
+    let samples = number(w, Count::Samples);
+    let sound = number(w, Count::SamplesSound);
+    println!(rt; "{samples} sound samples, {sound} of them sound to the checker")?;
+    let cases = number(w, Count::Cases);
+    let refused = number(w, Count::CasesRefused);
+    println!(rt; "{cases} cases, {refused} of them refused by their clause alone")?;
+    println!(rt; "{} refused by both", number(w, Count::Refused))?;
+    println!(rt; "{} accepted by both", number(w, Count::Accepted))?;
+    println!(rt; "{} differences", number(w, Count::Differences))
 }

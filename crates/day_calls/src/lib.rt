@@ -10,14 +10,15 @@
 ghost use Rattle.std.specs.Prelude.{◌≡◌, not, ◌||◌, [], ◌*◌, ◌≤◌, ◌<◌, leb};
 ghost use Rattle.serial.specs.Calls as C;
 ghost use Rattle.outcomes.specs.Said.{said};
+ghost use Rattle.outcomes.specs.Refused.{refused_by};
 ghost use Rattle.meaning.specs.Sound.{Sound};
 ghost use Rattle.refusals.specs.Refusing.{first_of, step_list};
 ghost use Rattle.day_calls.specs.Calling.{renamed, other_in_hand, number_list, day_list, handed, Renames, DayServes};
 ghost use Rattle.day_calls.specs.Accepting.{Reads, CanPut};
 
 use card_days::DayRequest;
-use outcomes::{Answer, DayAnswer, DayServed};
-use sessions::{PARTIES, Session};
+use outcomes::{Answer, DayAnswer, DayServed, Refusal};
+use sessions::{PARTIES, Session, Stage};
 
 // The highest driver, and the latest minute that a day may start at.
 const DRIVERS: u32 = 4094;
@@ -36,12 +37,10 @@ fn read_day(bytes: &[u8], driver: u32, start: u32, entry: u32, place: u32) -> Re
     ensures { Reads (handed bytes.now driver start entry place) result.good result.count result.request }
 {
     let s = card_days::survey(bytes, (place / 2) as usize);
-    let st = s.stretch;
-    let r = card_days::request_from(st, driver, start, entry, place);
     Reading {
         good: s.is_proper,
         count: s.count,
-        request: r,
+        request: card_days::request_from(s.stretch, driver, start, entry, place),
     }
 }
 
@@ -81,7 +80,7 @@ fn other_in_hand(x: Session, r: DayRequest) -> bool
 {
     let entry = x.entry as u64;
     let first = x.first as u64;
-    if x.stage == 0 {
+    if x.stage == Stage::Idle as u32 {
         return false;
     }
     if x.code != r.code {
@@ -113,30 +112,30 @@ fn is_bad(x: Session, d: Reading, place: u32) -> bool
 }
 
 // 8 and 9, of n stretches and m entries.
-fn number_refusal(m: u32, n: usize, driver: u32, start: u32, entry: u32) -> u32
+fn check_numbers(m: u32, n: usize, driver: u32, start: u32, entry: u32) -> Result<(), Refusal>
     requires { n ≤ 1440 }
-    ensures { result ≡ first_of (number_list m n driver start entry) }
+    ensures { refused_by result ≡ first_of (number_list m n driver start entry) }
 {
     if entry == 0 {
-        return 8;
+        return Err(Refusal::Entry);
     }
     if m as u64 + 1 < entry as u64 + n as u64 {
-        return 8;
+        return Err(Refusal::Entry);
     }
     if driver == 0 {
-        return 9;
+        return Err(Refusal::Key);
     }
     if DRIVERS < driver {
-        return 9;
+        return Err(Refusal::Key);
     }
     if LATEST < start {
-        return 9;
+        return Err(Refusal::Key);
     }
-    0
+    Ok(())
 }
 
-// The number that a day call is refused with, in order; 0 if it is accepted.
-fn day_refusal(
+// What a day call is refused for, in order.
+fn check_day(
     m: u32,
     t: [Session; PARTIES],
     p: u32,
@@ -146,27 +145,25 @@ fn day_refusal(
     start: u32,
     entry: u32,
     place: u32,
-) -> u32
+) -> Result<(), Refusal>
     requires { Reads (handed bytes.now driver start entry place) d.good d.count d.request }
-    ensures { result ≡ first_of (day_list m t p (handed bytes.now driver start entry place)) }
+    ensures { refused_by result ≡ first_of (day_list m t p (handed bytes.now driver start entry place)) }
 {
-    let i = refusals::party_refusal(t, p);
-    let x = refusals::seat(t, p);
-    if i != 0 {
-        return i;
+    if let Err(refusal) = refusals::check_party(t, p) {
+        return Err(refusal);
     }
     if p == 0 {
-        return 6;
+        return Err(Refusal::Code);
     }
     if bytes.len() % 2 == 1 {
-        return 13;
+        return Err(Refusal::Odd);
     }
+    let x = refusals::seat(t, p);
     let bad = is_bad(x, d, place);
     if bad {
-        return 14;
+        return Err(Refusal::Day);
     }
-    let n = d.count;
-    number_refusal(m, n, driver, start, entry)
+    check_numbers(m, d.count, driver, start, entry)
 }
 
 // ---- the put and the step
@@ -187,11 +184,10 @@ fn day_put(
     let e = r.entry as u32;
     let f = r.first as u32;
     let z = accepted::put(store, t, p, code, e, f, 0);
-    let a = z.answer;
-    let after = z.table;
+    let table = z.table;
     DayServed {
-        table: after,
-        answer: rename(n as u32, place, a),
+        table,
+        answer: rename(n as u32, place, z.answer),
     }
 }
 
@@ -201,11 +197,10 @@ fn day_step(store: &mut [u32], t: [Session; PARTIES], p: u32, n: usize, place: u
 {
     let mut list = [0u32; 0];
     let z = stepping::step(store, &mut list, t, p);
-    let a = z.answer;
-    let after = z.table;
+    let table = z.table;
     DayServed {
-        table: after,
-        answer: rename(n as u32, place, a),
+        table,
+        answer: rename(n as u32, place, z.answer),
     }
 }
 
@@ -225,18 +220,12 @@ pub fn day(
 {
     let m = words::entries(store);
     let d = read_day(bytes, driver, start, entry, place);
-    let i = day_refusal(m, t, p, bytes, d, driver, start, entry, place);
-    if i != 0 {
-        return DayServed {
-            table: t,
-            answer: DayAnswer::Refused(i, 0),
-        };
+    if let Err(refusal) = check_day(m, t, p, bytes, d, driver, start, entry, place) {
+        return DayServed::refused(t, refusal);
     }
-    let n = d.count;
     let busy = refusals::has_request(t, p);
     if busy {
-        return day_step(store, t, p, n, place);
+        return day_step(store, t, p, d.count, place);
     }
-    let r = d.request;
-    day_put(store, t, p, n, r, place)
+    day_put(store, t, p, d.count, d.request, place)
 }

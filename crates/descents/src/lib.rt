@@ -5,7 +5,7 @@
 // else the party and 1. The functions write what they are told to: whether a step is the right one is not decided here.
 //
 // Each function promises that the words it leaves, and what it answers, EQUAL a definition of specs/Descents, where also stands what it
-// asks for. It rests on the crates words, nodes, reshaping and chain, and on locks for how many sessions there are.
+// asks for. It rests on the crates words, kinds, nodes, reshaping and chain, and on locks for how many sessions there are.
 #![tactic(auto)]
 
 ghost use Rattle.std.specs.Prelude.{◌≡◌, ◌≤◌, ◌<◌};
@@ -15,22 +15,17 @@ ghost use Rattle.chain.specs.Free.{Poppable};
 ghost use Rattle.locks.specs.Holders.{width};
 ghost use Rattle.descents.specs.Descents.{Toward, plain_son, CanInsert, beside, insert_leaf, CanRemove, remove_leaf, has_free, in_way, first_in_way};
 
+use kinds::Record;
 use nodes::Node;
 
 // ---- latches
 
-// The party and 1 whose latch word w is in party p's way, 0 for none.
+// The party and 1 whose latch word w is in party p's way, 0 for none: so a latch word has them, and so the definition in_way.
 pub fn in_way(p: u32, w: u32) -> u32
     requires { p ≤ width }
     ensures { result ≡ in_way p w }
 {
-    if w == 0 {
-        return 0;
-    }
-    if w == p + 1 {
-        return 0;
-    }
-    w
+    if w == 0 || w == p + 1 { 0 } else { w }
 }
 
 // Of two latch words the first that is in party p's way.
@@ -39,10 +34,7 @@ pub fn first_in_way(p: u32, v: u32, w: u32) -> u32
     ensures { result ≡ first_in_way p v w }
 {
     let first = in_way(p, v);
-    if first == 0 {
-        return in_way(p, w);
-    }
-    first
+    if first == 0 { in_way(p, w) } else { first }
 }
 
 // At least n records are free.
@@ -70,10 +62,9 @@ pub fn son_toward(store: &[u32], m: usize, at: usize, key: u32) -> usize
     requires { Toward store.now m at key }
     ensures { result ≡ son_toward store.now m at key }
 {
-    let p = nodes::load_node(store, m, at);
-    let i = nodes::find_son(p, key);
-    let d = nodes::node_son(store, m, at, i) as usize;
-    d
+    let p = Node::load(store, m, at);
+    let i = p.find_son(key);
+    nodes::node_son(store, m, at, i) as usize
 }
 
 // Releases node `at` and latches its son on the path to the key: that son.
@@ -95,9 +86,10 @@ fn put_beside(p: Node, i: usize, key: u32, k: u32, new: u32) -> Node
     ensures { result ≡ beside p i key k new }
 {
     if key <= k {
-        return reshaping::insert_before(p, i, key, new);
+        reshaping::insert_before(p, i, key, new)
+    } else {
+        reshaping::insert_behind(p, i, k, new)
     }
-    reshaping::insert_behind(p, i, k, new)
 }
 
 // The lowest node `at` gets the descriptor `new` of a key, and is released.
@@ -105,12 +97,12 @@ pub fn insert_leaf(store: &mut [u32], m: usize, at: usize, key: u32, new: u32)
     requires { CanInsert store.old m at key }
     ensures { store.new ≡ insert_leaf store.old m at key new }
 {
-    let p = nodes::load_node(store, m, at);
-    let i = nodes::find_son(p, key);
+    let p = Node::load(store, m, at);
+    let i = p.find_son(key);
     let d = nodes::node_son(store, m, at, i) as usize;
     let k = words::word(store, m, d, 1);
     let wider = put_beside(p, i, key, k, new);
-    nodes::write_node(store, m, at, nodes::with_latch(wider, 0)); // leaf in
+    wider.with_latch(0).write(store, m, at); // leaf in
 }
 
 // The lowest node `at` loses the descriptor on the path to the key, and is released.
@@ -118,8 +110,8 @@ pub fn remove_leaf(store: &mut [u32], m: usize, at: usize, key: u32)
     requires { CanRemove store.old m at }
     ensures { store.new ≡ remove_leaf store.old m at key }
 {
-    let p = nodes::load_node(store, m, at);
-    let i = nodes::find_son(p, key);
+    let p = Node::load(store, m, at);
+    let i = p.find_son(key);
     let fewer = reshaping::remove_son(p, i);
-    nodes::write_node(store, m, at, nodes::with_latch(fewer, 0)); // leaf out
+    fewer.with_latch(0).write(store, m, at); // leaf out
 }

@@ -16,7 +16,9 @@ ghost use Rattle.endings.specs.Fresh.{Roomy, fresh_header, fresh_entry, fresh_en
 ghost use Rattle.endings.specs.Table.{logged_by, idled, unbegun, newly_begun, asked_now, requested};
 
 use groups::Descriptor;
-use sessions::Session;
+use kinds::Record;
+use nodes::Node;
+use sessions::{Session, Stage};
 
 // ---- a session's locks end
 
@@ -36,9 +38,7 @@ pub fn leave_entries(store: &mut [u32], m: usize, p: u32)
     requires { HasEntries store.old m × IsSession p }
     ensures { store.new ≡ leave_entries store.old p m }
 {
-    let mut e = 0;
-    while e < m {
-        e += 1;
+    for e in 1..m + 1 {
         leave_entry(store, e, p);
     }
 }
@@ -51,7 +51,7 @@ fn left_descriptor(d: Descriptor, p: u32) -> Descriptor
     let locate = locks::without_session(d.locate, p);
     let update = locks::without_session(d.update, p);
     let gap = locks::without_session(d.gap, p);
-    groups::release_session(d, locate, update, gap)
+    d.release_session(locate, update, gap)
 }
 
 // Session p leaves the holders of the descriptor at record i.
@@ -59,8 +59,8 @@ fn leave_group(store: &mut [u32], m: usize, i: usize, p: u32)
     requires { HasRecord store.old m i × IsSession p }
     ensures { store.new ≡ leave_group store.old m p i }
 {
-    let d = groups::load_descriptor(store, m, i);
-    groups::write_descriptor(store, m, i, left_descriptor(d, p));
+    let d = Descriptor::load(store, m, i);
+    left_descriptor(d, p).write(store, m, i);
 }
 
 // Session p leaves the holders of every descriptor from record i on, at most r of them.
@@ -69,12 +69,13 @@ pub fn leave_groups(store: &mut [u32], m: usize, r: usize, i: usize, p: u32)
     ensures { store.new ≡ leave_groups store.old m p r i }
 {
     let mut d = i;
-    let mut left = r;
-    while d != 0 {
+    for _turn in 0..r {
+        if d == 0 {
+            return;
+        }
         let next = words::word(store, m, d, 0) as usize;
         leave_group(store, m, d, p);
         d = next;
-        left -= 1;
     }
 }
 
@@ -107,9 +108,7 @@ fn fresh_entries(store: &mut [u32], m: usize)
     requires { HasEntries store.old m }
     ensures { store.new ≡ fresh_entries store.old m }
 {
-    let mut e = 0;
-    while e < m {
-        e += 1;
+    for e in 1..m + 1 {
         fresh_entry(store, e);
     }
 }
@@ -134,10 +133,8 @@ fn fresh_free(store: &mut [u32], m: usize, r: usize)
     requires { Roomy store.old m r }
     ensures { store.new ≡ fresh_free store.old m 3 (r - 2) }
 {
-    let mut i = r;
-    while 2 < i {
+    for i in (3..r + 1).rev() {
         chain::push_free(store, m, i);
-        i -= 1;
     }
 }
 
@@ -148,8 +145,8 @@ pub fn fresh_store(store: &mut [u32], m: usize, r: usize)
 {
     fresh_header(store, m as u32, r as u32);
     fresh_entries(store, m);
-    nodes::write_node(store, m, 1, nodes::lone_node(2));
-    groups::write_descriptor(store, m, 2, zero_descriptor());
+    Node::lone(2).write(store, m, 1);
+    zero_descriptor().write(store, m, 2);
     fresh_free(store, m, r);
 }
 
@@ -159,30 +156,14 @@ pub fn fresh_store(store: &mut [u32], m: usize, r: usize)
 pub fn fresh_session() -> Session
     ensures { result ≡ idle_session }
 {
-    Session {
-        begun: 0,
-        code: 0,
-        entry: 0,
-        first: 0,
-        second: 0,
-        stage: 0,
-        target: 0,
-        at: 0,
-        level: 0,
-        low: 0,
-        high: 0,
-        last: 0,
-        undo: 0,
-        order: 0,
-        asked: 0,
-    }
+    Session::default()
 }
 
 // The request in hand ends.
 pub fn idle_session(mut x: Session) -> Session
     ensures { result ≡ idled x }
 {
-    x.stage = 0;
+    x.stage = Stage::Idle as u32;
     x
 }
 
@@ -190,7 +171,7 @@ pub fn idle_session(mut x: Session) -> Session
 pub fn logged_session(mut x: Session, i: u32) -> Session
     ensures { result ≡ logged_by x i }
 {
-    x.stage = 0;
+    x.stage = Stage::Idle as u32;
     x.undo = i;
     x
 }
@@ -200,7 +181,7 @@ pub fn ended_session(mut x: Session) -> Session
     ensures { result ≡ unbegun x }
 {
     x.begun = 0;
-    x.stage = 0;
+    x.stage = Stage::Idle as u32;
     x.undo = 0;
     x.order = 0;
     x.asked = 0;
@@ -212,7 +193,7 @@ pub fn begun_session(mut x: Session, number: u32) -> Session
     ensures { result ≡ newly_begun x number }
 {
     x.begun = 1;
-    x.stage = 0;
+    x.stage = Stage::Idle as u32;
     x.undo = 0;
     x.order = number;
     x.asked = 0;
@@ -240,20 +221,17 @@ pub fn put_session(
     ensures { result ≡ requested x code entry first second stage target }
 {
     Session {
-        begun: x.begun,
-        code: code,
-        entry: entry,
-        first: first,
-        second: second,
-        stage: stage,
-        target: target,
+        code,
+        entry,
+        first,
+        second,
+        stage,
+        target,
         at: 0,
         level: 0,
         low: 0,
         high: 0,
         last: 0,
-        undo: x.undo,
-        order: x.order,
-        asked: x.asked,
+        ..x
     }
 }

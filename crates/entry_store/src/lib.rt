@@ -18,7 +18,7 @@ ghost use Rattle.store.specs.Days.{DayBy};
 ghost use Rattle.entry_store.specs.Exported.{Told, Stepped, ToldMade, ToldBatch, ToldDay, WritesOut, Names, Looked};
 ghost use Rattle.looking.specs.Told.{FreeTold, HoldersTold};
 
-use outcomes::Answer;
+use outcomes::{Answer, Refusal};
 use sessions::{PARTIES, Session};
 use store::{DayAsk, Go, PutArgs, Wish};
 
@@ -56,11 +56,11 @@ pub extern "C" fn entry_store_put(
     ensures { Told Put store.old table.old (record { party = party; code = code; entry = entry; first = first; second = second }) result store.new table.new }
 {
     let k = PutArgs {
-        party: party,
-        code: code,
-        entry: entry,
-        first: first,
-        second: second,
+        party,
+        code,
+        entry,
+        first,
+        second,
     };
     let a = store::put(store, table, k);
     packing::pack(a)
@@ -129,10 +129,7 @@ pub extern "C" fn entry_store_run(
 ) -> u64
     ensures { ToldMade RanBy store.old table.old list.old (record { party = party; most = most }) result store.new table.new list.new }
 {
-    let k = Go {
-        party: party,
-        most: most,
-    };
+    let k = Go { party, most };
     let m = store::run(store, table, list, k);
     packing::pack_made(m)
 }
@@ -153,12 +150,12 @@ pub extern "C" fn entry_store_request(
     ensures { ToldMade AskedBy store.old table.old list.old (record { party = party; code = code; entry = entry; first = first; second = second; most = most }) result store.new table.new list.new }
 {
     let k = Wish {
-        party: party,
-        code: code,
-        entry: entry,
-        first: first,
-        second: second,
-        most: most,
+        party,
+        code,
+        entry,
+        first,
+        second,
+        most,
     };
     let m = store::request(store, table, list, k);
     packing::pack_made(m)
@@ -196,18 +193,15 @@ pub extern "C" fn entry_store_day(
     ensures { ToldDay DayBy store.old table.old bytes.now (record { party = party; driver = driver; start = day_start; entry = entry; place = place }) result store.new table.new }
 {
     let k = DayAsk {
-        party: party,
-        driver: driver,
+        party,
+        driver,
         start: day_start,
-        entry: entry,
-        place: place,
+        entry,
+        place,
     };
     let a = store::day(store, table, bytes, k);
     packing::pack_day(a)
 }
-
-// The refusal of pairs and values that are no day's.
-const NO_DAY: u32 = 103;
 
 // The bytes of a day, from the pairs of key and entry that a locate of it wrote, and the values that reads of these entries answered; done with how many
 // bytes. Refused where they are no day's, or too many for the lent bytes.
@@ -227,7 +221,7 @@ pub extern "C" fn entry_store_day_bytes(
         let done = Answer::Done(n as u32);
         return packing::pack(done);
     }
-    let refused = Answer::Refused(NO_DAY, 0);
+    let refused = Answer::Refused(Refusal::NoDay as u32, 0);
     packing::pack(refused)
 }
 
@@ -247,8 +241,10 @@ const TABLE: u32 = 11;
 fn fault_by_value(store: &[u32], t: [Session; PARTIES]) -> u32
     ensures { Names store.now t result }
 {
-    let c = sound::first_fault(store, t);
-    c.fault
+    match sound::first_fault(store, t) {
+        Ok(_) => 0,
+        Err(fault) => fault.number(),
+    }
 }
 
 // The first part of soundness that store and table break, 0 for none: exactly if they are sound.

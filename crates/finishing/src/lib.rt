@@ -9,60 +9,47 @@ ghost use Rattle.std.specs.Prelude.{◌≡◌};
 ghost use Rattle.endings.specs.Table.{idled};
 ghost use Rattle.finishing.specs.Finishing.{has_pinned, LatchEnds, LowEnds, HighEnds, Endable, end_latch, end_low, end_high, end_request};
 
-use sessions::Session;
+use sessions::{Code, Session, Stage};
 
 // The latch of a descent that stands at a node.
 fn end_latch(store: &mut [u32], m: usize, x: Session)
     requires { LatchEnds store.old m x }
     ensures { store.new ≡ end_latch store.old m x }
 {
-    if x.stage != 3 {
-        return;
+    if x.stage == Stage::AtNode as u32 {
+        nodes::set_latch(store, m, x.at as usize, 0);
     }
-    let at = x.at as usize;
-    nodes::set_latch(store, m, at, 0);
 }
 
 // Whether the request has pinned the descriptor of first.
 fn has_pinned(x: Session) -> bool
     ensures { result ≡ has_pinned x }
 {
-    if x.stage == 4 {
+    if x.stage == Stage::Change as u32 {
         return true;
     }
-    if x.stage == 5 {
+    if x.stage == Stage::Take as u32 {
         return true;
     }
-    if x.code != 5 {
-        return false;
-    }
-    x.target != x.first
+    x.code == Code::Locate as u32 && x.target != x.first
 }
 
 fn end_low(store: &mut [u32], m: usize, x: Session)
     requires { LowEnds store.old m x }
     ensures { store.new ≡ end_low store.old m x }
 {
-    let pinned = has_pinned(x);
-    if !pinned {
-        return;
+    if has_pinned(x) {
+        members::unpin_at(store, m, x.low as usize);
     }
-    let low = x.low as usize;
-    members::unpin_at(store, m, low);
 }
 
 fn end_high(store: &mut [u32], m: usize, x: Session)
     requires { HighEnds store.old m x }
     ensures { store.new ≡ end_high store.old m x }
 {
-    if x.stage != 5 {
-        return;
+    if x.stage == Stage::Take as u32 && x.first != x.second {
+        members::unpin_at(store, m, x.high as usize);
     }
-    if x.first == x.second {
-        return;
-    }
-    let high = x.high as usize;
-    members::unpin_at(store, m, high);
 }
 
 // The request in hand of a session record ends: the record with none.

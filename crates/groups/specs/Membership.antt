@@ -24,6 +24,10 @@ membership_at s m i = read_at membership_kind s m i
 abbrev pub put_membership : List ℕ → ℕ → ℕ → Membership → List ℕ
 put_membership s m i b = write_at membership_kind s m i b
 
+pub decode-encode : (b : Membership) → decode_membership (encode_membership b) ≡ b
+unfolding decode_membership encode_membership
+decode-encode b = refl
+
 -- ---- by value: its neighbours in the chain of members
 
 unfoldable pub with_next_member : Membership → ℕ → Membership

@@ -9,9 +9,9 @@ ghost use Rattle.std.specs.Prelude.{◌≡◌, cond, ◌&&◌, ◌||◌, ◌≤�
 ghost use Rattle.locks.specs.Rule.{agrees_of};
 ghost use Rattle.locks.specs.Holders.{held_by};
 ghost use Rattle.sessions.specs.Sessions.{parties, is_begun};
-ghost use Rattle.marks.specs.Marks.{HasRecords};
 ghost use Rattle.holders.specs.Holders.{within, lone, alone, agree, holders_ok, begun_mask, entries_from};
 
+use marks::Records;
 use sessions::{PARTIES, Session};
 
 // ---- two words
@@ -126,28 +126,23 @@ pub fn begun_mask(t: [Session; PARTIES]) -> u32
     ensures { result ≡ begun_mask t }
 {
     let mut mask = 0;
-    let mut p = 1;
-    while p < PARTIES {
-        let s = t[p];
-        mask = with_if(is_begun(s), mask, p);
-        p += 1;
+    for p in 1..PARTIES {
+        mask = with_if(is_begun(t[p]), mask, p);
     }
     mask
 }
 
 // Every entry's holders.
-pub fn entries_ok(store: &[u32], m: usize, r: usize, begun: u32) -> bool
-    requires { HasRecords store.now m r }
-    ensures { result ≡ entries_from store.now begun 1 m }
+pub fn entries_ok(records: Records, begun: u32) -> bool
+    ensures { result ≡ entries_from records.entry.store.now begun 1 records.entry.m }
 {
-    let mut e = 1;
-    while e <= m {
+    let Records { store, m, .. } = records;
+    for e in 1..m + 1 {
         let share = words::entry_word(store, e, 1);
         let exclusive = words::entry_word(store, e, 2);
         if !holders_ok(0, share, exclusive, begun) {
             return false;
         }
-        e += 1;
     }
     true
 }

@@ -8,9 +8,9 @@ use lib.Dec.{eqb, leb}
 use lib.ListN.{get_or}
 use borrow.Author.Tests.{eqb-false, leb-true, not-true}
 use Rattle.sessions.specs.declared.Session.{Session}
-use Rattle.marks.specs.declared.Chain.{Chain}
+use Rattle.std.specs.Prelude.{Option, Some, None}
 use Rattle.marks.specs.Steps.{both}
-use Rattle.marks.specs.Trail.{Trail, ends, then_trail, Ends, trail-as, ended-as}
+use Rattle.marks.specs.Trail.{Trail, then_trail, Ends, trail-as, trail-none, ended-as}
 use Rattle.holders.proofs.Turns.{one_less}
 use Rattle.passing.specs.declared.Asked.{Asked}
 use Rattle.passing.specs.Asked.{asked_at}
@@ -34,24 +34,24 @@ group-start {s} {order} {tally} {f} {m} {r} {begun} {t} {seen} {l} {left} {count
     record { is = ap (groups_from s order tally f m r begun t count seen l left 0) z }
 
 module _ {whole : Trail (List ℕ)} {s order tally f : List ℕ} {m r begun : ℕ} {t : List Session} {count : ℕ} {seen l : List ℕ} {left k rest : ℕ} (g : Grouping whole s order tally f m r begun t count seen l left k rest) where
-  pub group-end : rest ≡ 0 → Ends _ whole (record { ok = true; left = left }) seen l
+  pub group-end : rest ≡ 0 → Ends _ whole (Some left) seen l
   unfolding groups_from
-  group-end z = ended-as (ap (groups_from s order tally f m r begun t count seen l left k) (sym z) ∙ g.is) refl
+  group-end z = ended-as (ap (groups_from s order tally f m r begun t count seen l left k) (sym z) ∙ g.is)
 
-  module _ {key next : ℕ} {asked : Asked} {w : Chain} {seen' l' : List ℕ} (h : 0 < rest) (ek : key ≡ key_of s m r (get_or order k 0)) (en : next ≡ key_at s order m r count (k + 1)) (ea : asked ≡ asked_at t key next) (q : Ends _ (group_one s tally f m r begun asked seen l (get_or order k 0) left) w seen' l') where
-    group-as : {b : Bool} → w.ok ≡ b
-        → then_trail (ends b w.left seen' l') (λ v. groups_from s order tally f m r begun t count v.seen v.held v.left (k + 1) (rest - 1)) ≡ whole
+  module _ {key next : ℕ} {asked : Asked} {w : Option ℕ} {seen' l' : List ℕ} (h : 0 < rest) (ek : key ≡ key_of s m r (get_or order k 0)) (en : next ≡ key_at s order m r count (k + 1)) (ea : asked ≡ asked_at t key next) (q : Ends _ (group_one s tally f m r begun asked seen l (get_or order k 0) left) w seen' l') where
+    group-as : {v : Trail (List ℕ)} → group_one s tally f m r begun asked seen l (get_or order k 0) left ≡ v
+        → then_trail v (λ v. groups_from s order tally f m r begun t count v.seen v.held v.left (k + 1) (rest - 1)) ≡ whole
     unfolding groups_from
-    group-as {b} o =
+    group-as o =
         let e : asked ≡ asked_at t (key_of s m r (get_or order k 0)) (key_at s order m r count (k + 1)) = ea ∙ ap (λ (x : ℕ). asked_at t x next) ek ∙ ap (asked_at t (key_of s m r (get_or order k 0))) en in
-        ap (λ (x : Trail (List ℕ)). then_trail x (λ v. groups_from s order tally f m r begun t count v.seen v.held v.left (k + 1) (rest - 1))) (sym (trail-as q o))
+        ap (λ (x : Trail (List ℕ)). then_trail x (λ v. groups_from s order tally f m r begun t count v.seen v.held v.left (k + 1) (rest - 1))) (sym o)
         ∙ ap (λ (y : Asked). then_trail (group_one s tally f m r begun y seen l (get_or order k 0) left) (λ v. groups_from s order tally f m r begun t count v.seen v.held v.left (k + 1) (rest - 1))) e
         ∙ ap (groups_from s order tally f m r begun t count seen l left k) (sym (one_less rest h))
         ∙ g.is
 
-    pub group-bad : w.ok ≡ false → Ends _ whole w seen' l'
-    group-bad o = ended-as (group-as o) o
+    pub group-bad : w ≡ None → Ends _ whole None seen' l'
+    group-bad o = ended-as (group-as (trail-none q o))
 
-    pub group-more : {rest' : ℕ} → w.ok ≡ true → rest' ≡ rest - 1 → Grouping whole s order tally f m r begun t count seen' l' w.left (k + 1) rest'
-    group-more {rest'} o z =
-        record { is = ap (groups_from s order tally f m r begun t count seen' l' w.left (k + 1)) z ∙ group-as o }
+    pub group-more : {rest' n : ℕ} → w ≡ Some n → rest' ≡ rest - 1 → Grouping whole s order tally f m r begun t count seen' l' n (k + 1) rest'
+    group-more {rest'} {n} o z =
+        record { is = ap (groups_from s order tally f m r begun t count seen' l' n (k + 1)) z ∙ group-as (trail-as q o) }

@@ -14,6 +14,7 @@ ghost use Rattle.nodes.specs.Paths.{son_at};
 ghost use Rattle.reshaping.specs.Ops.{join_nodes, move_from_left, move_from_right};
 ghost use Rattle.joins.specs.Joins.{pair_place, CanBeOne, CanJoin, join_sons, CanGoRight, CanMoveRight, move_right, CanGoLeft, CanMoveLeft, move_left, HasDown, down_bound};
 
+use kinds::Record;
 use nodes::Node;
 use reshaping::Neighbours;
 
@@ -24,7 +25,7 @@ pub fn pair_place(n: Node, key: u32) -> usize
     requires { (1 ≤ n.count) × (n.count ≤ 8) }
     ensures { result ≡ pair_place n key }
 {
-    let i = nodes::find_son(n, key);
+    let i = n.find_son(key);
     if i == 0 {
         return 0;
     }
@@ -60,8 +61,8 @@ fn joined(store: &[u32], m: usize, l: usize, down: u32, r: usize) -> Node
     requires { CanBeOne store.now m l r }
     ensures { result ≡ join_nodes (node_at store.now m l) down (node_at store.now m r) }
 {
-    let left = nodes::load_node(store, m, l);
-    let right = nodes::load_node(store, m, r);
+    let left = Node::load(store, m, l);
+    let right = Node::load(store, m, r);
     reshaping::join_nodes(left, down, right)
 }
 
@@ -70,26 +71,26 @@ pub fn join_sons(store: &mut [u32], m: usize, at: usize, i: usize, down: u32, w:
     requires { CanJoin store.old m at i }
     ensures { (result ≡ son_at store.old m at i) × (store.new ≡ join_sons store.old m at i down w) }
 {
-    let p = nodes::load_node(store, m, at);
+    let p = Node::load(store, m, at);
     let l = nodes::node_son(store, m, at, i) as usize;
     let q = nodes::node_son(store, m, at, i + 1) as usize;
     let one = joined(store, m, l, down, q);
-    nodes::write_node(store, m, l, nodes::with_latch(one, w));
+    one.with_latch(w).write(store, m, l);
     let fewer = reshaping::remove_behind(p, i);
-    nodes::write_node(store, m, at, nodes::with_latch(fewer, 0)); // join
+    fewer.with_latch(0).write(store, m, at); // join
     chain::push_free(store, m, q);
     l
 }
 
-// ---- one son moved
+// ---- one son moved: to the right and to the left, each written out, since they latch different sons and their clauses ask for different room
 
 // Nodes l and r with the left one's last son moved right, and with the right one's first son moved left.
 fn moved_right(store: &[u32], m: usize, l: usize, down: u32, r: usize) -> Neighbours
     requires { CanGoRight store.now m l r }
     ensures { result ≡ move_from_left (node_at store.now m l) down (node_at store.now m r) }
 {
-    let left = nodes::load_node(store, m, l);
-    let right = nodes::load_node(store, m, r);
+    let left = Node::load(store, m, l);
+    let right = Node::load(store, m, r);
     reshaping::move_from_left(left, down, right)
 }
 
@@ -97,8 +98,8 @@ fn moved_left(store: &[u32], m: usize, l: usize, down: u32, r: usize) -> Neighbo
     requires { CanGoLeft store.now m l r }
     ensures { result ≡ move_from_right (node_at store.now m l) down (node_at store.now m r) }
 {
-    let left = nodes::load_node(store, m, l);
-    let right = nodes::load_node(store, m, r);
+    let left = Node::load(store, m, l);
+    let right = Node::load(store, m, r);
     reshaping::move_from_right(left, down, right)
 }
 
@@ -107,14 +108,14 @@ pub fn move_right(store: &mut [u32], m: usize, at: usize, i: usize, down: u32, w
     requires { CanMoveRight store.old m at i }
     ensures { (result ≡ son_at store.old m at (i + 1)) × (store.new ≡ move_right store.old m at i down w) }
 {
-    let p = nodes::load_node(store, m, at);
+    let p = Node::load(store, m, at);
     let l = nodes::node_son(store, m, at, i) as usize;
     let q = nodes::node_son(store, m, at, i + 1) as usize;
     let n = moved_right(store, m, l, down, q);
-    nodes::write_node(store, m, l, n.left);
-    nodes::write_node(store, m, q, nodes::with_latch(n.right, w));
+    n.left.write(store, m, l);
+    n.right.with_latch(w).write(store, m, q);
     let other = reshaping::set_bound(p, i, n.up);
-    nodes::write_node(store, m, at, nodes::with_latch(other, 0)); // right
+    other.with_latch(0).write(store, m, at); // right
     q
 }
 
@@ -123,13 +124,13 @@ pub fn move_left(store: &mut [u32], m: usize, at: usize, i: usize, down: u32, w:
     requires { CanMoveLeft store.old m at i }
     ensures { (result ≡ son_at store.old m at i) × (store.new ≡ move_left store.old m at i down w) }
 {
-    let p = nodes::load_node(store, m, at);
+    let p = Node::load(store, m, at);
     let l = nodes::node_son(store, m, at, i) as usize;
     let q = nodes::node_son(store, m, at, i + 1) as usize;
     let n = moved_left(store, m, l, down, q);
-    nodes::write_node(store, m, l, nodes::with_latch(n.left, w));
-    nodes::write_node(store, m, q, n.right);
+    n.left.with_latch(w).write(store, m, l);
+    n.right.write(store, m, q);
     let other = reshaping::set_bound(p, i, n.up);
-    nodes::write_node(store, m, at, nodes::with_latch(other, 0)); // left
+    other.with_latch(0).write(store, m, at); // left
     l
 }

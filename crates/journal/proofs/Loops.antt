@@ -1,21 +1,22 @@
 -- Theorems of specs/Loops: what it defines is there.
 use Rattle.std.specs.Prelude.{◌≡◌, false, ◌&&◌, List, ℕ, ◌+◌, ◌-◌, ◌≤◌, length}
-use Rattle.std.proofs.Common.{sym, ◌∙◌, arith}
+use Rattle.std.proofs.Common.{sym, subst, ◌∙◌, arith}
 use Rattle.std.proofs.Math.Path.{ap}
 use Rattle.std.proofs.Math.Bool.{true}
 use Rattle.serial.specs.Serial.{after}
-use Rattle.serial.specs.Model.{Db}
+use Rattle.serial.specs.Model.{Db, empty}
 use Rattle.serial.specs.Footprints.{store}
 use Rattle.journal_reader.specs.declared.Record.{Record}
-use Rattle.journal_reader.specs.Record.{record_at}
-use Rattle.journal_lines.specs.Journal.{said, proper, of_run, committed_in, committed}
-use Rattle.replay.specs.Held.{held}
-use Rattle.journal.specs.declared.Stand.{Stand}
+use Rattle.journal_reader.specs.Record.{records, record_at}
+use Rattle.journal_lines.specs.Journal.{said, of_run, committed_in, committed}
+use Rattle.replay.specs.declared.Database.{Database}
+use Rattle.replay.specs.Held.{held, Ready}
+use Rattle.replay.specs.Databases.{model_of, IsReady}
 use Rattle.journal.specs.Fits.{fits, fits_all}
 use Rattle.journal.specs.Room.{total}
 use Rattle.journal.specs.Located.{line_at}
-use Rattle.journal.specs.Runs.{Replays}
-use Rattle.journal.specs.Loops.{Replayable, closed_by, fits_more, total-split, Closable, close-own, GoingOn, place-on}
+use Rattle.journal.specs.Runs.{Stand, Replays}
+use Rattle.journal.specs.Loops.{Replayable, closed_by, fits_more, total-split, Closable, close-own, Past16, GoingOn, going-on-start, place-on}
 
 -- ---- the committed runs
 
@@ -63,3 +64,12 @@ module _ (bs : List ℕ) (d : Db) (vs ks es : List ℕ) (n at left : ℕ) (c : G
         room = omega (arith, room-on, k.few);
         is = ap (λ x. fits_all (committed_in (said bs) (place-on bs d vs ks es n at left c r h e).later) x) (k.is t) ∙ (rw (← k.same, t) at fits-first);
       }
+
+-- ---- an empty Database
+
+pub going-on-new : (bs : List ℕ) (d : Database) (left : ℕ) → Past16 bs → IsReady d → ◌≡◌ {A = ℕ} d.count 0 → model_of d ≡ empty → left ≡ records bs
+    → GoingOn bs empty d.values d.keys d.entries d.count 1 left
+going-on-new bs d left o r z m h =
+    subst (λ (e : Db). GoingOn bs e d.values d.keys d.entries d.count 1 left) m
+    (subst (λ (n : ℕ). GoingOn bs (held d.values d.keys d.entries n) d.values d.keys d.entries n 1 left) (sym z)
+    (going-on-start bs d.values d.keys d.entries left o (subst (Ready d.values d.keys d.entries) z r) h))

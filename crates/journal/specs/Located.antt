@@ -1,7 +1,8 @@
 -- Whether a locate's list and answer are the model's: a walk of the memberships beside the list's chain.
-use Rattle.std.specs.Prelude.{◌≡◌, Bool, true, false, cond, ◌&&◌, ℕ, suc, ◌+◌, ◌≤◌, ◌<◌, leb, take, drop}
+use Rattle.std.specs.Prelude.{◌≡◌, Bool, true, false, cond, ◌&&◌, ◌⊎◌, Option, Some, None, ℕ, suc, ◌+◌, ◌≤◌, ◌<◌, leb, take, drop}
 use Rattle.std.proofs.Math.Path.{refl}
-use Rattle.std.proofs.Common.{sym, ◌∙◌, ap, zero-add, add-one, arith, drop_of_length-le, drop-cons, get_or-take, length-take-le, leb-true, leb-false, le-leb, eq-eqb, ne_eqb}
+use Rattle.std.proofs.Math.Decide.{dec_le}
+use Rattle.std.proofs.Common.{inl, inr, sym, ◌∙◌, ap, zero-add, add-one, arith, drop_of_length-le, drop-cons, get_or-take, length-take-le, leb-true, leb-false, le-leb, eq-eqb, ne_eqb}
 use mathlib.Core.List.{List, [], ◌∷◌}
 use Rattle.std.proofs.Math.Dec.{eqb}
 use Rattle.std.proofs.Math.ListN.{length, get_or}
@@ -14,7 +15,6 @@ use Rattle.journal_reader.specs.Record.{record_at}
 use Rattle.journal_lines.specs.Journal.{Line, is_some, or_empty, line_of, list_of}
 use Rattle.journal_lines.specs.Walks.{some-or-empty, Pairs, list-pairs}
 use Rattle.replay.specs.Held.{paired, members_in}
-use Rattle.journal.specs.declared.Place.{Place}
 use Rattle.journal.specs.Fits.{same_ans, same_pairs, list_answer, same_lists}
 
 -- ---- the line of a record
@@ -55,6 +55,12 @@ still-none lo hi ks es n i h k =
     ap (λ l. only by_key (in_range lo hi) (paired l (drop i (take n es)))) (drop_of_length-le (take n ks) {i = i} (omega (arith, length-take-le n ks k)))
 
 -- ---- one membership
+
+-- Where the walk of a list stands: whether the list is still the model's, the index of its next record, how many memberships were met.
+pub record Place : Type 0 where
+  pub is_same : Bool
+  pub at : ℕ
+  pub met : ℕ
 
 -- The list differs.
 abbrev pub apart : Place → Place
@@ -232,3 +238,53 @@ locating-end bs r ks es n i p b c h k e =
         → (eqb p.at 0 && eqb r.answer p.met) ≡ lists_as bs r ks es n
     at [] w f = rw (eq-eqb p.at 0 w) (ap (λ m. eqb r.answer m) (omega arith) ∙ f)
     at (q ∷ qs) w f = rw (ne_eqb p.at 0 (λ z. omega (arith, w.0, z))) f
+
+-- ---- the walk while the list is the model's
+
+-- The index behind the list's next record, if that has this key and this entry.
+abbrev pub next_of : List ℕ → ℕ → ℕ → ℕ → Option ℕ
+next_of bs at key entry =
+    let r = record_at bs at in cond (eqb at 0) None (cond (eqb r.run key && eqb r.code entry) (Some r.next) None)
+
+abbrev pub going : ℕ → ℕ → Place
+going at met = record { is_same = true; at = at; met = met }
+
+abbrev placed : Place → Option ℕ → Place
+placed p None = apart p
+placed p (Some next) = going next (p.met + 1)
+
+matched-placed : (bs : List ℕ) (p : Place) (key entry : ℕ) → matched bs p key entry ≡ placed p (next_of bs p.at key entry)
+unfolding matched
+matched-placed bs p key entry = go (eqb p.at 0) (eqb (record_at bs p.at).run key && eqb (record_at bs p.at).code entry)
+  where
+    go : (a b : Bool) → cond a (apart p) (cond b (going (record_at bs p.at).next (p.met + 1)) (apart p))
+        ≡ placed p (cond a None (cond b (Some (record_at bs p.at).next) None))
+    go true b = refl
+    go false true = refl
+    go false false = refl
+
+module _ (bs : List ℕ) (r : Record) (ks es : List ℕ) (n i at met : ℕ) (c : Locating bs r ks es n i (going at met)) (h : i < n) (k : n ≤ length ks) (l : n ≤ length es) where
+  -- A membership outside first to second.
+  pub locating-outside : (get_or ks i 0 < r.first) ⊎ (r.second < get_or ks i 0) → Locating bs r ks es n (i + 1) (going at met)
+  locating-outside o = locating-more bs r ks es n i (going at met) (going at met) c h k l (go o (dec_le r.first (get_or ks i 0))) refl
+    where
+      go : (get_or ks i 0 < r.first) ⊎ (r.second < get_or ks i 0) → Dec (r.first ≤ get_or ks i 0)
+          → going at met ≡ passed bs r.first r.second (going at met) (get_or ks i 0) (get_or es i 0)
+      go (inl x) d = pass_below bs r.first r.second (going at met) (get_or ks i 0) (get_or es i 0) x
+      go (inr x) (yes y) = pass-above bs r.first r.second (going at met) (get_or ks i 0) (get_or es i 0) y x
+      go (inr x) (no y) = pass_below bs r.first r.second (going at met) (get_or ks i 0) (get_or es i 0) (omega (arith, y))
+
+  inside_placed : (o : Option ℕ) → r.first ≤ get_or ks i 0 → get_or ks i 0 ≤ r.second → o ≡ next_of bs at (get_or ks i 0) (get_or es i 0)
+      → placed (going at met) o ≡ passed bs r.first r.second (going at met) (get_or ks i 0) (get_or es i 0)
+  inside_placed o x y e =
+      pass-inside bs r.first r.second (going at met) (placed (going at met) o) (get_or ks i 0) (get_or es i 0) x y
+      (ap (placed (going at met)) e ∙ sym (matched-placed bs (going at met) (get_or ks i 0) (get_or es i 0)))
+
+  -- A membership from first to second, which the list has next.
+  pub locating-inside : (next : ℕ) → r.first ≤ get_or ks i 0 → get_or ks i 0 ≤ r.second → Some next ≡ next_of bs at (get_or ks i 0) (get_or es i 0)
+      → Locating bs r ks es n (i + 1) (going next (met + 1))
+  locating-inside next x y e = locating-more bs r ks es n i (going at met) (going next (met + 1)) c h k l (inside_placed (Some next) x y e) refl
+
+  -- A membership from first to second, which the list lacks.
+  pub locating-lacks : r.first ≤ get_or ks i 0 → get_or ks i 0 ≤ r.second → None ≡ next_of bs at (get_or ks i 0) (get_or es i 0) → false ≡ lists_as bs r ks es n
+  locating-lacks x y e = locating-apart bs r ks es n i (going at met) (apart (going at met)) c h k l (inside_placed None x y e) refl

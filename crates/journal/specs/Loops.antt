@@ -1,25 +1,21 @@
 -- Walks of the main chain: a run replayed line by line, and the runs replayed commit by commit.
-use Rattle.std.specs.Prelude.{◌≡◌, refl, Bool, false, cond, ◌&&◌, List, [], ◌∷◌, ◌++◌, ℕ, ◌+◌, ◌-◌, ◌≤◌, ◌<◌, eqb, length, get_or, replicate}
+use Rattle.std.specs.Prelude.{◌≡◌, refl, Bool, false, cond, ◌&&◌, List, [], ◌∷◌, ◌++◌, ℕ, ◌+◌, ◌-◌, ◌≤◌, eqb, length}
 use Rattle.std.proofs.Common.{sym, ◌∙◌, arith, length-append, eq-eqb, ne_eqb}
 use Rattle.std.proofs.Math.Path.{ap}
 use Rattle.std.proofs.Math.Bool.{true, and-eq-true_iff}
 use Rattle.std.proofs.Math.Option.{some}
-use Rattle.std.proofs.Math.Decide.{dec_lt}
-use Rattle.std.proofs.lemmas.List.{length-replicate, get_or-replicate}
-use Rattle.std.proofs.Math.ListN.{get_or-eq_default}
 use Rattle.serial.specs.Serial.{Done, after}
-use Rattle.serial.specs.Model.{Db, empty}
+use Rattle.serial.specs.Model.{Db}
 use Rattle.serial.specs.Footprints.{store}
 use Rattle.journal_reader.specs.declared.Record.{Record}
 use Rattle.journal_reader.specs.Record.{records, record_at}
 use Rattle.journal_lines.specs.Journal.{Line, is_some, line_of, list_of, lines, or_empty, said, is_commit, proper, all_proper, all_end, feeds, of_run, committed_in, committed}
 use Rattle.journal_lines.specs.Walks.{some-or-empty, Rest, lines_rest, lines-few}
-use Rattle.replay.specs.Held.{paired, held, Ready}
-use Rattle.journal.specs.declared.Stand.{Stand}
+use Rattle.replay.specs.Held.{held, Ready}
 use Rattle.journal.specs.Fits.{fits, fits_all}
 use Rattle.journal.specs.Room.{total, room-for-all}
 use Rattle.journal.specs.Located.{line_at}
-use Rattle.journal.specs.Runs.{stands, Replays, replays-none, replays-apart, replays-then, Feedable}
+use Rattle.journal.specs.Runs.{Stand, stands, Replays, replays-none, replays-apart, replays-then, Feedable}
 
 -- ---- the chain
 
@@ -243,27 +239,3 @@ module _ (bs : List ℕ) (d : Db) (vs ks es : List ℕ) (n at left : ℕ) (c : G
 
     pub going-on-left : 1 ≤ left
     going-on-left = omega (arith, c.few, ap length place-on.is)
-
--- ---- the empty store
-
-zeros : (n e : ℕ) → ◌≡◌ {A = ℕ} (get_or (replicate n 0) e 0) 0
-zeros n e = go (dec_lt e n)
-  where
-    go : Dec (e < n) → ◌≡◌ {A = ℕ} (get_or (replicate n 0) e 0) 0
-    go (yes h) = get_or-replicate n e 0 0 h
-    go (no h) = get_or-eq_default (replicate n 0) 0 {n = e} (omega (arith, length-replicate {A = ℕ} n 0))
-
--- Values, keys and entries of zeros, none of them in use.
-pub zeros-empty : held (replicate 1025 0) (replicate 2048 0) (replicate 2048 0) 0 ≡ empty
-unfolding paired
-zeros-empty = λ i. record { values = λ e. zeros 1025 e i; members = [] }
-
-pub zeros-ready : Ready (replicate 1025 0) (replicate 2048 0) (replicate 2048 0) 0
-unfolding paired
-zeros-ready = record {
-  values = length-replicate {A = ℕ} 1025 0;
-  keys = length-replicate {A = ℕ} 2048 0;
-  entries = length-replicate {A = ℕ} 2048 0;
-  count = omega arith;
-  rising = tt;
-}

@@ -1,6 +1,6 @@
--- A run replayed in lent arrays: its answers compared with the model's, request by request.
+-- A run replayed in arrays: its answers compared with the model's, request by request.
 use Rattle.std.specs.Prelude.{◌≡◌, refl, Bool, true, false, List, [], ◌++◌, ℕ, ◌+◌, ◌≤◌, ◌<◌, eqb, length}
-use Rattle.std.proofs.Common.{sym, ◌∙◌, ap, arith, length-append}
+use Rattle.std.proofs.Common.{sym, subst, ◌∙◌, ap, arith, length-append}
 use Rattle.std.proofs.Math.Bool.{and-true}
 use Rattle.std.proofs.Math.Option.{Option, none, some}
 use Rattle.serial.specs.Serial.{Done, after, after-append, true≢false}
@@ -10,11 +10,15 @@ use Rattle.journal_reader.specs.declared.Record.{Record}
 use Rattle.journal_lines.specs.Journal.{is_some, or_empty, list_of, proper, fed, feeds, stored_answer}
 use Rattle.journal_lines.specs.Walks.{some-or-empty, no_list}
 use Rattle.journal_lines.specs.Accepts.{EntryFits, Fits, read_fits, write_fits, insert_fits, remove_fits, locate_fits, commit_fits, proper-fits}
-use Rattle.replay.specs.declared.Fed.{Fed}
-use Rattle.replay.specs.Held.{held, Ready, Feeds}
-use Rattle.journal.specs.declared.Stand.{Stand}
+use Rattle.replay.specs.declared.Database.{Database}
+use Rattle.replay.specs.Held.{Fed, held, Ready, Feeds}
 use Rattle.journal.specs.Fits.{same_ans, list_answer, same_number, fits, fits-append}
 use Rattle.journal.specs.Located.{line_at, lists_as}
+
+-- Whether all answers so far are the model's, and how many memberships there are.
+pub record Stand : Type 0 where
+  pub is_same : Bool
+  pub count : ℕ
 
 abbrev pub stands : Bool → ℕ → Stand
 stands b n = record { is_same = b; count = n }
@@ -27,6 +31,10 @@ pub record Replays (l : List (Done store)) (vs ks es : List ℕ) (n : ℕ) (r : 
   pub ready : Ready vs' ks' es' r.count
   pub few : r.count ≤ n + length l
   pub is : r.is_same ≡ true → held vs' ks' es' r.count ≡ after store l (held vs ks es n)
+
+-- The same of a Database, with b for whether all answers are the model's.
+abbrev pub ReplaysTo : List (Done store) → Database → Bool → Database → Type 0
+ReplaysTo l d b d' = Replays l d.values d.keys d.entries d.count (stands b d'.count) d'.values d'.keys d'.entries
 
 pub replays-none : (vs ks es : List ℕ) (n : ℕ) → Ready vs ks es n → Replays [] vs ks es n (stands true n) vs ks es
 unfolding fits
@@ -130,3 +138,21 @@ feeds-plain bs r vs ks es n f vs' ks' es' h m p k =
       few = k.few;
       is = λ _. a.1;
     }
+
+-- ---- a line of code k, 1 to 4
+
+module _ (bs : List ℕ) (r : Record) (k : ℕ) {vs ks es : List ℕ} {n : ℕ} (z : Feedable bs r vs ks es n) (e : r.code ≡ k) (h : k ≤ 4) where
+  plain_of : Plain r
+  plain_of = is_plain bs r z.proper (λ c. omega (arith, c, e)) (λ c. omega (arith, c, e))
+
+  pub feedable-numbers : (n < 2048) × (1 ≤ r.entry) × (r.entry ≤ 1024)
+  feedable-numbers = (plain-room bs r n plain_of z.room, plain_of.some_entry, plain_of.last_entry)
+
+  pub feeds-code : (f : Fed) (vs' ks' es' : List ℕ) → Feeds k r.entry r.first vs ks es n f vs' ks' es'
+      → Replays (feeds (line_at bs r)) vs ks es n (stands (eqb r.answer f.answer) f.count) vs' ks' es'
+  feeds-code f vs' ks' es' w =
+      feeds-plain bs r vs ks es n f vs' ks' es' z.listed (λ c. omega (arith, c, e)) plain_of (subst (λ (c : ℕ). Feeds c r.entry r.first vs ks es n f vs' ks' es') (sym e) w)
+
+-- A proper line has one of the codes.
+pub codes_of : (bs : List ℕ) (r : Record) → proper (line_at bs r) ≡ true → ¬ (r.code ≡ 255) → ¬ (r.code ≡ 5) → (1 ≤ r.code) × (r.code ≤ 4)
+codes_of bs r h m n = let p = is_plain bs r h m n in (p.low, p.high)

@@ -1,10 +1,12 @@
 -- The verdict, test by test.
-use Rattle.std.specs.Prelude.{◌≡◌, refl, true, false, cond, ◌&&◌, List, ℕ}
+use Rattle.std.specs.Prelude.{⊤, Result, Ok, Err, ◌≡◌, refl, true, false, cond, ◌&&◌, List, ℕ}
 use Rattle.std.proofs.Common.{sym, ◌∙◌, ap}
 use Rattle.std.proofs.Math.Option.{Option, none, some}
 use Rattle.serial.specs.Serial.{pick, true≢false}
 use Rattle.serial.specs.Model.{empty}
 use Rattle.journal_lines.specs.Journal.{Line, is_some, lines, or_empty, said, all_proper, all_end, committed, answered?, judged, verdict_on, verdict_of}
+use Rattle.journal.specs.declared.Refusal.{Refusal}
+use Rattle.journal.specs.declared.Refusal.TheVariants.{Unreadable, Disorderly, Unanswered}
 use Rattle.journal.specs.Fits.{fits_all, test-17}
 use Rattle.journal.specs.Loops.{Past16}
 
@@ -33,3 +35,14 @@ verdict-17 bs o h = sym (ap (λ b. cond b 0 17) h) ∙ verdict-past bs o
 
 pub verdict-0 : (bs : List ℕ) → Past16 bs → fits_all (committed (said bs)) empty ≡ true → 0 ≡ verdict_of bs
 verdict-0 bs o h = sym (ap (λ b. cond b 0 17) h) ∙ verdict-past bs o
+
+-- ---- a Result and its number
+
+abbrev pub refusal_number : Refusal → ℕ
+refusal_number Unreadable = 15
+refusal_number Disorderly = 16
+refusal_number Unanswered = 17
+
+abbrev pub number_of : Result ⊤ Refusal → ℕ
+number_of (Ok x) = 0
+number_of (Err r) = refusal_number r

@@ -9,3 +9,4 @@ pub mod Ignored
 pub mod Written
 pub mod Causes
 pub mod Looked
+pub mod Ends

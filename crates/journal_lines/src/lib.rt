@@ -8,93 +8,73 @@
 ghost use Rattle.std.specs.Prelude.{◌≡◌, true, not, ◌&&◌, []};
 ghost use Rattle.journal_lines.specs.Journal.{chain_from, line_of, list_of, whole, lines_after, lines, said, is_some, proper_entry, proper_key, proper, all_proper, none_of, all_end};
 ghost use Rattle.journal_lines.specs.Loops.{lines_from, ahead, in_order};
-ghost use Rattle.journal_lines.specs.Ways.{change_numbers, locate_numbers};
 
-use journal_reader::Record;
+use journal_reader::{Kind, Record};
 
 // ---- 15: the length and the chains
 
 // Whether the bytes are 1 to 2,048 whole records.
+#[tactic(auto, unfolding(crate::specs::Journal::whole))]
 fn is_whole(bytes: &[u8]) -> bool
     ensures { result ≡ whole bytes.now }
 {
-    let n = bytes.len() / 32;
-    if bytes.len() % 32 != 0 {
-        return false;
-    }
-    if n == 0 {
-        return false;
-    }
-    if 2048 < n {
-        return false;
-    }
-    true
+    bytes.len() % 32 == 0 && (1..=2048).contains(&(bytes.len() / 32))
 }
 
 // Whether the chain from an index ends inside the file: one with more records than the file meets one of its own twice.
 fn is_chain(bytes: &[u8], start: usize) -> bool
     ensures { result ≡ is_some (chain_from bytes.now start) }
 {
-    let n = bytes.len() / 32;
-    let mut left = n;
+    let records = bytes.len() / 32;
     let mut at = start;
-    while at != 0 {
-        if n < at {
-            return false;
+    for passed in 0..records {
+        if at == 0 {
+            return true;
         }
-        if left == 0 {
+        if records < at {
             return false;
         }
         at = journal_reader::follow(bytes, at);
-        left -= 1;
     }
-    true
+    at == 0
 }
 
 // Whether the list that a record of the main chain names ends inside the file. Only a locate names one.
+#[tactic(auto, unfolding(crate::specs::Journal::list_of))]
 fn is_list(bytes: &[u8], r: Record) -> bool
     ensures { result ≡ is_some (list_of bytes.now r) }
 {
-    if r.code != 5 {
-        return true;
-    }
-    is_chain(bytes, r.list as usize)
+    r.kind() != Some(Kind::Locate) || is_chain(bytes, r.list as usize)
 }
 
 // Whether the main chain and the list of each of its records end inside the file.
 fn are_lines(bytes: &[u8]) -> bool
     ensures { result ≡ is_some (lines_after bytes.now (chain_from bytes.now 1)) }
 {
-    let all = bytes.len() / 32;
-    let mut left = all;
+    let records = bytes.len() / 32;
     let mut at: usize = 1;
-    while at != 0 {
-        if all < at {
-            return false;
+    for passed in 0..records {
+        if at == 0 {
+            return true;
         }
-        if left == 0 {
+        if records < at {
             return false;
         }
         let r = journal_reader::read(bytes, at);
-        let good = is_list(bytes, r);
-        if !good {
+        if !is_list(bytes, r) {
             return false;
         }
         at = r.next as usize;
-        left -= 1;
     }
-    true
+    at == 0
 }
 
 // Whether the length is 1 to 2,048 whole records and every chain ends inside the file.
+#[tactic(auto, unfolding(crate::specs::Journal::lines))]
 pub fn is_readable(bytes: &[u8]) -> bool
     ensures { result ≡ is_some (lines bytes.now) }
 {
-    let good = is_whole(bytes);
-    if !good {
-        return false;
-    }
-    are_lines(bytes)
+    is_whole(bytes) && are_lines(bytes)
 }
 
 // ---- 16: codes, numbers and commits
@@ -102,64 +82,26 @@ pub fn is_readable(bytes: &[u8]) -> bool
 fn is_entry(e: u32) -> bool
     ensures { result ≡ proper_entry e }
 {
-    if e < 1 {
-        return false;
-    }
-    if 1024 < e {
-        return false;
-    }
-    true
+    (1..=1024).contains(&e)
 }
 
 fn is_key(k: u32) -> bool
     ensures { result ≡ proper_key k }
 {
-    if k < 1 {
-        return false;
-    }
-    if 4294967294 < k {
-        return false;
-    }
-    true
-}
-
-// The numbers of an insert or a remove.
-fn are_entry_and_key(e: u32, k: u32) -> bool
-    ensures { result ≡ change_numbers e k }
-{
-    let good = is_entry(e);
-    if !good {
-        return false;
-    }
-    is_key(k)
-}
-
-// The numbers of a locate.
-fn are_bounds(first: u32, second: u32) -> bool
-    ensures { result ≡ locate_numbers first second }
-{
-    let low = is_key(first);
-    if !low {
-        return false;
-    }
-    let high = is_key(second);
-    if !high {
-        return false;
-    }
-    first <= second
+    (1..=4294967294).contains(&k)
 }
 
 // Whether the code is one of document 02's and the request's numbers are those that document 01 accepts.
+#[tactic(auto, unfolding(crate::specs::Journal::proper))]
 fn is_proper(r: Record) -> bool
     ensures { result ≡ proper (line_of r []) }
 {
-    let code = r.code;
-    match code {
-        1 | 2 => is_entry(r.entry),
-        3 | 4 => are_entry_and_key(r.entry, r.first),
-        5 => are_bounds(r.first, r.second),
-        255 => true,
-        0 | 6..=254 | 256..=4294967295 => false,
+    match r.kind() {
+        Some(Kind::Read | Kind::Write) => is_entry(r.entry),
+        Some(Kind::Insert | Kind::Remove) => is_entry(r.entry) && is_key(r.first),
+        Some(Kind::Locate) => is_key(r.first) && is_key(r.second) && r.first <= r.second,
+        Some(Kind::Commit) => true,
+        None => false,
     }
 }
 
@@ -168,33 +110,28 @@ fn goes_on(bytes: &[u8], start: usize, many: usize, run: u32) -> bool
     requires { is_some (lines_from bytes.now many start) ≡ true }
     ensures { result ≡ not (none_of run (ahead bytes.now many start)) }
 {
-    let mut left = many;
     let mut at = start;
-    while at != 0 {
+    for passed in 0..many {
+        if at == 0 {
+            return false;
+        }
         let r = journal_reader::read(bytes, at);
         if r.run == run {
             return true;
         }
         at = r.next as usize;
-        left -= 1;
     }
     false
 }
 
 // Whether a record is proper and, if it is a commit, no line after it is of its run.
+#[tactic(auto, unfolding(crate::specs::Loops::in_order))]
 fn is_in_order(bytes: &[u8], r: Record, left: usize) -> bool
     requires { is_some (lines_from bytes.now left r.next) ≡ true }
     ensures { result ≡ in_order r (ahead bytes.now left r.next) }
 {
-    let good = is_proper(r);
-    if !good {
-        return false;
-    }
-    if r.code != 255 {
-        return true;
-    }
-    let more = goes_on(bytes, r.next as usize, left, r.run);
-    !more
+    is_proper(r)
+        && (r.kind() != Some(Kind::Commit) || !goes_on(bytes, r.next as usize, left, r.run))
 }
 
 // Whether every code and number is document 01's and no run goes on after its commit.
@@ -202,13 +139,14 @@ pub fn is_orderly(bytes: &[u8]) -> bool
     requires { is_some (lines bytes.now) ≡ true }
     ensures { result ≡ (all_proper (said bytes.now) && all_end (said bytes.now)) }
 {
-    let mut left = bytes.len() / 32;
+    let records = bytes.len() / 32;
     let mut at: usize = 1;
-    while at != 0 {
+    for passed in 0..records {
+        if at == 0 {
+            return true;
+        }
         let r = journal_reader::read(bytes, at);
-        left -= 1;
-        let good = is_in_order(bytes, r, left);
-        if !good {
+        if !is_in_order(bytes, r, records - passed - 1) {
             return false;
         }
         at = r.next as usize;

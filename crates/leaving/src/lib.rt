@@ -10,7 +10,7 @@
 ghost use Rattle.std.specs.Prelude.{◌≡◌};
 ghost use Rattle.leaving.specs.Words.{choice, ChoiceReady, tidy_aim, aim_of, asked, PutReady, leave_all, LeaveReady, commit_words, CommitReady};
 
-use sessions::Session;
+use sessions::{Session, Stage};
 
 // The first stage of a request, and the key that its descent goes to.
 #[derive(Clone, Copy)]
@@ -28,12 +28,12 @@ fn choose(store: &[u32], m: usize, n: usize) -> Aim
 {
     if n == 0 {
         return Aim {
-            stage: 1,
+            stage: Stage::Start as u32,
             target: 0,
         };
     }
     Aim {
-        stage: 2,
+        stage: Stage::EnterRoot as u32,
         target: words::word(store, m, n, 1),
     }
 }
@@ -57,12 +57,12 @@ fn first_stage(store: &[u32], m: usize, r: usize, code: u32, first: u32) -> Aim
 {
     match code {
         5 => Aim {
-            stage: 2,
+            stage: Stage::EnterRoot as u32,
             target: first,
         },
         6 => tidy_aim(store, m, r, first),
         0..=4 | 7..=4294967295 => Aim {
-            stage: 1,
+            stage: Stage::Start as u32,
             target: 0,
         },
     }

@@ -1,10 +1,9 @@
 -- A group's members and undo records: no entry is listed twice, and the undo records can be undone, newest first.
-use Rattle.std.specs.Prelude.{◌≡◌, List, true, false, cond, ◌&&◌, ℕ, zero, suc, ◌+◌, eqb, leb, get_or, set, length}
+use Rattle.std.specs.Prelude.{◌≡◌, Option, List, true, false, cond, ◌&&◌, ℕ, zero, suc, ◌+◌, eqb, leb, get_or, set, length}
 use Rattle.groups.specs.Descriptor.{descriptor_at}
 use Rattle.groups.specs.Membership.{membership_at}
 use Rattle.undos.specs.Undo.{undo_at}
-use Rattle.marks.specs.declared.Chain.{Chain}
-use Rattle.marks.specs.Marks.{entry_ok, membership_mark}
+use Rattle.marks.specs.Marks.{entry_ok, membership_mark, left_if}
 use Rattle.marks.specs.Trail.{Turn, Trail, turn, then_turn, ends, chain_of}
 
 -- ---- who lists an entry now
@@ -47,9 +46,8 @@ unfoldable pub members_from : List ℕ → ℕ → ℕ → ℕ → List ℕ → 
 members_from s m r d seen l i left = chain_of (λ j. (membership_at s m j).next) r membership_mark (member_turn s m d) seen (holding l 0) i left
 
 -- what a function answers and leaves is what the walk of members says
-pub record Listed (v : Trail Held) (w : Chain) (seen : List ℕ) (l : List ℕ) : Type 0 where
-  pub ok : w.ok ≡ v.ok
-  pub left : w.left ≡ v.left
+pub record Listed (v : Trail Held) (w : Option ℕ) (seen : List ℕ) (l : List ℕ) : Type 0 where
+  pub left : w ≡ left_if v.ok v.left
   pub marks : seen ≡ v.seen
   pub list : l ≡ v.held.list
 

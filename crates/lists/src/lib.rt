@@ -9,13 +9,13 @@
 
 ghost use Rattle.std.specs.Prelude.{◌≡◌, ◌≤◌, ◌<◌, length, get_or};
 ghost use Rattle.words.specs.Store.{HasRecord};
-ghost use Rattle.marks.specs.Marks.{HasRecords};
 ghost use Rattle.marks.specs.Trail.{Turned, Ends};
 ghost use Rattle.lists.specs.Lists.{Listing, Listed, list_entry, unlist_entry, member_one, members_from, undo_one, undo_from, group_lists};
 
-use marks::Chain;
+use marks::{Mark, Records};
 
-// The scratch list: place e has the group that listed entry e last, and place BY + e the record by which.
+// The scratch list: place e has the group that listed entry e last, and place BY + e the record by which. It is one slice, as specs/Lists has it,
+// of whose places the theorems of soundness/GroupsPass speak.
 const BY: usize = 1025;
 
 // Entry e comes into group d by record i, if it is not in it.
@@ -68,42 +68,31 @@ fn member_one(store: &[u32], lists: &mut [u16], m: usize, d: usize, i: usize, be
     list_entry(lists, d, e, i)
 }
 
-// The members of group d, from record first on.
+// The members of group d, from record first on: how many records may still be met, or None where they are not in order.
 fn walk_members(
-    store: &[u32],
+    records: Records,
     seen: &mut [u8],
     lists: &mut [u16],
-    m: usize,
-    r: usize,
     d: usize,
     first: usize,
     left: usize,
-) -> Chain
-    requires { HasRecords store.now m r × (r < length seen.old) × Listing lists.old × (d ≤ 4096) }
-    ensures { Listed (members_from store.now m r d seen.old lists.old first left) result seen.new lists.new }
+) -> Option<usize>
+    requires { (records.r < length seen.old) × Listing lists.old × (d ≤ 4096) }
+    ensures { Listed (members_from records.entry.store.now records.entry.m records.entry.r d seen.old lists.old first left) result seen.new lists.new }
 {
+    let Records { store, m, r } = records;
     let mut i = first;
     let mut before = 0;
     let mut more = left;
     while i != 0 {
-        let v = marks::meet(seen, r, i, more, marks::MEMBERSHIP);
-        if !v.ok {
-            return v;
-        }
+        more = Mark::Membership.meet(seen, r, i, more)?;
         if !member_one(store, lists, m, d, i, before) {
-            return Chain {
-                ok: false,
-                left: v.left,
-            };
+            return None;
         }
         before = i;
         i = groups::membership_next(store, m, i) as usize;
-        more = v.left;
     }
-    Chain {
-        ok: true,
-        left: more,
-    }
+    Some(more)
 }
 
 // Undo record i of group d: an entry that was added goes out, by the record that it names; one that was taken out comes back, by this
@@ -135,18 +124,11 @@ fn filed(files: &[u16], at: usize) -> usize
 }
 
 // The undo records of group d as they are filed, from record first on.
-fn undo_group(
-    store: &[u32],
-    files: &[u16],
-    lists: &mut [u16],
-    m: usize,
-    r: usize,
-    d: usize,
-    first: usize,
-) -> bool
-    requires { HasRecords store.now m r × Listing lists.old × (d ≤ 4096) }
-    ensures { Turned (undo_from store.now files.now m r d lists.old first r) result lists.new }
+fn undo_group(records: Records, files: &[u16], lists: &mut [u16], d: usize, first: usize) -> bool
+    requires { Listing lists.old × (d ≤ 4096) }
+    ensures { Turned (undo_from records.entry.store.now files.now records.entry.m records.entry.r d lists.old first records.entry.r) result lists.new }
 {
+    let Records { store, m, r } = records;
     let mut i = first;
     let mut more = r;
     while i != 0 {
@@ -166,30 +148,25 @@ fn undo_group(
     true
 }
 
-// Group d: its members, and then its undo records.
+// Group d: its members, and then its undo records. None where they are not in order.
 pub fn walk_lists(
-    store: &[u32],
+    records: Records,
     seen: &mut [u8],
     files: &[u16],
     lists: &mut [u16],
-    m: usize,
-    r: usize,
     d: usize,
     left: usize,
-) -> Chain
-    requires { HasRecords store.now m r × (r < length seen.old) × Listing lists.old × (1 ≤ d) × (d ≤ r) }
-    ensures { Ends _ (group_lists store.now files.now m r seen.old lists.old d left) result seen.new lists.new }
+) -> Option<usize>
+    requires { (records.r < length seen.old) × Listing lists.old × (1 ≤ d) × (d ≤ records.r) }
+    ensures { Ends _ (group_lists records.entry.store.now files.now records.entry.m records.entry.r seen.old lists.old d left) result seen.new lists.new }
 {
+    let Records { store, m, .. } = records;
     let first = groups::descriptor_first(store, m, d) as usize;
-    let c = walk_members(store, seen, lists, m, r, d, first, left);
-    if !c.ok {
-        return c;
-    }
+    let more = walk_members(records, seen, lists, d, first, left)?;
     let head = undo_chains::FIRSTS + d;
     let undo = filed(files, head);
-    let fine = undo_group(store, files, lists, m, r, d, undo);
-    Chain {
-        ok: fine,
-        left: c.left,
+    if !undo_group(records, files, lists, d, undo) {
+        return None;
     }
+    Some(more)
 }

@@ -1,21 +1,20 @@
 -- What the planner may take from the two calls: when each number is answered, and what the lent bytes stand for then.
-use Rattle.std.specs.Prelude.{◌≡◌, Bool, cond, ◌||◌, ◌&&◌, List, [], ◌∷◌, ◌⊎◌, ◌↔◌, ℕ, ◌+◌, ◌*◌, ◌/◌, ◌%◌, ◌≤◌, ◌<◌, eqb, length, get_or}
+use Rattle.std.specs.Prelude.{◌≡◌, Bool, cond, ◌||◌, ◌&&◌, List, [], ◌∷◌, ◌⊎◌, ◌↔◌, ℕ, ◌+◌, ◌*◌, ◌/◌, ◌%◌, ◌≤◌, ◌<◌, eqb, length, get_or, Ok, Err}
 use Rattle.std.proofs.Math.Path.{refl}
-use Rattle.std.proofs.Common.{sym, ap, subst, ◌∙◌, true≢false, arith, eqb-true, eq-eqb, ne_eqb}
+use Rattle.std.proofs.Common.{sym, ap, subst, ◌∙◌, true≢false, arith, eqb-true, eq-eqb}
 use Rattle.std.proofs.Math.Bool.{true, false}
 use Rattle.std.proofs.Math.Logic.{inl, inr}
 use Rattle.calendar.specs.Tests.{and_left, and_right, and_yes}
 use Rattle.calendar.specs.Dates.{month-most}
 use Rattle.switches.specs.Switches.{spring, autumn}
 use Rattle.stamps.specs.declared.Stamp.{Stamp}
-use Rattle.stamps.specs.declared.Reading.{Reading}
-use Rattle.stamps.specs.declared.Reading.TheVariants.{Minute, Outside, Skipped, Doubled}
-use Rattle.stamps.specs.Stamps.{first_minute, end_minute, covered, stamp, local, reading, number, marked}
+use Rattle.stamps.specs.Stamps.{Reading, first_minute, end_minute, covered, stamp, local, reading, number, marked}
 use Rattle.stamps.specs.Minutes.{covered-is, covered-yes}
 use Rattle.stamps.specs.Laws.{Proper, LocalHour, Stamps, reads-back, read-covered, one-mark}
 use Rattle.stamps.specs.Numbers.{reading_of, Accepted, accepted-late, reading-of, number-back}
 use Rattle.stamps.specs.Refused.{Listed, outside-exactly, skipped-any, doubled-any}
 use Rattle.local_stamps.specs.Exported.{served, to_utc, bytes_of, accepts, Filled}
+use Rattle.stamps.specs.declared.Refusal.TheVariants.{Outside}
 
 -- the base offsets served
 pub served-exactly : (b : ℕ) → (served b ≡ true) ↔ ((b ≡ 0) ⊎ ((b ≡ 60) ⊎ (b ≡ 120)))
@@ -71,10 +70,10 @@ module _ (b : ℕ) (s : Stamp) where
       there false h e = absurd (ne (sym e ∙ by-base b s h))
 
   -- an answer that is no refusal is the UTC minute that the stamp reads as
-  pub answers-minute : (t : ℕ) → ((to_utc b s ≡ t) × Accepted t) ↔ ((served b ≡ true) × (reading b s ≡ Minute t) × (first_minute ≤ t) × (t < end_minute))
+  pub answers-minute : (t : ℕ) → ((to_utc b s ≡ t) × Accepted t) ↔ ((served b ≡ true) × (reading b s ≡ Ok t) × (first_minute ≤ t) × (t < end_minute))
   answers-minute t = (λ q. there q.0 q.1, λ q. (by-reading b s q.0 q.1, accepted-late q.2))
     where
-      there : to_utc b s ≡ t → Accepted t → (served b ≡ true) × (reading b s ≡ Minute t) × (first_minute ≤ t) × (t < end_minute)
+      there : to_utc b s ≡ t → Accepted t → (served b ≡ true) × (reading b s ≡ Ok t) × (first_minute ≤ t) × (t < end_minute)
       there e a =
           let p = reading-of t a in
           let q = (exactly t a.0 (ap number p)).0 e in
@@ -114,7 +113,7 @@ module _ (b : ℕ) (s : Stamp) where
   unmarked-one m a = let q = (answers-minute (to_utc b s)).0 (refl, a) in go q.0 (one-mark b s (to_utc b s) m q.1)
     where
       go : {t : ℕ} → served b ≡ true
-          → ((reading b (marked 1 s) ≡ Minute t) × (reading b (marked 2 s) ≡ Outside)) ⊎ ((reading b (marked 1 s) ≡ Outside) × (reading b (marked 2 s) ≡ Minute t)) → OneMark b s t
+          → ((reading b (marked 1 s) ≡ Ok t) × (reading b (marked 2 s) ≡ Err Outside)) ⊎ ((reading b (marked 1 s) ≡ Err Outside) × (reading b (marked 2 s) ≡ Ok t)) → OneMark b s t
       go e (inl q) = with_summer (by-reading b _ e q.0) (by-reading b _ e q.1)
       go e (inr q) = with_winter (by-reading b _ e q.0) (by-reading b _ e q.1)
 

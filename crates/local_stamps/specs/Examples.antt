@@ -1,7 +1,6 @@
 -- Document 02's example in the numbers and bytes that C sees: on 27 October 2024 at offset 60, 02:30 occurs twice.
 use Rattle.std.specs.Prelude.{◌≡◌, refl, List, [], ◌∷◌, ℕ, length}
 use Rattle.std.proofs.Common.{ap, ◌∙◌, arith}
-use Rattle.stamps.specs.Stamps.{stamp}
 use Rattle.stamps.specs.Examples.{half_past, twice, twice-back}
 use Rattle.local_stamps.specs.Exported.{served, to_utc, bytes_of, Filled}
 use Rattle.local_stamps.specs.Answers.{by-reading, accepted-exactly, holds-stamp}

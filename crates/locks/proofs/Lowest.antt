@@ -103,12 +103,6 @@ padded-sets (suc n) (x ∷ l) = sets-cons x (replicate n 0) 0 l ∙ ap (λ (r : 
 pub walk_start : (w : ℕ) → w < 4294967296 → Walking (padded 32 (holders 32 w)) (replicate 32 0) 0 w
 walk_start w h = record { fits = h; room = let l = length-holders 32 w in omega arith; is = padded-sets 32 (holders 32 w) }
 
-pub walk-room : {whole list : List ℕ} {n rest : ℕ} → Walking whole list n rest → (rest ≡ 0 → ⊥) → n < 32
-walk-room {whole} {list} {n} {rest} k nz =
-    let l = k.room in
-    let e = ap length (turn rest nz k.fits).first in
-    omega arith
-
 pub walk_more : {whole list : List ℕ} {n rest : ℕ} → Walking whole list n rest → (rest ≡ 0 → ⊥)
     → Walking whole (set list n (count_trailing_zeros 32 rest + 1)) (n + 1) (rest - low rest)
 walk_more {whole} {list} {n} {rest} k nz =
@@ -127,3 +121,12 @@ walk_more {whole} {list} {n} {rest} k nz =
 pub walk_end : {whole list : List ℕ} {n rest : ℕ} → Walking whole list n rest → rest ≡ 0 → list ≡ whole
 walk_end {whole} {list} {n} {rest} k e =
     sym (ap (λ (x : ℕ). sets list n (holders 32 x)) e ∙ ap (sets list n) (none-holds 32)) ∙ k.is
+
+empty : (l : List ℕ) → length l ≤ 0 → l ≡ []
+empty [] h = refl
+empty (x ∷ l) h = absurd (omega (arith, h))
+
+-- with all places written nothing is left
+pub walk_full : {whole list : List ℕ} {n rest : ℕ} → Walking whole list n rest → n ≡ 32 → list ≡ whole
+walk_full {whole} {list} {n} {rest} k e =
+    sym (ap (sets list n) (empty (holders 32 rest) (let l = k.room in omega (arith, l, e)))) ∙ k.is

@@ -76,7 +76,7 @@ pub fn conflicting(kind: usize, asked: usize, s: u32, weak: u32, strong: u32) ->
     without_session(a | b, s)
 }
 
-// The lowest session that holds, or 0 where none does.
+// The lowest session that holds, or 0 where none does: first_of, which callers' contracts cite, has the 0.
 pub fn first_session(word: u32) -> u32
     ensures { result ≡ first_of (holders word_bits word) }
 {
@@ -99,14 +99,15 @@ pub fn list_sessions(word: u32) -> [u32; 32]
     ensures { result ≡ padded word_bits (holders word_bits word) }
 {
     let mut list = [0u32; 32];
-    let mut n = 0;
     let mut rest = word;
-    while rest != 0 {
+    for n in 0..32 {
+        if rest == 0 {
+            return list;
+        }
         let t = u32::trailing_zeros(rest);
         list[n] = t + 1;
-        n += 1;
         let low: u32 = 1 << t;
-        rest = rest - low;
+        rest -= low;
     }
     list
 }

@@ -14,7 +14,7 @@ ghost use Rattle.looking.specs.Halves.{halves};
 ghost use Rattle.looking.specs.Looking.{free_count, held_at, held_of, FreeReady, KeyReady};
 ghost use Rattle.looking.specs.Told.{FreeTold, HoldersTold, KeyTold};
 
-use outcomes::Answer;
+use outcomes::{Answer, Refusal};
 use sessions::{PARTIES, Session};
 
 // ---- free records
@@ -34,12 +34,10 @@ fn free_count(store: &[u32]) -> u32
 pub fn free(store: &[u32], t: [Session; PARTIES]) -> Answer
     ensures { FreeTold store.now t (said result) }
 {
-    let good = soundness::is_sound(store, t);
-    if good {
-        let n = free_count(store);
-        return Answer::Done(n);
+    if !soundness::is_sound(store, t) {
+        return Answer::from(Refusal::Unsound);
     }
-    Answer::Refused(2, 0)
+    Answer::Done(free_count(store))
 }
 
 // ---- the holders of a key
@@ -83,20 +81,18 @@ fn holders_checked(store: &[u32], t: [Session; PARTIES], key: u32) -> Answer
     requires { Sound store.now t }
     ensures { KeyTold key store.now t (said result) }
 {
-    if marks::key_ok(key) {
-        let w = held_of(store, key);
-        return Answer::Done(w);
+    if !marks::key_ok(key) {
+        return Answer::from(Refusal::Key);
     }
-    Answer::Refused(9, 0)
+    Answer::Done(held_of(store, key))
 }
 
 // The sessions that hold a key, stored or not: those in locate mode in the lower half, those in update mode in the upper one.
 pub fn holders(store: &[u32], t: [Session; PARTIES], key: u32) -> Answer
     ensures { HoldersTold key store.now t (said result) }
 {
-    let good = soundness::is_sound(store, t);
-    if good {
-        return holders_checked(store, t, key);
+    if !soundness::is_sound(store, t) {
+        return Answer::from(Refusal::Unsound);
     }
-    Answer::Refused(2, 0)
+    holders_checked(store, t, key)
 }

@@ -4,8 +4,8 @@
 // keys and entries that the journal is about. Its records lie in any order, with others between that no chain has; lists may share records with other lists
 // and with the main chain. All that is ignored has any words.
 //
-// It promises that every function is safe and ends. choices chooses what a journal is made by, make makes it, answers has the store and the lists; book
-// has all numbers in one array, records the bytes.
+// It promises that every function is safe and ends, and that a random number below n is. book has what a journal is made by, choices chooses it, make makes
+// the journal, answers has the store and the lists, records the bytes.
 #![tactic(auto)]
 
 pub mod answers;

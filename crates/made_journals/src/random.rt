@@ -1,35 +1,28 @@
-// Random: a linear congruence of 32 bits, whose numbers are mixed before they are used. The state is a word of the book.
-use crate::book::{Book, STATE, get, put};
+// Random: a linear congruence of 32 bits, whose numbers are mixed before they are used.
+ghost use Rattle.std.specs.Prelude.{◌≢◌, ◌<◌};
 
-fn next(x: u32) -> u32 {
-    ((x as u64 * 1664525 + 1013904223) % 4294967296) as u32
+#[derive(Clone, Copy, Default)]
+pub struct Random {
+    state: u32,
 }
 
-fn product(x: u32) -> u32 {
-    ((x as u64 * 2246822519) % 4294967296) as u32
-}
-
-fn mixed(x: u32) -> u32 {
-    let y = product(x ^ (x >> 16));
-    y ^ (y >> 13)
-}
-
-pub fn random(b: &mut Book) -> u32 {
-    let x = next(get(b, STATE));
-    put(b, STATE, x);
-    mixed(x)
-}
-
-// 0 to n - 1, or 0 where n is 0.
-pub fn below(b: &mut Book, n: u32) -> u32 {
-    let x = random(b);
-    if n == 0 {
-        return 0;
+impl Random {
+    pub fn next(&mut self) -> u32 {
+        let x = self.state.wrapping_mul(1664525).wrapping_add(1013904223);
+        self.state = x;
+        let y = (x ^ (x >> 16)).wrapping_mul(2246822519);
+        y ^ (y >> 13)
     }
-    x % n
-}
 
-// True k times of n.
-pub fn chance(b: &mut Book, k: u32, n: u32) -> bool {
-    below(b, n) < k
+    // 0 to n - 1, or 0 where n is 0.
+    pub fn below(&mut self, n: u32) -> u32
+        ensures { n ≢ 0 → result < n }
+    {
+        self.next().checked_rem(n).unwrap_or(0)
+    }
+
+    // True k times of n.
+    pub fn chance(&mut self, k: u32, n: u32) -> bool {
+        self.below(n) < k
+    }
 }

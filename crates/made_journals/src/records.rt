@@ -1,31 +1,21 @@
 // Records: the bytes of a journal and the words of its records. Records count from 1, words of a record from 0.
-use crate::book::{minus, plus};
+ghost use Rattle.std.specs.Prelude.{◌≡◌, ◌≤◌, length};
 
 // Two records more than a journal may have.
 pub const BYTES: usize = 65600;
 
-pub type Journal = [u8; BYTES];
-
-pub const NEXT: u32 = 0;
-
-pub const RUN: u32 = 1;
-
-pub const CODE: u32 = 2;
-
-pub const ENTRY: u32 = 3;
-
-pub const FIRST: u32 = 4;
-
-pub const SECOND: u32 = 5;
-
-pub const ANSWER: u32 = 6;
-
-pub const LIST: u32 = 7;
-
-// The words of a list record behind its next index.
-pub const PAIR_KEY: u32 = 1;
-
-pub const PAIR_ENTRY: u32 = 2;
+// The words of a record.
+#[derive(Clone, Copy, PartialEq, Eq, Debug)]
+pub enum Word {
+    Next,
+    Run,
+    Code,
+    Entry,
+    First,
+    Second,
+    Answer,
+    List,
+}
 
 // The codes of a read, a locate and a commit.
 pub const READ: u32 = 1;
@@ -39,48 +29,79 @@ pub const TOP_KEY: u32 = 4294967294;
 
 pub const TOP_ENTRY: u32 = 1024;
 
-fn wide(x: u8) -> u32 {
-    x as u32
+#[derive(Clone, Copy)]
+pub struct Journal {
+    bytes: [u8; BYTES],
 }
 
-fn byte(j: &Journal, i: u32) -> u32 {
-    let at = i as usize;
-    if at < BYTES {
-        return wide(j[at]);
+impl Word {
+    // The words of a list record behind its next index.
+    pub const PAIR_KEY: Word = Word::Run;
+
+    pub const PAIR_ENTRY: Word = Word::Code;
+
+    // Word k, the last one for all above.
+    pub fn at(k: u32) -> Word {
+        match k {
+            0 => Word::Next,
+            1 => Word::Run,
+            2 => Word::Code,
+            3 => Word::Entry,
+            4 => Word::First,
+            5 => Word::Second,
+            6 => Word::Answer,
+            _ => Word::List,
+        }
     }
-    0
 }
 
-pub fn set_byte(j: &mut Journal, i: u32, x: u32) {
-    let at = i as usize;
-    if at < BYTES {
-        j[at] = (x % 256) as u8;
+// Where a word of a record begins. There are records of all numbers, and those that a journal has not lie outside or come again.
+fn start(record: u32, word: Word) -> usize {
+    let first = record.wrapping_sub(1) << 5;
+    first as usize + 4 * (word as usize)
+}
+
+impl Journal {
+    pub fn new() -> Self {
+        Journal { bytes: [0; BYTES] }
     }
-}
 
-// Where word k of a record begins.
-fn start(record: u32, k: u32) -> u32 {
-    plus(minus(record, 1) << 5, k << 2)
-}
+    // The first n bytes, or all.
+    pub fn part(&self, n: u32) -> &[u8]
+        ensures { n ≤ 65600 → length result.now ≡ n }
+    {
+        let end = n as usize;
+        if end <= BYTES {
+            &self.bytes[..end]
+        } else {
+            &self.bytes
+        }
+    }
 
-pub fn word(j: &Journal, record: u32, k: u32) -> u32 {
-    let i = start(record, k);
-    let low = byte(j, i) | byte(j, plus(i, 1)) << 8;
-    let high = byte(j, plus(i, 2)) | byte(j, plus(i, 3)) << 8;
-    low | high << 16
-}
+    // What lies outside reads as 0.
+    pub fn word(&self, record: u32, word: Word) -> u32 {
+        let start = start(record, word);
+        if start <= BYTES {
+            if let [a, b, c, d, ..] = &self.bytes[start..] {
+                return u32::from_le_bytes([*a, *b, *c, *d]);
+            }
+        }
+        0
+    }
 
-pub fn set_word(j: &mut Journal, record: u32, k: u32, x: u32) {
-    let i = start(record, k);
-    set_byte(j, i, x);
-    set_byte(j, plus(i, 1), x >> 8);
-    set_byte(j, plus(i, 2), x >> 16);
-    set_byte(j, plus(i, 3), x >> 24);
-}
+    // A write to what lies outside does nothing.
+    pub fn set(&mut self, record: u32, word: Word, x: u32) {
+        let start = start(record, word);
+        if start <= BYTES - 4 {
+            self.bytes[start..start + 4].copy_from_slice(&x.to_le_bytes());
+        }
+    }
 
-// Copies the first n bytes.
-pub fn copy(from: &Journal, to: &mut Journal, n: u32) {
-    for i in 0..n {
-        set_byte(to, i, byte(from, i));
+    // Copies the first n bytes of another. What lies behind them stays.
+    pub fn copy_from(&mut self, other: &Journal, n: u32) {
+        let end = n as usize;
+        if end <= BYTES {
+            self.bytes[..end].copy_from_slice(&other.bytes[..end]);
+        }
     }
 }

@@ -1,7 +1,8 @@
 -- Tests of words, and the marks of records that were met: place i of the marks is 0, or what record i was reached as.
-use Rattle.std.specs.Prelude.{◌≡◌, List, Bool, true, false, cond, not, ◌&&◌, ℕ, suc, ◌+◌, ◌-◌, ◌*◌, ◌≤◌, eqb, leb, get_or, set, length}
+use Rattle.std.specs.Prelude.{◌≡◌, Option, Some, None, List, Bool, true, false, cond, not, ◌&&◌, ℕ, suc, ◌+◌, ◌-◌, ◌*◌, ◌≤◌, eqb, leb, get_or, set, length}
 use Rattle.words.specs.Store.{entry_words}
-use Rattle.marks.specs.declared.Chain.{Chain}
+use Rattle.marks.specs.declared.Mark.{Mark}
+use Rattle.marks.specs.declared.Mark.TheVariants.{Node, Descriptor, Membership, Undo, Free}
 
 -- the store has m entries and the records 1 to r
 pub record HasRecords (s : List ℕ) (m r : ℕ) : Type 0 where
@@ -33,6 +34,13 @@ undo_mark = 4
 abbrev pub free_mark : ℕ
 free_mark = 5
 
+abbrev pub mark_number : Mark → ℕ
+mark_number Node = node_mark
+mark_number Descriptor = descriptor_mark
+mark_number Membership = membership_mark
+mark_number Undo = undo_mark
+mark_number Free = free_mark
+
 -- how a walk stands: whether all is in order so far, how many records may still be met, and the marks
 pub record Visit : Type 0 where
   pub ok : Bool
@@ -57,14 +65,17 @@ meet r kind v i =
 unfoldable pub is_met : List ℕ → ℕ → ℕ → ℕ → Bool
 is_met seen r i kind = not (eqb i 0) && leb i r && eqb (get_or seen i 0) kind
 
+-- what a function answers: how many records may still be met, if all is in order
+abbrev pub left_if : Bool → ℕ → Option ℕ
+left_if ok left = cond ok (Some left) None
+
 -- what a function answers and leaves is what the visit says
-pub record Says (v : Visit) (w : Chain) (seen : List ℕ) : Type 0 where
-  pub ok : w.ok ≡ v.ok
-  pub left : w.left ≡ v.left
+pub record Says (v : Visit) (w : Option ℕ) (seen : List ℕ) : Type 0 where
+  pub left : w ≡ left_if v.ok v.left
   pub marks : seen ≡ v.seen
 
 -- the same, with what is known of a record that was met
-pub record Met (r i left : ℕ) (v : Visit) (w : Chain) (seen : List ℕ) : Type 0 where
+pub record Met (r i left : ℕ) (v : Visit) (w : Option ℕ) (seen : List ℕ) : Type 0 where
   pub says : Says v w seen
-  pub inside : w.ok ≡ true → (1 ≤ i) × (i ≤ r)
-  pub one : w.ok ≡ true → left ≡ suc w.left
+  pub inside : (n : ℕ) → w ≡ Some n → (1 ≤ i) × (i ≤ r)
+  pub one : (n : ℕ) → w ≡ Some n → left ≡ suc n

@@ -1,10 +1,11 @@
 -- Lemmas of the tests: what one that passes tells, and the two ways of meeting a record.
-use Rattle.std.specs.Prelude.{◌≡◌, refl, List, Bool, true, false, not, ◌&&◌, ℕ, suc, ◌-◌, ◌≤◌, eqb, leb, set}
-use Rattle.std.proofs.Common.{ap, arith, leb-true}
+use Rattle.std.specs.Prelude.{◌≡◌, refl, Some, None, List, Bool, true, false, not, ◌&&◌, ℕ, suc, ◌-◌, ◌≤◌, eqb, leb, set}
+use Rattle.std.proofs.Common.{ap, ◌∙◌, arith, leb-true}
 use Rattle.std.proofs.lemmas.Bool.{eqb-false, not-true}
+use Rattle.std.proofs.lemmas.Option.{none-some, same_Some}
 use Rattle.words.specs.Store.{HasRecord}
 use Rattle.words.specs.Entries.{HasEntry}
-use Rattle.marks.specs.Marks.{HasRecords, Visit, start, is_new, meet, Says, Met, is_met, entry_ok}
+use Rattle.marks.specs.Marks.{HasRecords, Visit, start, is_new, meet, left_if, Says, Met, is_met, entry_ok}
 
 pub no : {A : Type 0} → ◌≡◌ {A = Bool} false true → A
 no e = let z : ◌≡◌ {A = ℕ} 0 1 = cc in absurd (omega arith)
@@ -45,8 +46,8 @@ has-entry h b =
 
 -- ---- meeting a record
 
-said : {v : Visit} {b : Bool} {n : ℕ} {seen : List ℕ} → record { ok = b; left = n; seen = seen } ≡ v → Says v (record { ok = b; left = n }) seen
-said e = record { ok = ap (λ (v : Visit). v.ok) e; left = ap (λ (v : Visit). v.left) e; marks = ap (λ (v : Visit). v.seen) e }
+said : {v : Visit} {b : Bool} {n : ℕ} {seen : List ℕ} → record { ok = b; left = n; seen = seen } ≡ v → Says v (left_if b n) seen
+said e = record { left = ap (λ (v : Visit). left_if v.ok v.left) e; marks = ap (λ (v : Visit). v.seen) e }
 
 -- what may be met is some record, and not the last that may be
 pub new_in : (seen : List ℕ) (r i left : ℕ) → is_new seen r i left ≡ true → (1 ≤ i) × (i ≤ r) × (left ≡ suc (left - 1))
@@ -59,16 +60,16 @@ new_in seen r i left e =
     let n : left ≡ 0 → ⊥ = eqb-false left 0 (not-true _ a.0) in (b.0, b.1, omega arith)
 
 module _ (r kind left : ℕ) (seen : List ℕ) (i : ℕ) where
-  pub met-not : is_new seen r i left ≡ false → Met r i left (meet r kind (start left seen) i) (record { ok = false; left = left }) seen
+  pub met-not : is_new seen r i left ≡ false → Met r i left (meet r kind (start left seen) i) None seen
   unfolding meet
-  met-not e = record { says = said (simp e); inside = λ p. no p; one = λ p. no p }
+  met-not e = record { says = said {b = false} {n = left} (simp e); inside = λ n o. absurd (none-some n o); one = λ n o. absurd (none-some n o) }
 
-  pub met-new : is_new seen r i left ≡ true → Met r i left (meet r kind (start left seen) i) (record { ok = true; left = left - 1 }) (set seen i kind)
+  pub met-new : is_new seen r i left ≡ true → Met r i left (meet r kind (start left seen) i) (Some (left - 1)) (set seen i kind)
   unfolding meet
   met-new e =
       let n = new_in seen r i left e in
       record {
-        says = said (simp e);
-        inside = λ p. (n.0, n.1);
-        one = λ p. n.2;
+        says = said {b = true} {n = left - 1} (simp e);
+        inside = λ k o. (n.0, n.1);
+        one = λ k o. n.2 ∙ ap suc (same_Some (left - 1) k o);
       }

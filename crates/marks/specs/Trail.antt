@@ -1,12 +1,12 @@
 -- A walk along a chain of records that meets each and keeps something beside: one definition and its turns, for every chain.
 use Rattle.std.proofs.Math.Path.{◌≡◌, refl, sym, ap}
 use Rattle.std.proofs.Common.{◌∙◌, eq-eqb, ne_eqb}
-use Rattle.std.specs.Prelude.{List, Bool, cond, eqb}
+use Rattle.std.specs.Prelude.{Option, Some, None, List, Bool, cond, eqb}
+use Rattle.std.proofs.lemmas.Option.{none-some, cond_some}
 use Rattle.std.proofs.Math.Bool.{true, false}
 use Prim.Native.Nat.{ℕ, zero, suc}
 use native.Mathlib.Omega.{arith}
-use Rattle.marks.specs.declared.Chain.{Chain}
-use Rattle.marks.specs.Marks.{Visit, start, is_new, meet, Says, Met}
+use Rattle.marks.specs.Marks.{Visit, start, is_new, meet, left_if, Says, Met}
 
 -- ---- a turn, and then more
 
@@ -67,30 +67,42 @@ chain_of next r kind f seen a i (suc n) =
     (after f (λ s b. chain_of next r kind f s b (next i) n) (meet r kind (start (suc n) seen) i) a i)
 
 -- what a function answers and leaves is what the walk says
-pub record Ends (A : Type 0) (v : Trail A) (w : Chain) (seen : List ℕ) (a : A) : Type 0 where
-  pub ok : w.ok ≡ v.ok
-  pub left : w.left ≡ v.left
+pub record Ends (A : Type 0) (v : Trail A) (w : Option ℕ) (seen : List ℕ) (a : A) : Type 0 where
+  pub left : w ≡ left_if v.ok v.left
   pub marks : seen ≡ v.seen
   pub held : a ≡ v.held
 
-pub ended-as : {A : Type 0} {v : Trail A} {w : Chain} {seen : List ℕ} {a : A} {b : Bool} → ends b w.left seen a ≡ v → w.ok ≡ b → Ends A v w seen a
-ended-as {A} e o =
+pub ended-as : {A : Type 0} {v : Trail A} {b : Bool} {n : ℕ} {seen : List ℕ} {a : A} → ends b n seen a ≡ v → Ends A v (left_if b n) seen a
+ended-as {A} e =
     record {
-      ok = o ∙ ap (λ (v : Trail A). v.ok) e;
-      left = ap (λ (v : Trail A). v.left) e;
+      left = ap (λ (v : Trail A). left_if v.ok v.left) e;
       marks = ap (λ (v : Trail A). v.seen) e;
       held = ap (λ (v : Trail A). v.held) e;
     }
 
-pub trail-as : {A : Type 0} {v : Trail A} {w : Chain} {seen : List ℕ} {a : A} {b : Bool} → Ends A v w seen a → w.ok ≡ b → v ≡ ends b w.left seen a
-trail-as {A} {v} {w} {seen} {a} {b} k o =
-    sym
-    (ap (λ (x : Bool). ends x w.left seen a) (sym o ∙ k.ok)
-    ∙ ap (λ (x : ℕ). ends v.ok x seen a) k.left
-    ∙ ap (λ (x : List ℕ). ends v.ok v.left x a) k.marks
-    ∙ ap (ends v.ok v.left v.seen) k.held)
+-- what an answer tells of what is in order and of what is left
+pub some-of : (b : Bool) (k n : ℕ) {w : Option ℕ} → w ≡ left_if b k → w ≡ Some n → (b ≡ true) × (k ≡ n)
+some-of b k n e o = cond_some b k n (sym e ∙ o)
 
-pub to-ends : {A : Type 0} {u v : Trail A} {w : Chain} {seen : List ℕ} {a : A} → Ends A u w seen a → v ≡ u → Ends A v w seen a
+pub none-of : (b : Bool) (k : ℕ) {w : Option ℕ} → w ≡ left_if b k → w ≡ None → b ≡ false
+none-of true k e o = absurd (none-some k (sym o ∙ e))
+none-of false k e o = refl
+
+pub trail-as : {A : Type 0} {v : Trail A} {w : Option ℕ} {n : ℕ} {seen : List ℕ} {a : A} → Ends A v w seen a → w ≡ Some n → v ≡ ends true n seen a
+trail-as {A} {v} {w} {n} {seen} {a} k o =
+    let t = some-of v.ok v.left n k.left o in
+    ap (λ (x : Bool). ends x v.left v.seen v.held) t.0
+    ∙ ap (λ (x : ℕ). ends true x v.seen v.held) t.1
+    ∙ ap (λ (x : List ℕ). ends true n x v.held) (sym k.marks)
+    ∙ ap (ends true n seen) (sym k.held)
+
+pub trail-none : {A : Type 0} {v : Trail A} {w : Option ℕ} {seen : List ℕ} {a : A} → Ends A v w seen a → w ≡ None → v ≡ ends false v.left seen a
+trail-none {A} {v} {w} {seen} {a} k o =
+    ap (λ (x : Bool). ends x v.left v.seen v.held) (none-of v.ok v.left k.left o)
+    ∙ ap (λ (x : List ℕ). ends false v.left x v.held) (sym k.marks)
+    ∙ ap (ends false v.left seen) (sym k.held)
+
+pub to-ends : {A : Type 0} {u v : Trail A} {w : Option ℕ} {seen : List ℕ} {a : A} → Ends A u w seen a → v ≡ u → Ends A v w seen a
 to-ends k e = rw e k
 
 -- ---- the turns of a loop along a chain
@@ -99,56 +111,60 @@ to-ends k e = rw e k
 pub record Going (A : Type 0) (whole : Trail A) (next : ℕ → ℕ) (r kind : ℕ) (f : List ℕ → A → ℕ → Turn A) (seen : List ℕ) (a : A) (i left : ℕ) : Type 0 where
   pub is : chain_of next r kind f seen a i left ≡ whole
 
-pub visit-as : {v : Visit} {w : Chain} {seen : List ℕ} {b : Bool} → Says v w seen → w.ok ≡ b → v ≡ record { ok = b; left = w.left; seen = seen }
-visit-as {v} {w} {seen} {b} s o =
-    sym (ap (λ (x : Bool). mk x w.left seen) (sym o ∙ s.ok) ∙ ap (λ (x : ℕ). mk v.ok x seen) s.left ∙ ap (mk v.ok v.left) s.marks)
-  where
-    mk : Bool → ℕ → List ℕ → Visit
-    mk b l s = record { ok = b; left = l; seen = s }
+abbrev visit : Bool → ℕ → List ℕ → Visit
+visit b n seen = record { ok = b; left = n; seen = seen }
+
+pub visit-as : {v : Visit} {w : Option ℕ} {n : ℕ} {seen : List ℕ} → Says v w seen → w ≡ Some n → v ≡ record { ok = true; left = n; seen = seen }
+visit-as {v} {w} {n} {seen} s o =
+    let t = some-of v.ok v.left n s.left o in
+    ap (λ (x : Bool). visit x v.left v.seen) t.0 ∙ ap (λ (x : ℕ). visit true x v.seen) t.1 ∙ ap (visit true n) (sym s.marks)
+
+pub visit-none : {v : Visit} {w : Option ℕ} {seen : List ℕ} → Says v w seen → w ≡ None → v ≡ record { ok = false; left = v.left; seen = seen }
+visit-none {v} {w} {seen} s o =
+    ap (λ (x : Bool). visit x v.left v.seen) (none-of v.ok v.left s.left o) ∙ ap (visit false v.left) (sym s.marks)
 
 meet-none : (r kind : ℕ) (seen : List ℕ) (i : ℕ) → meet r kind (start 0 seen) i ≡ record { ok = false; left = 0; seen = seen }
 unfolding meet is_new
 meet-none r kind seen i = refl
 
 module _ {A : Type 0} {whole : Trail A} {next : ℕ → ℕ} {r kind : ℕ} {f : List ℕ → A → ℕ → Turn A} {seen : List ℕ} {a : A} {i : ℕ} where
-  pub go-end : {left : ℕ} → Going A whole next r kind f seen a i left → i ≡ 0 → Ends A whole (record { ok = true; left = left }) seen a
+  pub go-end : {left : ℕ} → Going A whole next r kind f seen a i left → i ≡ 0 → Ends A whole (Some left) seen a
   unfolding chain_of
-  go-end {left} g e = ended-as (sym (at-end left) ∙ g.is) refl
+  go-end {left} g e = ended-as (sym (at-end left) ∙ g.is)
     where
       at-end : (k : ℕ) → chain_of next r kind f seen a i k ≡ ends true k seen a
       at-end zero = simp (eq-eqb i 0 e)
       at-end (suc k) = simp (eq-eqb i 0 e)
 
-  pub go-stop : {left : ℕ} {w : Chain} {seen' : List ℕ} → Going A whole next r kind f seen a i left → (i ≡ 0 → ⊥)
-      → Met r i left (meet r kind (start left seen) i) w seen' → w.ok ≡ false → Ends A whole w seen' a
+  pub go-stop : {left : ℕ} {w : Option ℕ} {seen' : List ℕ} → Going A whole next r kind f seen a i left → (i ≡ 0 → ⊥)
+      → Met r i left (meet r kind (start left seen) i) w seen' → w ≡ None → Ends A whole None seen' a
   unfolding chain_of after
-  go-stop {left} {w} {seen'} g ne k o = ended-as (sym (at-stop left (visit-as k.says o)) ∙ g.is) o
+  go-stop {left} {w} {seen'} g ne k o = ended-as (sym (at-stop left _ (visit-none k.says o)) ∙ g.is)
     where
-      at-stop : (n : ℕ) → meet r kind (start n seen) i ≡ record { ok = false; left = w.left; seen = seen' } → chain_of next r kind f seen a i n ≡ ends false w.left seen' a
-      at-stop zero q =
-          let u : ◌≡◌ {A = Visit} (record { ok = false; left = 0; seen = seen }) (record { ok = false; left = w.left; seen = seen' }) = sym (meet-none r kind seen i) ∙ q in
+      at-stop : (n l : ℕ) → meet r kind (start n seen) i ≡ record { ok = false; left = l; seen = seen' } → chain_of next r kind f seen a i n ≡ ends false l seen' a
+      at-stop zero l q =
+          let u : ◌≡◌ {A = Visit} (record { ok = false; left = 0; seen = seen }) (record { ok = false; left = l; seen = seen' }) = sym (meet-none r kind seen i) ∙ q in
           simp (ne_eqb i 0 ne) (ap (λ (v : Visit). ends false v.left v.seen a) u)
-      at-stop (suc n) q = simp (ne_eqb i 0 ne, q)
+      at-stop (suc n) l q = simp (ne_eqb i 0 ne, q)
 
-  pub go-bad : {left : ℕ} {w : Chain} {seen' : List ℕ} {a' : A} → Going A whole next r kind f seen a i left → (i ≡ 0 → ⊥)
-      → Met r i left (meet r kind (start left seen) i) w seen' → w.ok ≡ true → f seen' a i ≡ turn false a'
-      → Ends A whole (record { ok = false; left = w.left }) seen' a'
+  pub go-bad : {left n : ℕ} {w : Option ℕ} {seen' : List ℕ} {a' : A} → Going A whole next r kind f seen a i left → (i ≡ 0 → ⊥)
+      → Met r i left (meet r kind (start left seen) i) w seen' → w ≡ Some n → f seen' a i ≡ turn false a' → Ends A whole None seen' a'
   unfolding chain_of after
-  go-bad {left} {w} {seen'} {a'} g ne k o t = ended-as (sym (at-bad left (k.one o) (visit-as k.says o)) ∙ g.is) refl
+  go-bad {left} {n} {w} {seen'} {a'} g ne k o t = ended-as (sym (at-bad left (k.one n o) (visit-as k.says o)) ∙ g.is)
     where
-      at-bad : (n : ℕ) → n ≡ suc w.left → meet r kind (start n seen) i ≡ record { ok = true; left = w.left; seen = seen' } → chain_of next r kind f seen a i n ≡ ends false w.left seen' a'
+      at-bad : (l : ℕ) → l ≡ suc n → meet r kind (start l seen) i ≡ record { ok = true; left = n; seen = seen' } → chain_of next r kind f seen a i l ≡ ends false n seen' a'
       at-bad zero z q = absurd (omega arith)
-      at-bad (suc n) z q = simp (ne_eqb i 0 ne, q, t)
+      at-bad (suc l) z q = simp (ne_eqb i 0 ne, q, t)
 
-  pub go-more : {left : ℕ} {w : Chain} {seen' : List ℕ} {a' : A} {j : ℕ} → Going A whole next r kind f seen a i left → (i ≡ 0 → ⊥)
-      → Met r i left (meet r kind (start left seen) i) w seen' → w.ok ≡ true → f seen' a i ≡ turn true a' → j ≡ next i
-      → Going A whole next r kind f seen' a' j w.left
+  pub go-more : {left n : ℕ} {w : Option ℕ} {seen' : List ℕ} {a' : A} {j : ℕ} → Going A whole next r kind f seen a i left → (i ≡ 0 → ⊥)
+      → Met r i left (meet r kind (start left seen) i) w seen' → w ≡ Some n → f seen' a i ≡ turn true a' → j ≡ next i
+      → Going A whole next r kind f seen' a' j n
   unfolding chain_of after
-  go-more {left} {w} {seen'} {a'} {j} g ne k o t e = record { is = sym (at_more left (k.one o) (visit-as k.says o)) ∙ g.is }
+  go-more {left} {n} {w} {seen'} {a'} {j} g ne k o t e = record { is = sym (at_more left (k.one n o) (visit-as k.says o)) ∙ g.is }
     where
-      at_more : (n : ℕ) → n ≡ suc w.left → meet r kind (start n seen) i ≡ record { ok = true; left = w.left; seen = seen' } → chain_of next r kind f seen a i n ≡ chain_of next r kind f seen' a' j w.left
+      at_more : (l : ℕ) → l ≡ suc n → meet r kind (start l seen) i ≡ record { ok = true; left = n; seen = seen' } → chain_of next r kind f seen a i l ≡ chain_of next r kind f seen' a' j n
       at_more zero z q = absurd (omega arith)
-      at_more (suc n) z q =
-          let l : n ≡ w.left = omega arith in
-          let p : chain_of next r kind f seen a i (suc n) ≡ chain_of next r kind f seen' a' (next i) n = simp (ne_eqb i 0 ne, q, t) in
-          p ∙ ap (λ (x : ℕ). chain_of next r kind f seen' a' x n) (sym e) ∙ ap (chain_of next r kind f seen' a' j) l
+      at_more (suc l) z q =
+          let y : l ≡ n = omega arith in
+          let p : chain_of next r kind f seen a i (suc l) ≡ chain_of next r kind f seen' a' (next i) l = simp (ne_eqb i 0 ne, q, t) in
+          p ∙ ap (λ (x : ℕ). chain_of next r kind f seen' a' x l) (sym e) ∙ ap (chain_of next r kind f seen' a' j) y

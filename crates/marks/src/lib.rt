@@ -7,24 +7,50 @@
 #![tactic(auto)]
 
 ghost use Rattle.std.specs.Prelude.{◌≡◌, ◌<◌, length};
-ghost use Rattle.marks.specs.Marks.{entry_ok, key_ok, Met, meet, is_new, start, is_met};
+ghost use Rattle.marks.specs.Marks.{HasRecords, entry_ok, key_ok, mark_number, Met, meet, is_new, start, is_met};
 
 // What a record was reached as.
-pub const NODE: u8 = 1;
+#[derive(Clone, Copy, PartialEq, Eq, Debug)]
+pub enum Mark {
+    Node = 1,
+    Descriptor = 2,
+    Membership = 3,
+    Undo = 4,
+    Free = 5,
+}
 
-pub const DESCRIPTOR: u8 = 2;
+impl Mark {
+    // The mark's number, which stands at the place of a record that was met.
+    fn number(self) -> u8
+        ensures { result ≡ mark_number self }
+    {
+        self as u8
+    }
 
-pub const MEMBERSHIP: u8 = 3;
+    // Record i is met as this.
+    pub fn meet(self, seen: &mut [u8], r: usize, i: usize, left: usize) -> Option<usize>
+        requires { r < length seen.old }
+        ensures { Met r i left (meet r (mark_number self) (start left seen.old) i) result seen.new }
+    {
+        meet(seen, r, i, left, self.number())
+    }
 
-pub const UNDO: u8 = 4;
+    // Record i was met as this.
+    pub fn is_met(self, seen: &[u8], r: usize, i: usize) -> bool
+        requires { r < length seen.now }
+        ensures { result ≡ is_met seen.now r i (mark_number self) }
+    {
+        is_met(seen, r, i, self.number())
+    }
+}
 
-pub const FREE: u8 = 5;
-
-// A walk along a chain: whether all is in order so far, and how many records may still be met.
+// A store's words, of m entries and the records 1 to r.
 #[derive(Clone, Copy)]
-pub struct Chain {
-    pub ok: bool,
-    pub left: usize,
+pub struct Records<'a> {
+    pub store: &'a [u32],
+    pub m: usize,
+    pub r: usize,
+    pub ghost inside: { HasRecords store.now m r },
 }
 
 // A key of a group: neither infinity.
@@ -65,22 +91,17 @@ fn is_new(seen: &[u8], r: usize, i: usize, left: usize) -> bool
     seen[i] == 0
 }
 
-// Record i is met and marked, or refused.
-pub fn meet(seen: &mut [u8], r: usize, i: usize, left: usize, kind: u8) -> Chain
+// Record i is met and marked, and the answer is how many records may still be met; None where it is refused. Any slice with a place for
+// record r may be lent, so its length stands in the clauses here and above, and in no type.
+pub fn meet(seen: &mut [u8], r: usize, i: usize, left: usize, kind: u8) -> Option<usize>
     requires { r < length seen.old }
     ensures { Met r i left (meet r kind (start left seen.old) i) result seen.new }
 {
     if !is_new(seen, r, i, left) {
-        return Chain {
-            ok: false,
-            left: left,
-        };
+        return None;
     }
     seen[i] = kind;
-    Chain {
-        ok: true,
-        left: left - 1,
-    }
+    Some(left - 1)
 }
 
 // Record i was met as one of this kind.

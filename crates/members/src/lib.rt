@@ -8,11 +8,13 @@
 ghost use Rattle.std.specs.Prelude.{◌≡◌};
 ghost use Rattle.members.specs.Members.{Pinnable, Pinned, Holdable, Linkable, Nextable, Puttable, Takeable, pin_at, unpin_at, locate_at, pass_at, update_at, member_or, put_before, put_next, put_member, take_member};
 
-use groups::Membership;
+use groups::{Descriptor, Membership};
+use kinds::Record;
 
 // ---- pins and holders of descriptor d
 
 // A request pins it.
+#[tactic(auto, unfolding(crate::specs::Members::pin_at))]
 pub fn pin_at(store: &mut [u32], m: usize, d: usize)
     requires { Pinnable store.old m d }
     ensures { store.new ≡ pin_at store.old m d }
@@ -22,6 +24,7 @@ pub fn pin_at(store: &mut [u32], m: usize, d: usize)
 }
 
 // A request lets go of it.
+#[tactic(auto, unfolding(crate::specs::Members::unpin_at))]
 pub fn unpin_at(store: &mut [u32], m: usize, d: usize)
     requires { Pinned store.old m d }
     ensures { store.new ≡ unpin_at store.old m d }
@@ -31,40 +34,43 @@ pub fn unpin_at(store: &mut [u32], m: usize, d: usize)
 }
 
 // Session p comes to hold its key in locate mode.
+#[tactic(auto, unfolding(crate::specs::Members::locate_at))]
 pub fn hold_locate(store: &mut [u32], m: usize, d: usize, p: u32)
     requires { Holdable store.old m d p }
     ensures { store.new ≡ locate_at store.old m d p }
 {
-    let v = groups::load_descriptor(store, m, d);
+    let v = Descriptor::load(store, m, d);
     let locate = locks::with_session(v.locate, p);
-    groups::write_descriptor(store, m, d, groups::grant_locate(v, locate));
+    v.grant_locate(locate).write(store, m, d);
 }
 
 // Session p comes to hold its key in locate mode, and the gap behind it.
+#[tactic(auto, unfolding(crate::specs::Members::pass_at, groups::specs::Descriptor::with_holders))]
 pub fn hold_pass(store: &mut [u32], m: usize, d: usize, p: u32)
     requires { Holdable store.old m d p }
     ensures { store.new ≡ pass_at store.old m d p }
 {
-    let v = groups::load_descriptor(store, m, d);
+    let v = Descriptor::load(store, m, d);
     let locate = locks::with_session(v.locate, p);
     let gap = locks::with_session(v.gap, p);
-    let w = groups::grant_locate(v, locate);
-    groups::write_descriptor(store, m, d, groups::grant_gap(w, gap));
+    v.grant_locate(locate).grant_gap(gap).write(store, m, d);
 }
 
 // Session p comes to hold its key in update mode.
+#[tactic(auto, unfolding(crate::specs::Members::update_at))]
 pub fn hold_update(store: &mut [u32], m: usize, d: usize, p: u32)
     requires { Holdable store.old m d p }
     ensures { store.new ≡ update_at store.old m d p }
 {
-    let v = groups::load_descriptor(store, m, d);
+    let v = Descriptor::load(store, m, d);
     let update = locks::with_session(v.update, p);
-    groups::write_descriptor(store, m, d, groups::grant_update(v, update));
+    v.grant_update(update).write(store, m, d);
 }
 
 // ---- the members of descriptor d's group
 
-// Membership i, if there is one.
+// Membership i, if there is one; else one of zeros, and no None: the definition `member_or` says so, and what follows from it goes by it.
+#[tactic(auto, unfolding(crate::specs::Members::member_or, crate::specs::Members::no_member))]
 fn member_or(store: &[u32], m: usize, i: usize) -> Membership
     requires { Linkable store.now m i }
     ensures { result ≡ member_or store.now m i }
@@ -76,10 +82,11 @@ fn member_or(store: &[u32], m: usize, i: usize) -> Membership
             entry: 0,
         };
     }
-    groups::load_membership(store, m, i)
+    Membership::load(store, m, i)
 }
 
 // Membership i, which was b, gets another member before it, if there is a membership i.
+#[tactic(auto, unfolding(crate::specs::Members::put_before))]
 fn set_before(store: &mut [u32], m: usize, i: usize, b: Membership, before: u32)
     requires { Linkable store.old m i }
     ensures { store.new ≡ put_before store.old m i b before }
@@ -87,21 +94,22 @@ fn set_before(store: &mut [u32], m: usize, i: usize, b: Membership, before: u32)
     if i == 0 {
         return;
     }
-    groups::write_membership(store, m, i, groups::with_member_before(b, before));
+    b.with_member_before(before).write(store, m, i);
 }
 
 // What follows membership b becomes n; where b is 0, that is the descriptor's first member.
+#[tactic(auto, unfolding(crate::specs::Members::put_next))]
 fn set_next(store: &mut [u32], m: usize, d: usize, b: usize, n: u32)
     requires { Nextable store.old m d b }
     ensures { store.new ≡ put_next store.old m d b n }
 {
     if b == 0 {
-        let v = groups::load_descriptor(store, m, d);
-        groups::write_descriptor(store, m, d, groups::with_first_member(v, n));
+        let v = Descriptor::load(store, m, d);
+        v.with_first_member(n).write(store, m, d);
         return;
     }
-    let v = groups::load_membership(store, m, b);
-    groups::write_membership(store, m, b, groups::with_next_member(v, n));
+    let v = Membership::load(store, m, b);
+    v.with_next_member(n).write(store, m, b);
 }
 
 // Record i becomes the first member, for entry e.
@@ -109,7 +117,7 @@ pub fn put_member(store: &mut [u32], m: usize, d: usize, i: usize, e: u32)
     requires { Puttable store.old m d i }
     ensures { store.new ≡ put_member store.old m d i e }
 {
-    let v = groups::load_descriptor(store, m, d);
+    let v = Descriptor::load(store, m, d);
     let first = v.first as usize;
     let after = member_or(store, m, first);
     let own = i as u32;
@@ -118,9 +126,9 @@ pub fn put_member(store: &mut [u32], m: usize, d: usize, i: usize, e: u32)
         before: 0,
         entry: e,
     };
-    groups::write_membership(store, m, i, b);
+    b.write(store, m, i);
     set_before(store, m, first, after, own);
-    groups::write_descriptor(store, m, d, groups::with_first_member(v, own));
+    v.with_first_member(own).write(store, m, d);
 }
 
 // Record i goes out: its neighbours pass it by, and the record itself stays as it is.
@@ -128,7 +136,7 @@ pub fn take_member(store: &mut [u32], m: usize, d: usize, i: usize)
     requires { Takeable store.old m d i }
     ensures { store.new ≡ take_member store.old m d i }
 {
-    let b = groups::load_membership(store, m, i);
+    let b = Membership::load(store, m, i);
     let before = b.before as usize;
     let next = b.next as usize;
     let after = member_or(store, m, next);

@@ -1,228 +1,240 @@
 // Request: the steps of the six requests outside the descent.
-use naive_steps::line::first_of;
-use naive_steps::party::{
-    DONE, ENTER, IDLE, INSERT, MORE, Plan, READ, REMOVE, Said, TAKE, WRITE, lack, others, reply,
-    unless,
-};
-use naive_steps::undo::change_word;
-use naive_tree::arrays::{
-    CODE, COUNTERS, ENTRY, ENTRY_SLOTS, EXCLUSIVES, FIRST, GAPS, GROUPS, KEYS, LAST, LOCATES,
-    NOWHERE, SECOND, SHARES, UPDATES, VALUES, Words, add_bits, bit, field, get, minus, plus, raise,
-    set_field,
-};
-use naive_tree::events::{
-    ADDED, ENTRY_WAIT, INSERT_UNDONE, KEY_TAKEN, KEY_WAIT, LOCATE_DONE, NO_EVENT, NOTHING_ABOVE,
-    READ_DONE, TAKEN_OUT, UPDATED_BY_MANY, UPDATED_TOO, VALUE_UNDONE, WAS_ABSENT, WRITE_DONE,
-};
-use naive_tree::keys::{count_members, place, rank};
+use super::Model;
+use naive_steps::descent::{Lock, Plan, Wait};
+use naive_steps::party::{Code, Progress, Refusal, Request, Stage, Step, bit, others};
+use naive_steps::undo::Word;
+use naive_tree::events::Event;
+use naive_tree::keys::{Descriptor, count_members};
 
-// Where an entry stands in the arrays of the entries.
-pub fn element(e: u32) -> u32 {
-    let i = minus(e, 1);
-    if i < ENTRY_SLOTS {
-        return i;
+impl Model {
+    fn request_of(&self, p: u32) -> Request {
+        self.state.parties.get(p).request
     }
-    NOWHERE
-}
 
-// Where the entry of a party's request stands.
-fn element_of(a: &Words, p: u32) -> u32 {
-    element(field(a, p, ENTRY))
-}
-
-// Where the group of its first key stands, and the key that it takes next.
-fn group_of(a: &Words, p: u32) -> u32 {
-    place(a, field(a, p, FIRST))
-}
-
-fn next_of(a: &Words, p: u32) -> u32 {
-    rank(a, field(a, p, LAST))
-}
-
-// A step that needs a lock, with these holders in conflict: a wait names the one of the others that began first.
-fn lock_plan(a: &Words, p: u32, holders: u32, event: u32, refusal: u32, lock: u32) -> Plan {
-    let parties = others(holders, p);
-    Plan {
-        named: first_of(a, parties),
-        parties: parties,
-        event: event,
-        refusal: refusal,
-        beside: 0,
-        lock: lock,
+    /// The descriptor of the first key of a party's request.
+    fn group_of(&self, p: u32) -> Descriptor {
+        let key = self.request_of(p).first;
+        self.state.descriptors.at_or_below(key).unwrap_or_default()
     }
-}
 
-// The first step of a request: a read shares the entry, a write, insert or remove has it alone.
-pub fn entry_plan(a: &Words, p: u32) -> Plan {
-    let i = element_of(a, p);
-    let code = field(a, p, CODE);
-    let is_read = code == READ;
-    let holders = unless(is_read, get(a, SHARES, i)) | get(a, EXCLUSIVES, i);
-    let refusal = lack(a, (code == WRITE) as u32);
-    let lock = plus(minus(EXCLUSIVES, (is_read as u32) << 5), i);
-    lock_plan(a, p, holders, ENTRY_WAIT, refusal, lock)
-}
-
-// The last step of an insert or remove, which only those that locate the key keep waiting. An insert needs a record for the membership and one for the
-// log; the record of a membership that is taken out becomes the undo record.
-pub fn group_plan(a: &Words, p: u32) -> Plan {
-    let i = group_of(a, p);
-    let is_new = change_event(a, p) == ADDED;
-    let refusal = lack(a, (is_new as u32) << 1);
-    lock_plan(
-        a,
-        p,
-        get(a, LOCATES, i),
-        KEY_WAIT,
-        refusal,
-        plus(UPDATES, i),
-    )
-}
-
-// A locate's step to its next key. With the last one it must have room in its list for all that it finds.
-pub fn key_plan(a: &Words, p: u32, room: usize) -> Plan {
-    let i = next_of(a, p);
-    let count = found(a, p);
-    let is_short = is_last(a, p) & (room < plus(count, count) as usize);
-    let refusal = unless(!is_short, 12);
-    let mut x = lock_plan(
-        a,
-        p,
-        get(a, UPDATES, i),
-        KEY_WAIT,
-        refusal,
-        plus(LOCATES, i),
-    );
-    x.beside = count;
-    x
-}
-
-// Is the key that a locate takes next its last?
-fn is_last(a: &Words, p: u32) -> bool {
-    get(a, KEYS, next_of(a, p)) == field(a, p, SECOND)
-}
-
-// How many memberships a locate finds.
-fn found(a: &Words, p: u32) -> u32 {
-    count_members(a, group_of(a, p), rank(a, field(a, p, SECOND)))
-}
-
-// The event that counts a request that is done in its first step: a tidy with nothing above its first, a read, a write.
-fn start_event(code: u32) -> u32 {
-    match code {
-        READ => READ_DONE,
-        WRITE => WRITE_DONE,
-        _ => NOTHING_ABOVE,
+    /// The descriptor that a party takes next.
+    fn next_of(&self, p: u32) -> Descriptor {
+        let key = self.state.parties.get(p).last;
+        self.state.descriptors.above(key).unwrap_or_default()
     }
-}
 
-// The first step of a request, with the entry's lock.
-pub fn start(a: &mut Words, p: u32) -> Said {
-    let code = field(a, p, CODE);
-    if (code == INSERT) | (code == REMOVE) {
-        return reply(a, p, NO_EVENT, ENTER, MORE, 0, 0);
+    /// A step that needs a lock, with these holders in conflict: a wait names the one of the others that began first.
+    fn lock_plan(
+        &self,
+        p: u32,
+        holders: u32,
+        event: Event,
+        refusal: Option<Refusal>,
+        lock: Lock,
+    ) -> Plan {
+        let parties = others(holders, p);
+        Plan {
+            wait: self.state.line.first_of(parties).map(|named| Wait {
+                named,
+                parties,
+                event,
+            }),
+            refusal,
+            lock: Some(lock),
+        }
     }
-    let i = element_of(a, p);
-    let value = get(a, VALUES, i);
-    if code == WRITE {
-        let new = field(a, p, FIRST);
-        change_word(a, p, VALUE_UNDONE, VALUES, i, new);
+
+    /// The first step of a request: a read shares the entry, a write, insert or remove has it alone.
+    pub(crate) fn entry_plan(&self, p: u32) -> Plan {
+        let request = self.request_of(p);
+        let e = request.entry;
+        let entry = self.state.entry(e);
+        let (holders, lock) = match request.code {
+            Code::Read => (entry.exclusive, Lock::Share(e)),
+            _ => (entry.share | entry.exclusive, Lock::Exclusive(e)),
+        };
+        let refusal = self.state.lack((request.code == Code::Write) as u32);
+        self.lock_plan(p, holders, Event::EntryWait, refusal, lock)
     }
-    reply(
-        a,
-        p,
-        start_event(code),
-        IDLE,
-        DONE,
-        unless(code != READ, value),
-        0,
-    )
-}
 
-// What the group is once the entry has come in or gone out.
-fn turned(a: &Words, p: u32) -> u32 {
-    get(a, GROUPS, group_of(a, p)) ^ bit(field(a, p, ENTRY))
-}
-
-// The event that counts an insert or remove: of an entry that comes in, or is in; of one that goes out, or is out.
-fn change_event(a: &Words, p: u32) -> u32 {
-    let is_member = turned(a, p) < get(a, GROUPS, group_of(a, p));
-    if field(a, p, CODE) == INSERT {
-        return plus(ADDED, is_member as u32);
-    }
-    minus(WAS_ABSENT, is_member as u32)
-}
-
-// Counts an insert or remove at a key where others have the group's lock too.
-fn count_together(a: &mut Words, p: u32) {
-    let n = u32::count_ones(others(get(a, UPDATES, group_of(a, p)), p));
-    raise(a, COUNTERS, UPDATED_TOO, (0 < n) as u32);
-    raise(a, COUNTERS, UPDATED_BY_MANY, (1 < n) as u32);
-}
-
-// The last step of an insert or remove, with the group's lock.
-pub fn change(a: &mut Words, p: u32) -> Said {
-    count_together(a, p);
-    let event = change_event(a, p);
-    if event % 2 == 1 {
-        let key = field(a, p, FIRST);
-        let group = turned(a, p);
-        change_word(
-            a,
+    /// The last step of an insert or remove, which only those that locate the key keep waiting. An insert needs a record for the membership and one for the
+    /// log; the record of a membership that is taken out becomes the undo record.
+    pub(crate) fn group_plan(&self, p: u32) -> Plan {
+        let group = self.group_of(p);
+        let need = if self.change_event(p) == Event::Added {
+            2
+        } else {
+            0
+        };
+        let refusal = self.state.lack(need);
+        self.lock_plan(
             p,
-            plus(INSERT_UNDONE, (event == TAKEN_OUT) as u32),
-            GROUPS,
-            key,
-            group,
-        );
+            group.locate,
+            Event::KeyWait,
+            refusal,
+            Lock::Update(group.key),
+        )
     }
-    reply(a, p, event, IDLE, DONE, event % 2, 0)
+
+    /// A locate's step to its next key. With the last one it must have room in its list for all that it finds.
+    pub(crate) fn key_plan(&self, p: u32, room: usize) -> Plan {
+        let next = self.next_of(p);
+        let count = self.found(p);
+        let is_short = self.is_last(p) && room < count.saturating_mul(2) as usize;
+        let refusal = is_short.then_some(Refusal::List(count));
+        self.lock_plan(
+            p,
+            next.update,
+            Event::KeyWait,
+            refusal,
+            Lock::Locate(next.key),
+        )
+    }
+
+    /// Party p takes a lock.
+    pub(crate) fn take_lock(&mut self, p: u32, lock: Lock) {
+        match lock {
+            Lock::Share(e) => {
+                let mut entry = self.state.entry(e);
+                entry.share |= bit(p);
+                self.state.set_entry(e, entry);
+            }
+            Lock::Exclusive(e) => {
+                let mut entry = self.state.entry(e);
+                entry.exclusive |= bit(p);
+                self.state.set_entry(e, entry);
+            }
+            Lock::Locate(key) => {
+                if let Some(mut d) = self.state.descriptors.of(key) {
+                    d.locate |= bit(p);
+                    self.state.descriptors.replace(d);
+                }
+            }
+            Lock::Update(key) => {
+                if let Some(mut d) = self.state.descriptors.of(key) {
+                    d.update |= bit(p);
+                    self.state.descriptors.replace(d);
+                }
+            }
+        }
+    }
+
+    /// Is the key that a locate takes next its last?
+    fn is_last(&self, p: u32) -> bool {
+        self.next_of(p).key == self.request_of(p).second
+    }
+
+    /// How many memberships a locate finds.
+    fn found(&self, p: u32) -> u32 {
+        let request = self.request_of(p);
+        count_members(
+            self.state
+                .descriptors
+                .between(request.first, request.second),
+        )
+    }
+
+    /// The first step of a request, with the entry's lock. A tidy that comes here has nothing above its first.
+    pub(crate) fn start(&mut self, p: u32) -> Progress {
+        let request = self.request_of(p);
+        let e = request.entry;
+        let (event, answer) = match request.code {
+            Code::Insert | Code::Remove => {
+                self.state.reach(p, Stage::InHand(Step::Enter), None);
+                return Progress::More;
+            }
+            Code::Read => (Event::ReadDone, self.state.entry(e).value),
+            Code::Write => {
+                let word = Word::Value(e);
+                self.state
+                    .change_word(p, Event::ValueUndone, word, request.first);
+                (Event::WriteDone, 0)
+            }
+            Code::Locate | Code::Tidy => (Event::NothingAbove, 0),
+        };
+        self.state.reach(p, Stage::Idle, Some(event));
+        Progress::Done(answer)
+    }
+
+    /// The event that counts an insert or remove: of an entry that comes in, or is in; of one that goes out, or is out.
+    fn change_event(&self, p: u32) -> Event {
+        let request = self.request_of(p);
+        let is_member = self.group_of(p).group & bit(request.entry) != 0;
+        match (request.code, is_member) {
+            (Code::Insert, false) => Event::Added,
+            (Code::Insert, true) => Event::WasMember,
+            (_, true) => Event::TakenOut,
+            (_, false) => Event::WasAbsent,
+        }
+    }
+
+    /// Counts an insert or remove at a key where others have the group's lock too.
+    fn count_together(&mut self, p: u32) {
+        let n = others(self.group_of(p).update, p).count_ones();
+        self.state.counts.note_if(0 < n, Event::UpdatedToo);
+        self.state.counts.note_if(1 < n, Event::UpdatedByMany);
+    }
+
+    /// The last step of an insert or remove, with the group's lock.
+    pub(crate) fn change(&mut self, p: u32) -> Progress {
+        self.count_together(p);
+        let request = self.request_of(p);
+        let turned = self.group_of(p).group ^ bit(request.entry);
+        let word = Word::Group(request.first);
+        let event = self.change_event(p);
+        let undone = match event {
+            Event::Added => Some(Event::InsertUndone),
+            Event::TakenOut => Some(Event::RemoveUndone),
+            _ => None,
+        };
+        if let Some(undone) = undone {
+            self.state.change_word(p, undone, word, turned);
+        }
+        self.state.reach(p, Stage::Idle, Some(event));
+        Progress::Done(undone.is_some() as u32)
+    }
+
+    /// A locate takes a key: with its last it is done, else it takes the gap behind it too and goes on.
+    pub(crate) fn take(&mut self, p: u32) -> Progress {
+        if self.is_last(p) {
+            let count = self.found(p);
+            self.state.reach(p, Stage::Idle, Some(Event::LocateDone));
+            return Progress::Done(count);
+        }
+        let mut next = self.next_of(p);
+        next.gap |= bit(p);
+        self.state.descriptors.replace(next);
+        let mut party = self.state.parties.get(p);
+        party.last = next.key;
+        self.state.parties.set(p, party);
+        self.state.counts.note(Event::KeyTaken);
+        Progress::More
+    }
+
+    /// Lists the memberships that a locate found, rising by key and by entry, each as its key and its entry.
+    pub(crate) fn list_groups(&self, list: &mut [u32], request: Request) {
+        let mut n = 0;
+        for d in self
+            .state
+            .descriptors
+            .between(request.first, request.second)
+        {
+            for e in 1..=32 {
+                if d.group & bit(e) != 0 {
+                    put_pair(list, n, d.key, e);
+                    n = n.saturating_add(2);
+                }
+            }
+        }
+    }
 }
 
-// A locate takes a key: with its last it is done, else it takes the gap behind it too and goes on.
-pub fn take(a: &mut Words, p: u32) -> Said {
-    if is_last(a, p) {
-        let count = found(a, p);
-        return reply(a, p, LOCATE_DONE, IDLE, DONE, count, 0);
+/// Puts a key and an entry at a place of a list. What lies behind the list is lost.
+fn put_pair(list: &mut [u32], at: usize, key: u32, entry: u32) {
+    if let Some(word) = list.get_mut(at) {
+        *word = key;
     }
-    let i = next_of(a, p);
-    take_gap(a, p, i)
-}
-
-fn take_gap(a: &mut Words, p: u32, i: u32) -> Said {
-    let key = get(a, KEYS, i);
-    add_bits(a, GAPS, i, bit(p));
-    set_field(a, p, LAST, key);
-    reply(a, p, KEY_TAKEN, TAKE, MORE, 0, 0)
-}
-
-// Word k of a list of all entries of all groups, each with its key before it; 0 for those that are no members.
-fn listed(a: &Words, k: u32) -> u32 {
-    let e = (k >> 1) % 32;
-    if (get(a, GROUPS, k >> 6) >> e) % 2 == 0 {
-        return 0;
-    }
-    if k % 2 == 0 {
-        return get(a, KEYS, k >> 6);
-    }
-    e + 1
-}
-
-fn list_word(list: &mut [u32], n: u32, x: u32) {
-    let i = n as usize;
-    if i < list.len() {
-        list[i] = x;
-    }
-}
-
-// Lists the memberships that a locate found, rising by key and by entry, each as its key and its entry. What is no member goes behind every list.
-pub fn list_groups(a: &Words, list: &mut [u32], p: u32) {
-    let from = group_of(a, p) << 6;
-    let end = rank(a, field(a, p, SECOND)) << 6;
-    let mut n = 0;
-    for k in from..end {
-        let x = listed(a, k);
-        list_word(list, n | ((x == 0) as u32) << 31, x);
-        n = plus(n, (x != 0) as u32);
+    if let Some(word) = list.get_mut(at.saturating_add(1)) {
+        *word = entry;
     }
 }

@@ -1,56 +1,29 @@
 // Chains: a chain is written down record by record, and each record that it meets is marked.
-use crate::fields::{NEXT, records, word};
+use crate::records::{Journal, RECORDS, Record};
+use arrayvec::ArrayVec;
+use std::mem;
 
-// The records of a chain, in its order.
-pub type Places = [u32; 2048];
-
-// Said in place of a number of records: the chain leaves the file or meets a record twice.
-pub const BROKEN: u32 = 4294967295;
+pub type Chain<'a> = ArrayVec<Record<'a>, RECORDS>;
 
 // A mark for each record, and one for the number 0, that no record has.
-type Marks = [bool; 2049];
+const MARKS: usize = RECORDS + 1;
 
-pub fn place(p: &Places, i: u32) -> u32 {
-    let at = i as usize;
-    if at < 2048 {
-        return p[at];
-    }
-    0
-}
-
-pub fn set_place(p: &mut Places, i: u32, record: u32) {
-    let at = i as usize;
-    if at < 2048 {
-        p[at] = record;
-    }
-}
-
-fn is_marked(m: &Marks, record: u32) -> bool {
-    let at = record as usize;
-    at < 2049 && m[at]
-}
-
-fn mark(m: &mut Marks, record: u32) {
-    let at = record as usize;
-    if at < 2049 {
-        m[at] = true;
-    }
-}
-
-// Writes down the chain from a record on. Says how many records it has. No more than 2,048 are marked, so a chain is broken or at its end by then.
-pub fn chain(bytes: &[u8], start: u32, p: &mut Places) -> u32 {
-    let mut m = [false; 2049];
+// Writes down the chain from the record with this number on; none where it leaves the file or meets a record twice. No more than 2,048 are marked, so a
+// chain is broken or at its end by then.
+pub fn chain<'a>(journal: Journal<'a>, start: u32) -> Option<Chain<'a>> {
+    let mut marks = [false; MARKS];
+    let mut chain = ArrayVec::new();
     let mut at = start;
-    for n in 0..2049 {
+    for _ in 0..MARKS {
         if at == 0 {
-            return n;
+            return Some(chain);
         }
-        if records(bytes) < at || is_marked(&m, at) {
-            return BROKEN;
+        let record = journal.record(at)?;
+        let mark = marks.get_mut(at as usize)?;
+        if mem::replace(mark, true) || chain.try_push(record).is_err() {
+            return None;
         }
-        mark(&mut m, at);
-        set_place(p, n, at);
-        at = word(bytes, at, NEXT);
+        at = record.next();
     }
-    BROKEN
+    None
 }

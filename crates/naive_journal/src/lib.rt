@@ -1,53 +1,58 @@
 // Naive journal: a second checker of journals, to be run beside the first and compared with it. It is written from document 02's M-102, document 01 and the
 // decisions on journals, which the first one follows too: where a decision is wrong, both are.
 //
-// Every chain is written down in an array, with a mark for each record that it meets. The committed runs are collected first, in order of commit, and then
-// done one behind another. What they write is a list of writes, where the value of an entry is found from the end; their memberships are a bag in no order. A
-// list is right if each of its pairs is a membership in the range and comes behind the one before, and if there are as many as the bag has in the range.
+// Every chain is written down, with a mark for each record that it meets. The committed runs are done one behind another, in order of commit. What they write
+// is a list of writes, where the value of an entry is found from the end; their memberships are a bag in no order. A list is right if each of its pairs is a
+// membership in the range and comes behind the one before, and if there are as many as the bag has in the range.
 //
 // It promises that every function is safe and ends, on any bytes. That it does what these say is tested and not proved.
 #![tactic(auto)]
 
 mod chains;
-mod fields;
 mod held;
+mod records;
 mod rules;
 mod runs;
 
-use chains::{BROKEN, Places, chain, place};
-use fields::{CODE, LIST, LOCATE, records, word};
+use chains::chain;
+use records::{Code, Journal, Record};
 use rules::are_kept;
 use runs::are_repeated;
 
-// Do the lists of all locates on the main chain of n end?
-fn do_lists_end(bytes: &[u8], main: &Places, n: u32) -> bool {
-    let mut list = [0u32; 2048];
-    for i in 0..n {
-        let record = place(main, i);
-        if word(bytes, record, CODE) == LOCATE
-            && chain(bytes, word(bytes, record, LIST), &mut list) == BROKEN
-        {
-            return false;
-        }
-    }
-    true
+// Why a journal is refused, with the numbers of document 02.
+#[derive(Clone, Copy, PartialEq, Eq, Debug)]
+enum Refusal {
+    Form = 15,
+    Rules = 16,
+    Answers = 17,
 }
 
-// What a journal is refused by, 15, 16 or 17, or 0.
+// Do the lists of all locates on the main chain end?
+fn do_lists_end(journal: Journal<'_>, main: &[Record<'_>]) -> bool {
+    main.iter()
+        .filter(|record| record.code() == Some(Code::Locate))
+        .all(|record| chain(journal, record.list()).is_some())
+}
+
+fn judge(bytes: &[u8]) -> Result<(), Refusal> {
+    let journal = Journal::new(bytes).ok_or(Refusal::Form)?;
+    let main = chain(journal, 1).ok_or(Refusal::Form)?;
+    if !do_lists_end(journal, main.as_slice()) {
+        return Err(Refusal::Form);
+    }
+    if !are_kept(main.as_slice()) {
+        return Err(Refusal::Rules);
+    }
+    if !are_repeated(journal, main.as_slice()) {
+        return Err(Refusal::Answers);
+    }
+    Ok(())
+}
+
+// What a journal is refused by, 15, 16 or 17, or 0. It is a number, as the verdict of crate journal is, which it is compared with.
 pub fn verdict(bytes: &[u8]) -> u32 {
-    if records(bytes) == 0 {
-        return 15;
+    match judge(bytes) {
+        Ok(()) => 0,
+        Err(refusal) => refusal as u32,
     }
-    let mut main = [0u32; 2048];
-    let n = chain(bytes, 1, &mut main);
-    if n == BROKEN || !do_lists_end(bytes, &main, n) {
-        return 15;
-    }
-    if !are_kept(bytes, &main, n) {
-        return 16;
-    }
-    if !are_repeated(bytes, &main, n) {
-        return 17;
-    }
-    0
 }

@@ -1,226 +1,245 @@
 // Descent: the way of a party from the root to the lowest node of its key, a step a level.
-use super::line::NOBODY;
-use super::party::{
-    AT, CHANGE, DONE, ENTER, IDLE, LOCATE, MORE, Plan, Said, TAKE, alone, is_pinned, lack,
-    latched_by, reply,
-};
-use naive_tree::arrays::{
-    CHILDREN, CODE, COUNTERS, FANOUTS, GAPS, GROUPS, HEADER, LEVELS, LOCATES, NOWHERE, ROOT,
-    SECOND, TARGET, UPDATES, Words, field, get, minus, note, plus, raise, set, set_field,
-};
-use naive_tree::events::{
-    DECLINED, DROPPED_AND_SPLIT, JOIN, LATCH_WAIT, MADE, MADE_IN_HELD_GAP, MOVE, NO_EVENT,
-    NODE_SPLIT, ROOT_DROPPED, ROOT_SPLIT,
-};
-use naive_tree::keys::{gap_below, is_stored, place};
-use naive_tree::tree::{
-    add_descriptor, below_lone_root, branch, free_node, join, move_one, remove_descriptor, split,
-    split_root,
-};
+use super::party::{Code, Progress, Refusal, Stage, Step, alone};
+use super::state::State;
+use naive_tree::events::Event;
+use naive_tree::keys::Descriptor;
+use naive_tree::tree::{MOST_SONS, Place};
 
-// Must a session split the node that it enters?
-fn is_full(a: &Words, p: u32, n: u32) -> bool {
-    (p != 0) & (get(a, FANOUTS, n) == 8)
+/// The long lock that a step takes: of an entry, or of a key.
+#[derive(Clone, Copy, PartialEq, Eq, Debug)]
+pub enum Lock {
+    Share(u32),
+    Exclusive(u32),
+    Locate(u32),
+    Update(u32),
 }
 
-// The place of the son of a node to which the party goes.
-fn way(a: &Words, p: u32, n: u32) -> u32 {
-    branch(a, n, field(a, p, TARGET))
+/// A wait: the party that it names, the set of all that are in the way, party q as bit q, and the event that counts it.
+#[derive(Clone, Copy)]
+pub struct Wait {
+    pub named: u32,
+    pub parties: u32,
+    pub event: Event,
 }
 
-// The left place of the two that are joined or between which a son moves: the neighbour is the node to the left, of the first node the one to the right.
-fn left_place(at: u32) -> u32 {
-    minus(at, (at % 8 != 0) as u32)
+/// What a step takes: it waits, or else it is refused, or else it takes a lock.
+#[derive(Clone, Copy)]
+pub struct Plan {
+    pub wait: Option<Wait>,
+    pub refusal: Option<Refusal>,
+    pub lock: Option<Lock>,
 }
 
-fn neighbour(at: u32) -> u32 {
-    let left = left_place(at);
-    plus(left, (left == at) as u32)
+/// What is done to a node before the party enters it: a session splits a full one; the housekeeper joins one with three sons with its neighbour, or moves a
+/// son to it from there.
+#[derive(Clone, Copy, PartialEq, Eq, Debug)]
+enum Due {
+    Nothing,
+    Split,
+    Join,
+    Move,
 }
 
-// Which of the two events it is: that of the right neighbour is one more.
-fn sided(event: u32, at: u32) -> u32 {
-    plus(event, (at % 8 == 0) as u32)
-}
-
-// What is done to the node at a place before the party enters it, by its event: a session splits a full one; the housekeeper joins one with three sons
-// with its left neighbour or with its right one, or moves a son to it from one of them.
-fn due(a: &Words, p: u32, at: u32) -> u32 {
-    let n = get(a, CHILDREN, at);
-    if is_full(a, p, n) {
-        return NODE_SPLIT;
-    }
-    if (p != 0) | (get(a, FANOUTS, n) != 3) {
-        return NO_EVENT;
-    }
-    if get(a, FANOUTS, get(a, CHILDREN, neighbour(at))) <= 5 {
-        return sided(JOIN, at);
-    }
-    sided(MOVE, at)
-}
-
-// A step that needs two nodes, which may be one, and so many records: a wait names whoever has latched the first of them, or else the second.
-fn latch_plan(a: &Words, p: u32, first: u32, second: u32, need: u32) -> Plan {
-    let x = latched_by(a, p, first);
-    let y = latched_by(a, p, second);
-    let named = if x == NOBODY { y } else { x };
-    Plan {
-        named: named,
-        parties: alone(x) | alone(y),
-        event: LATCH_WAIT,
-        refusal: lack(a, need),
-        beside: 0,
-        lock: NOWHERE,
+impl Due {
+    /// The event that counts it, at a place.
+    fn event(self, at: Place) -> Option<Event> {
+        match self {
+            Due::Nothing => None,
+            Due::Split => Some(Event::NodeSplit),
+            Due::Join if at.is_first() => Some(Event::JoinedRight),
+            Due::Join => Some(Event::JoinedLeft),
+            Due::Move if at.is_first() => Some(Event::MovedFromRight),
+            Due::Move => Some(Event::MovedFromLeft),
+        }
     }
 }
 
-// The step into the root, which stands above its lone son. A split of it needs two records, and one becomes free where a root whose lone son is a node is
-// dropped.
-pub fn root_plan(a: &Words, p: u32) -> Plan {
-    let top = get(a, HEADER, ROOT);
-    let n = below_lone_root(a);
-    let is_full = is_full(a, p, n);
-    let need = plus(is_full as u32, (is_full & (n == top)) as u32);
-    latch_plan(a, p, top, n, need)
-}
+impl State {
+    /// Must a session split the node that it enters?
+    fn is_full(&self, p: u32, n: u32) -> bool {
+        p != 0 && self.tree.fanout(n) == MOST_SONS
+    }
 
-// The step at a lowest node: it needs no node, and a descriptor that is made needs a record.
-fn lowest_plan(a: &Words, p: u32) -> Plan {
-    let is_new = (p != 0) & !is_stored(a, field(a, p, TARGET));
-    Plan {
-        named: NOBODY,
-        parties: 0,
-        event: NO_EVENT,
-        refusal: lack(a, is_new as u32),
-        beside: 0,
-        lock: NOWHERE,
+    /// The place of the son of a node to which the party goes.
+    fn way(&self, p: u32, n: u32) -> Place {
+        self.tree.branch(n, self.parties.get(p).target)
     }
-}
 
-// The step down from node n. A split needs a record. Of two that are joined or between which a son moves the left one comes first.
-pub fn way_plan(a: &Words, p: u32, n: u32) -> Plan {
-    if get(a, LEVELS, n) == 1 {
-        return lowest_plan(a, p);
+    /// What is due at the node at a place before the party enters it.
+    fn due(&self, p: u32, at: Place) -> Due {
+        let n = self.tree.child(at);
+        if self.is_full(p, n) {
+            return Due::Split;
+        }
+        if p != 0 || self.tree.fanout(n) != 3 {
+            return Due::Nothing;
+        }
+        if self.tree.fanout(self.tree.child(at.neighbour())) <= 5 {
+            Due::Join
+        } else {
+            Due::Move
+        }
     }
-    let at = way(a, p, n);
-    let event = due(a, p, at);
-    let need = (event == NODE_SPLIT) as u32;
-    if minus(event, JOIN) < 4 {
-        let left = left_place(at);
-        let right = plus(left, 1);
-        return latch_plan(a, p, get(a, CHILDREN, left), get(a, CHILDREN, right), need);
-    }
-    let son = get(a, CHILDREN, at);
-    latch_plan(a, p, son, son, need)
-}
 
-// Enters the root: one whose lone son is a node is dropped first, and a full one split.
-pub fn enter(a: &mut Words, p: u32) -> Said {
-    let n = below_lone_root(a);
-    let is_full = is_full(a, p, n);
-    drop_root(a, n, is_full);
-    if is_full {
-        let top = split_root(a, n);
-        return enter_son(a, p, ROOT_SPLIT, top);
+    /// A step that needs two nodes, which may be one, and so many records: a wait names whoever has latched the first of them, or else the second.
+    fn latch_plan(&self, p: u32, first: u32, second: u32, need: u32) -> Plan {
+        let x = self.parties.latched_by(p, first);
+        let y = self.parties.latched_by(p, second);
+        Plan {
+            wait: x.or(y).map(|named| Wait {
+                named,
+                parties: x.map_or(0, alone) | y.map_or(0, alone),
+                event: Event::LatchWait,
+            }),
+            refusal: self.lack(need),
+            lock: None,
+        }
     }
-    reply(a, p, NO_EVENT, plus(AT, n), MORE, 0, 0)
-}
 
-// The root becomes n; if it was another, that one is dropped.
-fn drop_root(a: &mut Words, n: u32, is_split: bool) {
-    let top = get(a, HEADER, ROOT);
-    if top != n {
-        note(a, ROOT_DROPPED);
-        raise(a, COUNTERS, DROPPED_AND_SPLIT, is_split as u32);
-        free_node(a, top);
-        set(a, HEADER, ROOT, n);
+    /// The step into the root, which stands above its lone son. A split of it needs two records, and one becomes free where a root whose lone son is a node
+    /// is dropped.
+    pub fn root_plan(&self, p: u32) -> Plan {
+        let top = self.tree.root();
+        let n = self.tree.below_lone_root();
+        let need = match (self.is_full(p, n), n == top) {
+            (true, true) => 2,
+            (true, false) => 1,
+            _ => 0,
+        };
+        self.latch_plan(p, top, n, need)
     }
-}
 
-// Latches the son of node n that the key lies in, after an event. The latch that the party had before ends.
-fn enter_son(a: &mut Words, p: u32, event: u32, n: u32) -> Said {
-    let at = way(a, p, n);
-    let son = get(a, CHILDREN, at);
-    reply(a, p, event, plus(AT, son), MORE, 0, 0)
-}
+    /// The step at a lowest node: it needs no node, and a descriptor that is made needs a record.
+    fn lowest_plan(&self, p: u32) -> Plan {
+        let is_new = p != 0 && !self.descriptors.is_stored(self.parties.get(p).target);
+        Plan {
+            wait: None,
+            refusal: self.lack(is_new as u32),
+            lock: None,
+        }
+    }
 
-// One step further down from node n, which is latched.
-pub fn go_down(a: &mut Words, p: u32, n: u32) -> Said {
-    if get(a, LEVELS, n) == 1 {
-        return arrive(a, p, n);
+    /// The step down from node n. A split needs a record. Of two that are joined or between which a son moves the left one comes first.
+    pub fn way_plan(&self, p: u32, n: u32) -> Plan {
+        if self.tree.is_lowest(n) {
+            return self.lowest_plan(p);
+        }
+        let at = self.way(p, n);
+        let son = self.tree.child(at);
+        match self.due(p, at) {
+            Due::Nothing => self.latch_plan(p, son, son, 0),
+            Due::Split => self.latch_plan(p, son, son, 1),
+            Due::Join | Due::Move => {
+                let left = at.left();
+                let first = self.tree.child(left);
+                self.latch_plan(p, first, self.tree.child(left.next()), 0)
+            }
+        }
     }
-    let at = way(a, p, n);
-    let event = due(a, p, at);
-    rebuild(a, at, event);
-    enter_son(a, p, event, n)
-}
 
-// Does to the node at a place what is due.
-fn rebuild(a: &mut Words, at: u32, event: u32) {
-    if event == NODE_SPLIT {
-        split(a, at);
+    /// Enters the root: one whose lone son is a node is dropped first, and a full one split.
+    pub fn enter(&mut self, p: u32) -> Progress {
+        let n = self.tree.below_lone_root();
+        let is_full = self.is_full(p, n);
+        if self.tree.root() != n {
+            self.counts.note(Event::RootDropped);
+            self.counts.note_if(is_full, Event::DroppedAndSplit);
+            self.tree.drop_root(n);
+        }
+        if is_full {
+            self.tree.split_root();
+            let top = self.tree.root();
+            return self.enter_son(p, top, Some(Event::RootSplit));
+        }
+        self.reach(p, Stage::InHand(Step::At(n)), None);
+        Progress::More
     }
-    if minus(event, JOIN) < 2 {
-        join(a, left_place(at));
-    }
-    if minus(event, MOVE) < 2 {
-        move_one(a, left_place(at), event == MOVE);
-    }
-}
 
-// The last step of a descent, at the lowest node.
-fn arrive(a: &mut Words, p: u32, n: u32) -> Said {
-    let key = field(a, p, TARGET);
-    if p == 0 {
-        return tidy(a, n, key);
+    /// Latches the son of node n that the key lies in, after an event. The latch that the party had before ends.
+    fn enter_son(&mut self, p: u32, n: u32, event: Option<Event>) -> Progress {
+        let son = self.tree.child(self.way(p, n));
+        self.reach(p, Stage::InHand(Step::At(son)), event);
+        Progress::More
     }
-    if !is_stored(a, key) {
-        make_descriptor(a, n, key);
+
+    /// One step further down from node n, which is latched.
+    pub fn go_down(&mut self, p: u32, n: u32) -> Progress {
+        if self.tree.is_lowest(n) {
+            return self.arrive(p, n);
+        }
+        let at = self.way(p, n);
+        let due = self.due(p, at);
+        match due {
+            Due::Nothing => {}
+            Due::Split => self.tree.split(at),
+            Due::Join => self.tree.join(at.left()),
+            Due::Move => self.tree.move_one(at.left(), !at.is_first()),
+        }
+        self.enter_son(p, n, due.event(at))
     }
-    pin(a, p)
-}
 
-fn make_descriptor(a: &mut Words, n: u32, key: u32) {
-    let holders = gap_below(a, key);
-    note(a, MADE);
-    raise(a, COUNTERS, MADE_IN_HELD_GAP, (holders != 0) as u32);
-    add_descriptor(a, n, key, holders);
-}
-
-// The stage of a party that has arrived: an insert or remove comes to its change, a locate goes on to its second key or takes its keys.
-fn stage_after(a: &Words, p: u32) -> u32 {
-    if field(a, p, CODE) != LOCATE {
-        return CHANGE;
+    /// The last step of a descent, at the lowest node.
+    fn arrive(&mut self, p: u32, n: u32) -> Progress {
+        let key = self.parties.get(p).target;
+        if p == 0 {
+            return self.tidy(n, key);
+        }
+        if !self.descriptors.is_stored(key) {
+            self.make_descriptor(n, key);
+        }
+        self.pin(p)
     }
-    if field(a, p, TARGET) != field(a, p, SECOND) {
-        return ENTER;
+
+    /// A descriptor without members, with the holders of the gap that it lies in.
+    fn make_descriptor(&mut self, n: u32, key: u32) {
+        let holders = self.descriptors.gap_below(key);
+        self.counts.note(Event::Made);
+        self.counts.note_if(holders != 0, Event::MadeInHeldGap);
+        self.descriptors.insert(Descriptor {
+            key,
+            group: 0,
+            locate: holders,
+            update: 0,
+            gap: holders,
+        });
+        self.tree.insert_key(n, key);
     }
-    TAKE
-}
 
-// Pins the descriptor of the target.
-fn pin(a: &mut Words, p: u32) -> Said {
-    let stage = stage_after(a, p);
-    let second = field(a, p, SECOND);
-    set_field(a, p, TARGET, second);
-    reply(a, p, NO_EVENT, stage, MORE, 0, 0)
-}
-
-// Is the descriptor of this key of no use? Nobody needs it, and it holds what the gap before it holds.
-fn is_useless(a: &Words, key: u32) -> bool {
-    let i = place(a, key);
-    let is_empty = get(a, GROUPS, i) | get(a, UPDATES, i) == 0;
-    let gap = gap_below(a, key);
-    let is_same = (get(a, LOCATES, i) == gap) & (get(a, GAPS, i) == gap);
-    (key != 0) & is_empty & is_same & !is_pinned(a, key)
-}
-
-// Tidy's last step.
-fn tidy(a: &mut Words, n: u32, key: u32) -> Said {
-    let is_useless = is_useless(a, key);
-    if is_useless {
-        remove_descriptor(a, n, key);
+    /// Pins the descriptor of the target: an insert or remove comes to its change, a locate goes on to its second key or takes its keys.
+    fn pin(&mut self, p: u32) -> Progress {
+        let mut party = self.parties.get(p);
+        let second = party.request.second;
+        party.stage = Stage::InHand(if party.request.code != Code::Locate {
+            Step::Change
+        } else if party.target != second {
+            Step::Enter
+        } else {
+            Step::Take
+        });
+        party.target = second;
+        self.parties.set(p, party);
+        Progress::More
     }
-    let removed = is_useless as u32;
-    reply(a, 0, minus(DECLINED, removed), IDLE, DONE, key, removed)
+
+    /// Is the descriptor of this key of no use? Nobody needs it, and it holds what the gap before it holds.
+    fn is_useless(&self, key: u32) -> bool {
+        let gap = self.descriptors.gap_below(key);
+        self.descriptors.of(key).is_some_and(|d| {
+            key != 0 && d.group | d.update == 0 && d.locate == gap && d.gap == gap
+        }) && !self.parties.is_pinned(key)
+    }
+
+    /// Tidy's last step.
+    fn tidy(&mut self, n: u32, key: u32) -> Progress {
+        let is_useless = self.is_useless(key);
+        let event = if is_useless {
+            self.descriptors.remove(key);
+            self.tree.remove_key(n, key);
+            Event::Tidied
+        } else {
+            Event::Declined
+        };
+        self.reach(0, Stage::Idle, Some(event));
+        Progress::Tidied(key, is_useless)
+    }
 }

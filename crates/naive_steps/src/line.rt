@@ -1,74 +1,83 @@
 // Line: the begun sessions, in the order in which they began.
-//
-// Where a session begins, every session in the line gets its place, from 1, as its number, and the new one comes behind them all. One that ends leaves the
-// line and has number 0; the others keep their numbers.
-use naive_tree::arrays::{
-    BEGUN, HEADER, LESS, LINE, ORDER, Words, field, get, plus, raise, remove_item, set, set_field,
-};
+use super::party::PARTIES;
+use super::state::State;
+use arrayvec::ArrayVec;
 
-// No party.
-pub const NOBODY: u32 = 4294967295;
-
-// Is party q one of a set? Party q is bit q.
-fn is_in(parties: u32, q: u32) -> bool {
-    (q < 32) & ((parties >> (q % 32)) % 2 == 1)
+/// The begun sessions, in the order in which they began.
+#[derive(Default, Drop)]
+pub struct Line {
+    sessions: ArrayVec<u32, PARTIES>,
 }
 
-// Of a set of parties the one that began first, or nobody.
-pub fn first_of(a: &Words, parties: u32) -> u32 {
-    let end = get(a, HEADER, BEGUN);
-    for i in 0..end {
-        let q = get(a, LINE, i);
-        if is_in(parties, q) {
-            return q;
+impl Line {
+    pub fn clear(&mut self) {
+        self.sessions.clear();
+    }
+
+    /// How many sessions are begun.
+    pub fn count(&self) -> u32 {
+        self.sessions.len() as u32
+    }
+
+    /// Of a set of parties, party q as bit q, the one that began first.
+    pub fn first_of(&self, parties: u32) -> Option<u32> {
+        let mut sessions = self.sessions.as_slice().iter().copied();
+        sessions.find(|&q| q < 32 && parties >> q & 1 == 1)
+    }
+
+    fn index_of(&self, p: u32) -> Option<usize> {
+        self.sessions.as_slice().iter().position(|&q| q == p)
+    }
+
+    /// The place of session p in the line, from 1.
+    pub fn place_of(&self, p: u32) -> Option<u32> {
+        (1..)
+            .zip(self.sessions.as_slice())
+            .find(|&(_, &q)| q == p)
+            .map(|(place, _)| place)
+    }
+
+    fn at(&self, i: usize) -> Option<u32> {
+        self.sessions.as_slice().get(i).copied()
+    }
+
+    fn push(&mut self, p: u32) {
+        if !self.sessions.is_full() {
+            self.sessions.push(p);
         }
     }
-    NOBODY
-}
 
-// The place of session p in the line, from 1; 0 where it is not in it.
-pub fn place_of(a: &Words, p: u32) -> u32 {
-    let end = get(a, HEADER, BEGUN);
-    for i in 0..end {
-        if get(a, LINE, i) == p {
-            return plus(i, 1);
+    fn remove(&mut self, p: u32) {
+        if let Some(i) = self.index_of(p) {
+            self.sessions.pop_at(i);
         }
     }
-    0
 }
 
-// The session at place i, from 0, gets its number; gives 1 if it had another.
-fn number_one(a: &mut Words, i: u32) -> u32 {
-    let q = get(a, LINE, i);
-    let x = plus(i, 1);
-    let is_other = field(a, q, ORDER) != x;
-    set_field(a, q, ORDER, x);
-    is_other as u32
-}
-
-// Every session in the line gets its number; gives how many had another.
-pub fn number_all(a: &mut Words) -> u32 {
-    let end = get(a, HEADER, BEGUN);
-    let mut n = 0;
-    for i in 0..end {
-        n = plus(n, number_one(a, i));
+/// Where a session begins, every session in the line gets its place, from 1, as its number, and the new one comes behind them all. One that ends leaves the
+/// line and has number 0; the others keep their numbers.
+impl State {
+    /// Every session in the line gets its number. Had some another?
+    pub fn number_all(&mut self) -> bool {
+        let mut is_other = false;
+        for number in 1..=self.line.count() {
+            if let Some(q) = self.line.at(number as usize - 1) {
+                is_other |= self.parties.get(q).order != number;
+                self.parties.set_order(q, number);
+            }
+        }
+        is_other
     }
-    n
-}
 
-// Session p comes to the end of the line.
-pub fn add_last(a: &mut Words, p: u32) {
-    let i = get(a, HEADER, BEGUN);
-    set(a, LINE, i, p);
-    raise(a, HEADER, BEGUN, 1);
-    number_one(a, i);
-}
+    /// Session p comes to the end of the line.
+    pub fn add_last(&mut self, p: u32) {
+        self.line.push(p);
+        self.parties.set_order(p, self.line.count());
+    }
 
-// Session p leaves the line, in which it is.
-pub fn leave(a: &mut Words, p: u32) {
-    let i = plus(place_of(a, p), LESS);
-    let end = get(a, HEADER, BEGUN);
-    remove_item(a, LINE, i, end);
-    raise(a, HEADER, BEGUN, LESS);
-    set_field(a, p, ORDER, 0);
+    /// Session p leaves the line.
+    pub fn leave(&mut self, p: u32) {
+        self.line.remove(p);
+        self.parties.set_order(p, 0);
+    }
 }

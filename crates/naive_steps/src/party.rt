@@ -1,159 +1,239 @@
 // Party: sessions and housekeeper, the stages of their requests, and what is told of a call.
-use super::line::NOBODY;
-use naive_tree::arrays::{
-    FIRST, PARTIES, SECOND, STAGE, TARGET, Words, bit, field, minus, note, plus, set_field,
-};
-use naive_tree::keys::free;
 
-// The codes of the requests.
-pub const READ: u32 = 1;
+/// How many parties there are: the housekeeper, party 0, and the sessions from 1 on.
+pub const PARTIES: usize = 17;
 
-pub const WRITE: u32 = 2;
+/// What a request asks for.
+#[derive(Clone, Copy, Default, PartialEq, Eq, Debug)]
+pub enum Code {
+    #[default]
+    Read,
+    Write,
+    Insert,
+    Remove,
+    Locate,
+    Tidy,
+}
 
-pub const INSERT: u32 = 3;
+impl TryFrom<u32> for Code {
+    type Error = Refusal;
 
-pub const REMOVE: u32 = 4;
+    fn try_from(code: u32) -> Result<Code, Refusal> {
+        match code {
+            1 => Ok(Code::Read),
+            2 => Ok(Code::Write),
+            3 => Ok(Code::Insert),
+            4 => Ok(Code::Remove),
+            5 => Ok(Code::Locate),
+            6 => Ok(Code::Tidy),
+            _ => Err(Refusal::Code),
+        }
+    }
+}
 
-pub const LOCATE: u32 = 5;
-
-pub const TIDY: u32 = 6;
-
-// The stages of a party: NONE of a session that is not begun, IDLE with no request in hand, ASKED of a session that is asked, and so has none in hand. Of a
-// request: START before its first step or with nothing to descend to, ENTER before the root, CHANGE before an insert's or remove's last step, TAKE while a
-// locate takes its keys, AT + n at node n, which it has latched.
-pub const NONE: u32 = 0;
-
-pub const IDLE: u32 = 1;
-
-pub const ASKED: u32 = 2;
-
-pub const START: u32 = 3;
-
-pub const ENTER: u32 = 4;
-
-pub const CHANGE: u32 = 5;
-
-pub const TAKE: u32 = 6;
-
-pub const AT: u32 = 7;
-
-// The words that are told of a call.
-pub const OK: u32 = 0;
-
-pub const MORE: u32 = 1;
-
-pub const WAIT: u32 = 2;
-
-pub const DONE: u32 = 3;
-
-pub const REFUSED: u32 = 4;
-
-// What is told of a call. Beside wait stands the party that it names; beside done the answer and, of a tidy, 1 if it removed; beside refused its number and
-// the one beside it.
-#[derive(Clone, Copy)]
-pub struct Said {
-    pub word: u32,
+/// A request as it was put. Of a tidy the first key is the next stored one above the one that was put.
+#[derive(Clone, Copy, Default)]
+pub struct Request {
+    pub code: Code,
+    pub entry: u32,
     pub first: u32,
     pub second: u32,
 }
 
-pub fn say(word: u32, first: u32, second: u32) -> Said {
-    Said {
-        word: word,
-        first: first,
-        second: second,
+/// How far a request in hand is: before its first step or with nothing to descend to, before the root, at a node, which it has latched, before an insert's
+/// or remove's last step, while a locate takes its keys.
+#[derive(Clone, Copy, PartialEq, Eq, Debug)]
+pub enum Step {
+    Start,
+    Enter,
+    At(u32),
+    Change,
+    Take,
+}
+
+/// How far a party is. A session that is asked has no request in hand.
+#[derive(Clone, Copy, Default, PartialEq, Eq, Debug)]
+pub enum Stage {
+    #[default]
+    NotBegun,
+    Idle,
+    Asked,
+    InHand(Step),
+}
+
+/// A party: how far it is, its request in hand or the last one, the key that the descent goes to, the last key that a locate took, its number in the order
+/// of begins, and how many recovers it has lived through since it was asked.
+#[derive(Clone, Copy, Default)]
+pub struct Party {
+    pub stage: Stage,
+    pub request: Request,
+    pub target: u32,
+    pub last: u32,
+    pub order: u32,
+    pub recovers: u32,
+}
+
+impl Party {
+    pub fn is_begun(self) -> bool {
+        self.stage != Stage::NotBegun
+    }
+
+    pub fn is_asked(self) -> bool {
+        self.stage == Stage::Asked
+    }
+
+    pub fn is_in_hand(self) -> bool {
+        matches!(self.stage, Stage::InHand(_))
+    }
+
+    pub fn is_at_node(self) -> bool {
+        matches!(self.stage, Stage::InHand(Step::At(_)))
+    }
+
+    /// Does its request pin the key? An insert or remove pins its key from its arrival to its end; a locate pins each of its two keys so, and goes on to
+    /// second once it has pinned first.
+    fn pins(self, key: u32) -> bool {
+        let Stage::InHand(step) = self.stage else {
+            return false;
+        };
+        let is_past = self.target != key || step == Step::Change;
+        self.request.first == key && is_past || self.request.second == key && step == Step::Take
     }
 }
 
-// What a step takes: the party that a wait names, or nobody, the set of all that are in the way, party q as bit q, and the event that counts a wait for them;
-// the number with which it is refused, 0 for none, and the one beside it; the word of holders that the party enters.
+/// All parties. One that there is not reads as one that is not begun, and a write to it does nothing.
 #[derive(Clone, Copy)]
-pub struct Plan {
-    pub named: u32,
-    pub parties: u32,
-    pub event: u32,
-    pub refusal: u32,
-    pub beside: u32,
-    pub lock: u32,
+pub struct Parties {
+    all: [Party; PARTIES],
 }
 
-// A number, or 0 where something is so.
-pub fn unless(is_so: bool, x: u32) -> u32 {
-    x & minus(is_so as u32, 1)
-}
+impl Parties {
+    /// The housekeeper is always begun, and no session is.
+    pub fn new() -> Parties {
+        let mut parties = Parties {
+            all: [Party::default(); PARTIES],
+        };
+        parties.set_stage(0, Stage::Idle);
+        parties
+    }
 
-// Refusal 11, or 0 where so many records are free.
-pub fn lack(a: &Words, need: u32) -> u32 {
-    unless(need <= free(a), 11)
-}
+    pub fn get(&self, p: u32) -> Party {
+        self.all.get(p as usize).copied().unwrap_or_default()
+    }
 
-// The end of a step: an event is counted, the party comes to a stage, and this is told. A latch and pins follow from the stage, and so end with it.
-pub fn reply(
-    a: &mut Words,
-    p: u32,
-    event: u32,
-    stage: u32,
-    word: u32,
-    first: u32,
-    second: u32,
-) -> Said {
-    note(a, event);
-    set_field(a, p, STAGE, stage);
-    say(word, first, second)
-}
-
-pub fn is_begun(a: &Words, p: u32) -> bool {
-    (p == 0) | (field(a, p, STAGE) != NONE)
-}
-
-pub fn is_asked(a: &Words, p: u32) -> bool {
-    field(a, p, STAGE) == ASKED
-}
-
-pub fn is_in_hand(a: &Words, p: u32) -> bool {
-    START <= field(a, p, STAGE)
-}
-
-pub fn is_at_node(a: &Words, p: u32) -> bool {
-    AT <= field(a, p, STAGE)
-}
-
-// The parties other than session p in a holders word.
-pub fn others(holders: u32, p: u32) -> u32 {
-    (holders ^ (holders & bit(p))) << 1
-}
-
-// The party other than p with a latch on the node, or nobody.
-pub fn latched_by(a: &Words, p: u32, n: u32) -> u32 {
-    for q in 0..PARTIES {
-        if (q != p) & (field(a, q, STAGE) == plus(AT, n)) {
-            return q;
+    pub fn set(&mut self, p: u32, x: Party) {
+        if let Some(party) = self.all.get_mut(p as usize) {
+            *party = x;
         }
     }
-    NOBODY
+
+    pub fn set_stage(&mut self, p: u32, stage: Stage) {
+        if let Some(party) = self.all.get_mut(p as usize) {
+            party.stage = stage;
+        }
+    }
+
+    pub fn set_order(&mut self, p: u32, order: u32) {
+        if let Some(party) = self.all.get_mut(p as usize) {
+            party.order = order;
+        }
+    }
+
+    /// The party other than p with a latch on the node.
+    pub fn latched_by(&self, p: u32, n: u32) -> Option<u32> {
+        (0..PARTIES as u32).find(|&q| q != p && self.get(q).stage == Stage::InHand(Step::At(n)))
+    }
+
+    /// Does some request pin the key?
+    pub fn is_pinned(&self, key: u32) -> bool {
+        self.all.iter().any(|party| party.pins(key))
+    }
 }
 
-// The set of one party, which may be nobody.
+impl Default for Parties {
+    fn default() -> Parties {
+        Parties::new()
+    }
+}
+
+/// What a step that was not refused says: there is more to do; it waits, and this party is in the way; the request is done, with its answer; a tidy is
+/// done, with its key and whether that was removed.
+#[derive(Clone, Copy, PartialEq, Eq, Debug)]
+pub enum Progress {
+    More,
+    Wait(u32),
+    Done(u32),
+    Tidied(u32, bool),
+}
+
+/// Why a call is refused.
+#[derive(Clone, Copy, PartialEq, Eq, Debug)]
+pub enum Refusal {
+    /// A format of no entries, of too many or of too few words.
+    Sizes,
+    /// No such party.
+    Party,
+    /// The session is not begun, or at a begin it is.
+    Begun,
+    /// No such request, or not one of this party.
+    Code,
+    /// There is a request in hand, or at a step there is none.
+    InHand,
+    /// No such entry.
+    Entry,
+    /// No such key.
+    Key,
+    /// The second key lies below the first.
+    Order,
+    /// Too few records are free.
+    Records,
+    /// The list has no room for so many memberships.
+    List(u32),
+    /// The session is asked.
+    Asked,
+}
+
+impl Refusal {
+    /// The number of the refusal.
+    pub fn number(self) -> u32 {
+        match self {
+            Refusal::Sizes => 3,
+            Refusal::Party => 4,
+            Refusal::Begun => 5,
+            Refusal::Code => 6,
+            Refusal::InHand => 7,
+            Refusal::Entry => 8,
+            Refusal::Key => 9,
+            Refusal::Order => 10,
+            Refusal::Records => 11,
+            Refusal::List(_) => 12,
+            Refusal::Asked => 21,
+        }
+    }
+
+    /// The number beside it.
+    pub fn beside(self) -> u32 {
+        match self {
+            Refusal::List(count) => count,
+            _ => 0,
+        }
+    }
+}
+
+/// The bit of session s in a word of holders, of entry e in a group. Both are sets of bits, as the store has them: they are compared as such.
+pub fn bit(e: u32) -> u32 {
+    match e {
+        1..=32 => 1 << (e - 1),
+        _ => 0,
+    }
+}
+
+/// The parties other than session p in a word of holders, party q as bit q.
+pub fn others(holders: u32, p: u32) -> u32 {
+    (holders & !bit(p)) << 1
+}
+
+/// Party p alone, as such a set.
 pub fn alone(p: u32) -> u32 {
-    if p < PARTIES {
-        return 1 << p;
-    }
-    0
-}
-
-// Does the request of party q pin the key? An insert or remove pins its key from its arrival to its end; a locate pins each of its two keys so, and goes on
-// to second once it has pinned first.
-fn is_pinned_by(a: &Words, q: u32, key: u32) -> bool {
-    let stage = field(a, q, STAGE);
-    let is_past = (START <= stage) & (field(a, q, TARGET) != key);
-    let is_first = (field(a, q, FIRST) == key) & (is_past | (stage == CHANGE));
-    is_first | ((field(a, q, SECOND) == key) & (stage == TAKE))
-}
-
-pub fn is_pinned(a: &Words, key: u32) -> bool {
-    let mut is_so = false;
-    for q in 0..PARTIES {
-        is_so = is_so | is_pinned_by(a, q, key);
-    }
-    is_so
+    if p < PARTIES as u32 { 1 << p } else { 0 }
 }

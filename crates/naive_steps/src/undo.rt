@@ -1,81 +1,152 @@
-// Undo: the log of what abort takes back.
-use naive_tree::arrays::{
-    COUNTERS, GROUPS, HEADER, UNDO_ARRAYS, UNDO_EVENTS, UNDO_MARKS, UNDO_SESSIONS, UNDO_WORDS,
-    UNDOS, Words, get, insert_row, minus, note, plus, raise, remove_row, set,
-};
-use naive_tree::events::{UNDONE_OVER_OLDER, UNDONE_UNDER_NEWER};
-use naive_tree::keys::place;
+// Undo: the log of what abort takes back, in order of time.
+use super::state::State;
+use arrayvec::ArrayVec;
+use naive_tree::events::Event;
 
-// Where a word lies that the log speaks of. The mark of a group is its key, since descriptors come and go; that of a value is its place.
-fn word_of(a: &Words, base: u32, mark: u32) -> u32 {
-    if base == GROUPS {
-        return plus(base, place(a, mark));
+/// How many records the log has room for.
+pub const UNDO_SLOTS: usize = 4096;
+
+/// A word that a session may change: the value of an entry, or the group of a key, since descriptors come and go.
+#[derive(Clone, Copy, PartialEq, Eq, Debug)]
+pub enum Word {
+    Value(u32),
+    Group(u32),
+}
+
+/// A record of the log: the session, the event that counts that it is taken back, and the bits that it changed in a word. The other bits of a group are
+/// other entries, which other sessions may change meanwhile.
+#[derive(Clone, Copy)]
+struct Undo {
+    session: u32,
+    event: Event,
+    word: Word,
+    bits: u32,
+}
+
+impl Default for Undo {
+    fn default() -> Undo {
+        Undo {
+            session: 0,
+            event: Event::ValueUndone,
+            word: Word::Value(0),
+            bits: 0,
+        }
     }
-    plus(base, mark)
 }
 
-// Session p changes a word. The bits that it changes go to the end of the log, with the event that counts that they are taken back. The other bits of a
-// group are other entries, which other sessions may change meanwhile.
-pub fn change_word(a: &mut Words, p: u32, event: u32, base: u32, mark: u32, x: u32) {
-    let at = word_of(a, base, mark);
-    let bits = get(a, at, 0) ^ x;
-    let i = get(a, HEADER, UNDOS);
-    insert_row(a, UNDO_SESSIONS, UNDOS, i, [p, event, base, mark, bits]);
-    set(a, at, 0, x);
-}
-
-// Whether records i and k are of one group, and of two sessions.
-fn meet(a: &Words, i: u32, k: u32) -> bool {
-    let are_groups = (get(a, UNDO_ARRAYS, i) == GROUPS) & (get(a, UNDO_ARRAYS, k) == GROUPS);
-    let is_same = get(a, UNDO_MARKS, i) == get(a, UNDO_MARKS, k);
-    are_groups & is_same & (get(a, UNDO_SESSIONS, i) != get(a, UNDO_SESSIONS, k))
-}
-
-// How many of the records from..end meet record i.
-fn count_met(a: &Words, i: u32, from: u32, end: u32) -> u32 {
-    let mut n = 0;
-    for k in from..end {
-        n = plus(n, meet(a, i, k) as u32);
+impl Undo {
+    /// Whether two records are of one group, and of two sessions.
+    fn meets(self, other: Undo) -> bool {
+        matches!(self.word, Word::Group(_))
+            && self.word == other.word
+            && self.session != other.session
     }
-    n
 }
 
-// Counts that record i is undone while others' records of the same group stand.
-fn note_met(a: &mut Words, i: u32) {
-    let newer = count_met(a, i, i, get(a, HEADER, UNDOS));
-    let older = count_met(a, i, 0, i);
-    raise(a, COUNTERS, UNDONE_UNDER_NEWER, (newer != 0) as u32);
-    raise(a, COUNTERS, UNDONE_OVER_OLDER, (older != 0) as u32);
+#[derive(Default, Drop)]
+pub struct UndoLog {
+    records: ArrayVec<Undo, UNDO_SLOTS>,
 }
 
-// Undoes record i of the log: its bits are changed again.
-fn undo(a: &mut Words, i: u32) {
-    let at = word_of(a, get(a, UNDO_ARRAYS, i), get(a, UNDO_MARKS, i));
-    let x = get(a, at, 0) ^ get(a, UNDO_WORDS, i);
-    let event = get(a, UNDO_EVENTS, i);
-    set(a, at, 0, x);
-    note(a, event);
-    note_met(a, i);
-}
-
-// Takes record i out of the log if it is of session p, and undoes it first where that is asked; gives how many that were.
-fn end_record(a: &mut Words, i: u32, p: u32, is_undone: bool) -> u32 {
-    if get(a, UNDO_SESSIONS, i) != p {
-        return 0;
+impl UndoLog {
+    pub fn clear(&mut self) {
+        self.records.clear();
     }
-    if is_undone {
-        undo(a, i);
+
+    /// How many records the log has.
+    pub fn count(&self) -> u32 {
+        self.records.len() as u32
     }
-    remove_row(a, UNDO_SESSIONS, UNDOS, i);
-    1
+
+    fn at(&self, i: usize) -> Option<Undo> {
+        self.records.as_slice().get(i).copied()
+    }
+
+    fn push(&mut self, x: Undo) {
+        if !self.records.is_full() {
+            self.records.push(x);
+        }
+    }
+
+    /// Does a record before place i meet this one? And does one behind it?
+    fn is_met_before(&self, i: usize, x: Undo) -> bool {
+        let mut records = self.records.as_slice().iter().take(i);
+        records.any(|other| other.meets(x))
+    }
+
+    fn is_met_behind(&self, i: usize, x: Undo) -> bool {
+        let mut records = self.records.as_slice().iter().skip(i);
+        records.any(|other| other.meets(x))
+    }
 }
 
-// Takes the records of session p out of the log, newest first; gives how many they were.
-pub fn end_records(a: &mut Words, p: u32, is_undone: bool) -> u32 {
-    let count = get(a, HEADER, UNDOS);
-    let mut n = 0;
-    for k in 0..count {
-        n = plus(n, end_record(a, minus(minus(count, k), 1), p, is_undone));
+impl State {
+    fn word(&self, word: Word) -> u32 {
+        match word {
+            Word::Value(e) => self.entry(e).value,
+            Word::Group(key) => self.descriptors.at_or_below(key).map_or(0, |d| d.group),
+        }
     }
-    n
+
+    fn set_word(&mut self, word: Word, x: u32) {
+        match word {
+            Word::Value(e) => {
+                let mut entry = self.entry(e);
+                entry.value = x;
+                self.set_entry(e, entry);
+            }
+            Word::Group(key) => {
+                if let Some(mut d) = self.descriptors.at_or_below(key) {
+                    d.group = x;
+                    self.descriptors.replace(d);
+                }
+            }
+        }
+    }
+
+    /// Session p changes a word. The bits that it changes go to the end of the log, with the event that counts that they are taken back.
+    pub fn change_word(&mut self, p: u32, event: Event, word: Word, x: u32) {
+        let bits = self.word(word) ^ x;
+        self.undos.push(Undo {
+            session: p,
+            event,
+            word,
+            bits,
+        });
+        self.set_word(word, x);
+    }
+
+    /// Undoes record i of the log: its bits are changed again. Also counts where others' records of the same group stand.
+    fn undo(&mut self, i: usize, x: Undo) {
+        self.set_word(x.word, self.word(x.word) ^ x.bits);
+        self.counts.note(x.event);
+        let is_newer = self.undos.is_met_behind(i, x);
+        let is_older = self.undos.is_met_before(i, x);
+        self.counts.note_if(is_newer, Event::UndoneUnderNewer);
+        self.counts.note_if(is_older, Event::UndoneOverOlder);
+    }
+
+    /// Takes record i out of the log if it is of session p, and undoes it first where that is asked. Was it?
+    fn end_record(&mut self, i: usize, p: u32, is_undone: bool) -> bool {
+        let Some(x) = self.undos.at(i) else {
+            return false;
+        };
+        if x.session != p {
+            return false;
+        }
+        if is_undone {
+            self.undo(i, x);
+        }
+        self.undos.records.pop_at(i);
+        true
+    }
+
+    /// Takes the records of session p out of the log, newest first. Were there any?
+    pub fn end_records(&mut self, p: u32, is_undone: bool) -> bool {
+        let mut is_some = false;
+        for i in (0..self.undos.records.len()).rev() {
+            is_some |= self.end_record(i, p, is_undone);
+        }
+        is_some
+    }
 }

@@ -1,112 +1,112 @@
-// Events: what the model counts, in the order in which they are reported. A counter of that number in the array COUNTERS says how often each was.
+// Events: what the model counts, in the order in which they are reported.
 
-pub const ROOT_SPLIT: u32 = 0;
+/// What the model counts. Its number is its place in the report.
+#[derive(Clone, Copy, PartialEq, Eq, Debug)]
+pub enum Event {
+    RootSplit,
+    NodeSplit,
+    JoinedLeft,
+    JoinedRight,
+    MovedFromLeft,
+    MovedFromRight,
+    RootDropped,
+    /// In one step; counted as each of the two as well.
+    DroppedAndSplit,
+    Made,
+    MadeInHeldGap,
+    Tidied,
+    Declined,
+    NothingAbove,
+    Added,
+    WasMember,
+    TakenOut,
+    WasAbsent,
+    ReadDone,
+    WriteDone,
+    LocateDone,
+    KeyTaken,
+    EntryWait,
+    KeyWait,
+    LatchWait,
+    /// Of the waits for an entry or a key: several sessions are in the way. Counted among the waits as well, as the next two are.
+    SeveralWait,
+    /// Of the waits for a short lock: two parties are in the way.
+    TwoLatched,
+    /// Of both: the wait names another than the lowest.
+    NotLowest,
+    ValueUndone,
+    InsertUndone,
+    RemoveUndone,
+    AbortInHand,
+    CommitWithUndos,
+    /// A begin that gave a session another number than it had.
+    Renumbered,
+    /// An insert or remove at a key that another session has inserted or removed at and not ended.
+    UpdatedToo,
+    /// Of these, one with two such sessions and more.
+    UpdatedByMany,
+    /// An insert or remove that is taken back while another session's newer one at the same key stands.
+    UndoneUnderNewer,
+    /// The same while another's older one does.
+    UndoneOverOlder,
+    AskTaken,
+    /// An ask that is refused since the session is asked.
+    AskAgain,
+    /// An ask that is refused since the session has a request in hand.
+    AskInHand,
+    PutWhenAsked,
+    AskedCommit,
+    /// Of these, one that has lived through a recover since it was asked.
+    RecoveredCommit,
+    AskedAbort,
+    Recovered,
+    AbortedByRecover,
+    /// Of these, one with a request in hand at a node.
+    CutAtNode,
+    /// A session that is asked and that a recover leaves.
+    LeftByRecover,
+    /// A recover that ends a tidy in hand.
+    TidyEnded,
+    /// Of these, one at a node.
+    TidyEndedAtNode,
+}
 
-pub const NODE_SPLIT: u32 = 1;
+/// How many events there are.
+pub const EVENTS: usize = 50;
 
-// With the left neighbour; the number of the right one is one more.
-pub const JOIN: u32 = 2;
+/// How often each event was.
+#[derive(Clone, Copy)]
+pub struct Counts {
+    counts: [u32; EVENTS],
+}
 
-pub const MOVE: u32 = 4;
+impl Counts {
+    pub fn new() -> Counts {
+        Counts {
+            counts: [0; EVENTS],
+        }
+    }
 
-pub const ROOT_DROPPED: u32 = 6;
+    pub fn note(&mut self, event: Event) {
+        if let Some(n) = self.counts.get_mut(event as usize) {
+            *n = n.wrapping_add(1);
+        }
+    }
 
-// In one step; counted as each of the two as well.
-pub const DROPPED_AND_SPLIT: u32 = 7;
+    pub fn note_if(&mut self, is_so: bool, event: Event) {
+        if is_so {
+            self.note(event);
+        }
+    }
 
-pub const MADE: u32 = 8;
+    /// How often the event of this number was.
+    pub fn get(&self, number: u32) -> u32 {
+        self.counts.get(number as usize).copied().unwrap_or(0)
+    }
+}
 
-pub const MADE_IN_HELD_GAP: u32 = 9;
-
-pub const TIDIED: u32 = 10;
-
-pub const DECLINED: u32 = 11;
-
-pub const NOTHING_ABOVE: u32 = 12;
-
-// Inserts and removes: those that change the group have odd numbers.
-pub const ADDED: u32 = 13;
-
-pub const WAS_MEMBER: u32 = 14;
-
-pub const TAKEN_OUT: u32 = 15;
-
-pub const WAS_ABSENT: u32 = 16;
-
-pub const READ_DONE: u32 = 17;
-
-pub const WRITE_DONE: u32 = 18;
-
-pub const LOCATE_DONE: u32 = 19;
-
-pub const KEY_TAKEN: u32 = 20;
-
-pub const ENTRY_WAIT: u32 = 21;
-
-pub const KEY_WAIT: u32 = 22;
-
-pub const LATCH_WAIT: u32 = 23;
-
-// Of the waits for an entry or a key those with several sessions in the way, of those for a short lock those with two parties; of both, those that name
-// another than the lowest. Each is counted among the waits as well.
-pub const SEVERAL_WAIT: u32 = 24;
-
-pub const TWO_LATCHED: u32 = 25;
-
-pub const NOT_LOWEST: u32 = 26;
-
-pub const VALUE_UNDONE: u32 = 27;
-
-pub const INSERT_UNDONE: u32 = 28;
-
-pub const REMOVE_UNDONE: u32 = 29;
-
-pub const ABORT_IN_HAND: u32 = 30;
-
-pub const COMMIT_WITH_UNDOS: u32 = 31;
-
-// A begin that gave a session another number than it had.
-pub const RENUMBERED: u32 = 32;
-
-// An insert or remove at a key that another session has inserted or removed at and not ended; of these, one with two such sessions and more.
-pub const UPDATED_TOO: u32 = 33;
-
-pub const UPDATED_BY_MANY: u32 = 34;
-
-// An insert or remove that is taken back while another session's newer one at the same key stands; and while another's older one does.
-pub const UNDONE_UNDER_NEWER: u32 = 35;
-
-pub const UNDONE_OVER_OLDER: u32 = 36;
-
-// An ask that is accepted; one that is refused since the session is asked; and since it has a request in hand.
-pub const ASK_TAKEN: u32 = 37;
-
-pub const ASK_AGAIN: u32 = 38;
-
-pub const ASK_IN_HAND: u32 = 39;
-
-// A put that is refused since the session is asked.
-pub const PUT_WHEN_ASKED: u32 = 40;
-
-// A commit of an asked session; of these, one that has lived through a recover since it was asked; an abort of an asked session.
-pub const ASKED_COMMIT: u32 = 41;
-
-pub const RECOVERED_COMMIT: u32 = 42;
-
-pub const ASKED_ABORT: u32 = 43;
-
-pub const RECOVERED: u32 = 44;
-
-// A session that a recover aborts; of these, one with a request in hand at a node; one that is asked and that a recover leaves.
-pub const ABORTED_BY_RECOVER: u32 = 45;
-
-pub const CUT_AT_NODE: u32 = 46;
-
-pub const LEFT_BY_RECOVER: u32 = 47;
-
-// A recover that ends a tidy in hand; of these, one at a node.
-pub const TIDY_ENDED: u32 = 48;
-
-pub const TIDY_ENDED_AT_NODE: u32 = 49;
-
-pub const NO_EVENT: u32 = 4294967295;
+impl Default for Counts {
+    fn default() -> Counts {
+        Counts::new()
+    }
+}

@@ -1,37 +1,25 @@
--- Turns of the loop that searches a son.
-use mathlib.Core.Path.{◌≡◌, refl, ap, ◌∙◌}
-use mathlib.Core.List.{List, ◌∷◌}
-use Prim.Native.Nat.{ℕ, suc, ◌+◌, ◌≤◌, ◌<◌}
-use native.Mathlib.Numerals.{add-one}
-use native.Mathlib.Omega.{arith}
-use lib.ListN.{length, take, drop, get_or, drop_of_length-le}
-use lib.Seq.{drop-cons, get_or-take, length-take-le}
-use borrow.Author.Tests.{le-leb, lt-leb}
+-- The search for a son, in the library's words.
+use Rattle.std.specs.Prelude.{◌≡◌, refl, List, Bool, true, false, cond, ℕ, ◌≤◌, leb, nat_lt, length, Some, None}
+use Rattle.std.specs.List.{position, position_or_len}
+use Rattle.std.specs.Option.{unwrap_or}
+use Rattle.std.proofs.Common.{sym, ap, arith, ltb-false}
+use Rattle.std.proofs.lemmas.List.Sums.{prefix_len-le-length}
+use Rattle.std.proofs.lemmas.List.Recursion.{is_position_or_len}
 use Rattle.nodes.specs.Ops.{below}
 
--- ---- the search: the first i of the first n boundaries are below the key
-pub record Passed (b : List ℕ) (n k i : ℕ) : Type 0 where
-  pub is : below (take n b) k ≡ i + below (drop i (take n b)) k
+-- how many boundaries come before the first that is at least k, as the place of that one
+pub below-first : (bs : List ℕ) (k : ℕ) → below bs k ≡ position_or_len (λ (b : ℕ). leb k b) bs
+below-first bs k =
+    is_position_or_len (λ xs. below xs k) (λ (b : ℕ). leb k b) refl (λ x xs. ap (cond (leb k x) 0) (omega arith)) bs
 
-here : (b : List ℕ) (n i : ℕ) → n ≤ length b → i < n → drop i (take n b) ≡ get_or b i 0 ∷ drop (suc i) (take n b)
-here b n i in_b h =
-    drop-cons (take n b) i 0 (rw (length-take-le n b in_b) h) ∙ ap (λ (x : ℕ). x ∷ drop (suc i) (take n b)) (get_or-take n b i 0 h)
-
-pub pass-none : {b : List ℕ} {n k : ℕ} → Passed b n k 0
-pass-none = record { is = omega arith }
-
-module _ {b : List ℕ} {n k i : ℕ} (in_b : n ≤ length b) where
-  pub pass-more : Passed b n k i → i < n → get_or b i 0 < k → Passed b n k (i + 1)
-  pass-more p h lt =
-      let step : below (drop i (take n b)) k ≡ suc (below (drop (suc i) (take n b)) k) = rw (here b n i in_b h, lt-leb k (get_or b i 0) lt) refl in
-      record { is = p.is ∙ rw (step, add-one i) (omega arith) }
-
-  pub pass-stop : Passed b n k i → i < n → k ≤ get_or b i 0 → i ≡ below (take n b) k
-  pass-stop p h le =
-      let step : below (drop i (take n b)) k ≡ 0 = rw (here b n i in_b h, le-leb k (get_or b i 0) le) refl in
-      omega (arith, p.is)
-
-  pub pass-end : Passed b n k i → n ≤ i → i ≡ below (take n b) k
-  pass-end p h =
-      let step : below (drop i (take n b)) k ≡ 0 = rw (drop_of_length-le (take n b) {i = i} (rw (length-take-le n b in_b) h)) refl in
-      omega (arith, p.is)
+-- and where there is none, they all do
+pub below-place : (bs : List ℕ) (k n : ℕ) → length bs ≡ n → unwrap_or (position (λ (b : ℕ). leb k b) bs) n ≡ below bs k
+below-place bs k n e = by (nat_lt (position_or_len (λ (b : ℕ). leb k b) bs) (length bs)) refl
+  where
+    by : (b : Bool) → nat_lt (position_or_len (λ (b : ℕ). leb k b) bs) (length bs) ≡ b
+        → unwrap_or (cond b (Some (position_or_len (λ (b : ℕ). leb k b) bs)) None) n ≡ below bs k
+    by true q = sym (below-first bs k)
+    by false q =
+        let m : position_or_len (λ (b : ℕ). leb k b) bs ≤ length bs = prefix_len-le-length _ bs in
+        let l : length bs ≤ position_or_len (λ (b : ℕ). leb k b) bs = ltb-false _ _ q in
+        omega (arith, below-first bs k)

@@ -10,20 +10,14 @@ ghost use Rattle.packing.specs.Packed.{box, Packs, PacksMade, PacksDay};
 
 use outcomes::{Answer, DayAnswer, Made};
 
-fn wide(n: u32) -> u64
-    ensures { result ≡ n }
-{
-    n as u64
-}
-
-// What stands above an answer's word (how many numbers it has, or a day call's place), its word, the second number and the value, in one number.
+// What stands above an answer's word (how many numbers it has, or a day call's place), its word, the second number and the value, in one number. The words
+// are numbers because C reads them so: 0 ok, 1 more, 2 wait, 3 done, 4 refused.
 fn boxed(top: u32, word: u64, number: u32, value: u32) -> u64
     requires { (top ≤ 65535) × (word < 256) }
     ensures { (result ≡ box top word number value) × (value < 4294967296) }
 {
-    let low = wide(number % 256);
-    let high = (wide(top) * 256 + word) * 256 + low;
-    high * 4294967296 + wide(value)
+    let high = (top as u64 * 256 + word) * 256 + (number % 256) as u64;
+    high * 4294967296 + value as u64
 }
 
 // The answer in one number.
@@ -45,9 +39,7 @@ pub fn pack_made(m: Made) -> u64
     requires { m.steps ≤ 16383 }
     ensures { PacksMade m.steps (said m.answer) result }
 {
-    let a = m.answer;
-    let low = pack(a);
-    wide(m.steps) * 1125899906842624 + low
+    m.steps as u64 * 1125899906842624 + pack(m.answer)
 }
 
 // The answer of a day call and its place, in one number.

@@ -5,11 +5,14 @@ use mathlib.Core.Bool.{Bool, true, false, cond, not, ◌||◌, true≢false}
 use Prim.Native.Nat.{ℕ, zero, suc, ◌+◌, ◌-◌, ◌≤◌, ◌<◌}
 use native.Mathlib.Omega.{arith}
 use lib.Dec.{eqb}
+use lib.ListN.{get_or, take, drop}
+use Rattle.std.proofs.lemmas.List.{get_or-take}
+use Rattle.std.proofs.lemmas.Grind.{get_or_after_one}
 use borrow.Author.Tests.{eq-eqb, ne_eqb, eqb-true}
 use Rattle.sessions.specs.declared.Session.{Session}
-use Rattle.sessions.specs.Sessions.{session_at}
-use Rattle.marks.specs.declared.Chain.{Chain}
-use Rattle.marks.specs.Trail.{Turn, Trail, ends, Ends, Turned, turned, turned_as, trail-as, ended-as, go-end}
+use Rattle.sessions.specs.Sessions.{session_at, idle_session}
+use Rattle.std.specs.Prelude.{Option, Some, None}
+use Rattle.marks.specs.Trail.{Turn, Trail, ends, then_trail, Ends, Turned, turned, turned_as, trail-as, trail-none, ended-as, go-end}
 use Rattle.undo_chains.specs.UndoChains.{undos_from}
 use Rattle.standing.specs.Standing.{party_ok}
 use Rattle.parties.specs.Parties.{parties_from, mark_ok, marks_from, one_at_node, standing_from, some_undo, has_undos, undos_of, all_undos}
@@ -96,16 +99,23 @@ module _ {whole : ℕ} {t : List Session} {n p rest : ℕ} where
 pub record Seeking (whole : Bool) (t : List Session) (p rest : ℕ) : Type 0 where
   pub is : some_undo t p rest ≡ whole
 
-module _ {whole : Bool} {t : List Session} {p rest : ℕ} (g : Seeking whole t p rest) where
-  pub seek_found : 0 < rest → ((session_at t p).undo ≡ 0 → ⊥) → true ≡ whole
-  unfolding some_undo
-  seek_found h n = (simp (ne_eqb (session_at t p).undo 0 n) at (ap (some_undo t p) (sym (one_less rest h)))) ∙ g.is
+-- the sessions, without the housekeeper before them
+pub behind : (t : List Session) (k : ℕ) → k < 16 → get_or (take 16 (drop 1 t)) k idle_session ≡ session_at t (1 + k)
+behind t k h = get_or-take 16 (drop 1 t) k idle_session h ∙ get_or_after_one t k idle_session
 
-  pub seek-more : {rest' : ℕ} → 0 < rest → (session_at t p).undo ≡ 0 → rest' ≡ rest - 1 → Seeking whole t (p + 1) rest'
+module _ {whole : Bool} {t : List Session} {p rest : ℕ} (g : Seeking whole t p rest) where
+  pub seek_found : {x : Session} → 0 < rest → x ≡ session_at t p → (x.undo ≡ 0 → ⊥) → true ≡ whole
   unfolding some_undo
-  seek-more h e z =
+  seek_found h e n =
+      (simp (ne_eqb (session_at t p).undo 0 (λ z. n (ap (λ (y : Session). y.undo) e ∙ z))) at (ap (some_undo t p) (sym (one_less rest h)))) ∙ g.is
+
+  pub seek-more : {x : Session} {p' rest' : ℕ} → 0 < rest → x ≡ session_at t p → x.undo ≡ 0 → p' ≡ p + 1 → rest' ≡ rest - 1 → Seeking whole t p' rest'
+  unfolding some_undo
+  seek-more {x} {p'} {rest'} h e n q z =
       record {
-        is = ap (some_undo t (p + 1)) z ∙ ((simp (eq-eqb (session_at t p).undo 0 e) at (ap (some_undo t p) (sym (one_less rest h)))) ∙ g.is);
+        is = ap (λ (k : ℕ). some_undo t k rest') q
+            ∙ ap (some_undo t (p + 1)) z
+            ∙ ((simp (eq-eqb (session_at t p).undo 0 (ap (λ (y : Session). y.undo) (sym e) ∙ n)) at (ap (some_undo t p) (sym (one_less rest h)))) ∙ g.is);
       }
 
   pub seek-end : rest ≡ 0 → false ≡ whole
@@ -119,24 +129,26 @@ pub record Taking (whole : Trail (List ℕ)) (s : List ℕ) (m r : ℕ) (t : Lis
   pub is : undos_of s m r t seen f left p rest ≡ whole
 
 module _ {whole : Trail (List ℕ)} {s : List ℕ} {m r : ℕ} {t : List Session} {seen f : List ℕ} {left p : ℕ} where
-  pub take-bad : {rest : ℕ} {w : Chain} {seen' f' : List ℕ} → Taking whole s m r t seen f left p rest → 0 < rest
-      → Ends _ (undos_from s m r p seen f (session_at t p).undo left) w seen' f' → w.ok ≡ false → Ends _ whole w seen' f'
+  take-as : {rest : ℕ} {v : Trail (List ℕ)} → Taking whole s m r t seen f left p rest → 0 < rest → undos_from s m r p seen f (session_at t p).undo left ≡ v
+      → then_trail v (λ u. undos_of s m r t u.seen u.held u.left (p + 1) (rest - 1)) ≡ whole
   unfolding undos_of
-  take-bad {rest} g h k o = ended-as ((simp (trail-as k o) at (ap (undos_of s m r t seen f left p) (sym (one_less rest h)))) ∙ g.is) o
+  take-as {rest} g h e =
+      ap (λ (x : Trail (List ℕ)). then_trail x (λ u. undos_of s m r t u.seen u.held u.left (p + 1) (rest - 1))) (sym e)
+      ∙ ap (undos_of s m r t seen f left p) (sym (one_less rest h)) ∙ g.is
 
-  pub take_more : {rest rest' : ℕ} {w : Chain} {seen' f' : List ℕ} → Taking whole s m r t seen f left p rest → 0 < rest
-      → Ends _ (undos_from s m r p seen f (session_at t p).undo left) w seen' f' → w.ok ≡ true → rest' ≡ rest - 1
-      → Taking whole s m r t seen' f' w.left (p + 1) rest'
-  unfolding undos_of
-  take_more {rest} {rest'} {w} {seen'} {f'} g h k o z =
-      record {
-        is = ap (undos_of s m r t seen' f' w.left (p + 1)) z
-            ∙ ((simp (trail-as k o) at (ap (undos_of s m r t seen f left p) (sym (one_less rest h)))) ∙ g.is);
-      }
+  pub take-bad : {rest : ℕ} {w : Option ℕ} {seen' f' : List ℕ} → Taking whole s m r t seen f left p rest → 0 < rest
+      → Ends _ (undos_from s m r p seen f (session_at t p).undo left) w seen' f' → w ≡ None → Ends _ whole None seen' f'
+  take-bad g h k o = ended-as (take-as g h (trail-none k o))
 
-  pub take-end : {rest : ℕ} → Taking whole s m r t seen f left p rest → rest ≡ 0 → Ends _ whole (record { ok = true; left = left }) seen f
+  pub take_more : {rest rest' n : ℕ} {w : Option ℕ} {seen' f' : List ℕ} → Taking whole s m r t seen f left p rest → 0 < rest
+      → Ends _ (undos_from s m r p seen f (session_at t p).undo left) w seen' f' → w ≡ Some n → rest' ≡ rest - 1
+      → Taking whole s m r t seen' f' n (p + 1) rest'
+  take_more {rest} {rest'} {n} {w} {seen'} {f'} g h k o z =
+      record { is = ap (undos_of s m r t seen' f' n (p + 1)) z ∙ take-as g h (trail-as k o) }
+
+  pub take-end : {rest : ℕ} → Taking whole s m r t seen f left p rest → rest ≡ 0 → Ends _ whole (Some left) seen f
   unfolding undos_of
-  take-end {rest} g e = ended-as (ap (undos_of s m r t seen f left p) (sym e) ∙ g.is) refl
+  take-end {rest} g e = ended-as (ap (undos_of s m r t seen f left p) (sym e) ∙ g.is)
 
 -- ---- no session has one
 

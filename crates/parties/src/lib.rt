@@ -6,33 +6,23 @@
 #![tactic(auto)]
 
 ghost use Rattle.std.specs.Prelude.{◌≡◌, ◌<◌, length};
-ghost use Rattle.marks.specs.Marks.{HasRecords};
 ghost use Rattle.marks.specs.Trail.{Turned, Ends};
 ghost use Rattle.undo_chains.specs.UndoChains.{Filing};
 ghost use Rattle.parties.specs.Parties.{parties_ok, mark_ok, marks_ok, one_at_node, standing_at_nodes, has_undos, all_undos};
 
-use marks::Chain;
-use sessions::{PARTIES, Session};
+use marks::Records;
+use sessions::{PARTIES, Session, Stage};
 
 // All parties stand right; their pins are counted.
-pub fn parties_ok(
-    store: &[u32],
-    seen: &[u8],
-    tally: &mut [u8],
-    m: usize,
-    r: usize,
-    t: [Session; PARTIES],
-) -> bool
-    requires { HasRecords store.now m r × (r < length seen.now) × (r < length tally.old) }
-    ensures { Turned (parties_ok store.now seen.now m r t tally.old) result tally.new }
+pub fn parties_ok(records: Records, seen: &[u8], tally: &mut [u8], t: [Session; PARTIES]) -> bool
+    requires { (records.r < length seen.now) × (records.r < length tally.old) }
+    ensures { Turned (parties_ok records.entry.store.now seen.now records.entry.m records.entry.r t tally.old) result tally.new }
 {
-    let mut p = 0;
-    while p < PARTIES {
+    for p in 0..PARTIES {
         let s = t[p];
-        if !standing::party_ok(store, seen, tally, m, r, p, s) {
+        if !standing::party_ok(records, seen, tally, p, s) {
             return false;
         }
-        p += 1;
     }
     true
 }
@@ -50,20 +40,18 @@ fn mark_ok(p: usize, s: Session) -> bool
     if s.begun == 0 {
         return false;
     }
-    s.stage == 0
+    s.stage == Stage::Idle as u32
 }
 
 // So for all parties.
 pub fn marks_ok(t: [Session; PARTIES]) -> bool
     ensures { result ≡ marks_ok t }
 {
-    let mut p = 0;
-    while p < PARTIES {
+    for p in 0..PARTIES {
         let s = t[p];
         if !mark_ok(p, s) {
             return false;
         }
-        p += 1;
     }
     true
 }
@@ -72,7 +60,7 @@ pub fn marks_ok(t: [Session; PARTIES]) -> bool
 fn one_at_node(s: Session) -> usize
     ensures { result ≡ one_at_node s }
 {
-    if s.stage == 3 {
+    if s.stage == Stage::AtNode as u32 {
         return 1;
     }
     0
@@ -83,11 +71,9 @@ pub fn standing_at_nodes(t: [Session; PARTIES]) -> usize
     ensures { result ≡ standing_at_nodes t }
 {
     let mut n = 0;
-    let mut p = 0;
-    while p < PARTIES {
+    for p in 0..PARTIES {
         let s = t[p];
         n += one_at_node(s);
-        p += 1;
     }
     n
 }
@@ -96,45 +82,31 @@ pub fn standing_at_nodes(t: [Session; PARTIES]) -> usize
 pub fn has_undos(t: [Session; PARTIES]) -> bool
     ensures { result ≡ has_undos t }
 {
-    let mut p: usize = 1;
-    while p < PARTIES {
-        let s = t[p];
+    for s in &t[1..] {
         if s.undo != 0 {
             return true;
         }
-        p += 1;
     }
     false
 }
 
-// All sessions' chains of undo records.
+// All sessions' chains of undo records: how many records may still be met, or None where a chain is not in order.
 pub fn all_undos(
-    store: &[u32],
+    records: Records,
     seen: &mut [u8],
     files: &mut [u16],
-    m: usize,
-    r: usize,
     t: [Session; PARTIES],
     left: usize,
-) -> Chain
-    requires { HasRecords store.now m r × (r < length seen.old) × Filing files.old }
-    ensures { Ends _ (all_undos store.now m r t seen.old files.old left) result seen.new files.new }
+) -> Option<usize>
+    requires { (records.r < length seen.old) × Filing files.old }
+    ensures { Ends _ (all_undos records.entry.store.now records.entry.m records.entry.r t seen.old files.old left) result seen.new files.new }
 {
     let mut more = left;
-    let mut p = 1;
-    while p < PARTIES {
+    for p in 1..PARTIES {
         let s = t[p];
         let first = s.undo as usize;
         let session = p as u32;
-        let c = undo_chains::walk_undos(store, seen, files, m, r, session, first, more);
-        if !c.ok {
-            return c;
-        }
-        more = c.left;
-        p += 1;
+        more = undo_chains::walk_undos(records, seen, files, session, first, more)?;
     }
-    Chain {
-        ok: true,
-        left: more,
-    }
+    Some(more)
 }

@@ -10,7 +10,7 @@ ghost use Rattle.holders.specs.Holders.{sessions_with};
 ghost use Rattle.passing.specs.Asked.{has_passed, needs_gap, asked_at};
 ghost use Rattle.passing.specs.Passed.{changes_at, passed_at, Knows, Covers};
 
-use sessions::{PARTIES, Session};
+use sessions::{PARTIES, Session, Stage};
 
 // ---- one locate
 
@@ -21,20 +21,11 @@ fn after(key: u32) -> usize
     k + 1
 }
 
-fn lesser(a: usize, b: usize) -> usize
-    ensures { result ≡ min a b }
-{
-    if a < b {
-        return a;
-    }
-    b
-}
-
 // A locate that takes, and has taken a key, has passed the keys from first to the last one taken.
 fn has_passed(s: Session, key: u32) -> bool
     ensures { result ≡ has_passed key s }
 {
-    if s.stage != 5 {
+    if s.stage != Stage::Take as u32 {
         return false;
     }
     if s.last == 0 {
@@ -60,13 +51,14 @@ fn needs_gap(s: Session, key: u32, next: u32) -> bool
     !has_passed(s, next)
 }
 
-// The key, above the given one, from which on it may be otherwise whether s has passed; 4294967296 for none.
+// The key, above the given one, from which on it may be otherwise whether s has passed; for none 4294967296, which lies above every key, so
+// that the lowest of several is found with no case for none.
 fn changes_at(s: Session, key: u32) -> usize
     ensures { result ≡ changes_at key s }
 {
     let first = s.first;
     let last = s.last;
-    if s.stage != 5 {
+    if s.stage != Stage::Take as u32 {
         return 4294967296;
     }
     if last == 0 {
@@ -98,18 +90,12 @@ pub fn passed_at(t: [Session; PARTIES], key: u32) -> Passed
     let from = key as usize;
     let mut mask = 0;
     let mut until = 4294967296;
-    let mut p = 1;
-    while p < PARTIES {
+    for p in 1..PARTIES {
         let s = t[p];
         mask = holders::with_if(has_passed(s, key), mask, p);
-        until = lesser(until, changes_at(s, key));
-        p += 1;
+        until = until.min(changes_at(s, key));
     }
-    Passed {
-        mask: mask,
-        from: from,
-        until: until,
-    }
+    Passed { mask, from, until }
 }
 
 fn is_covered(so: Passed, key: u32) -> bool
@@ -138,11 +124,8 @@ fn needing_gap(t: [Session; PARTIES], key: u32, next: u32) -> u32
     ensures { result ≡ sessions_with (needs_gap key next) t }
 {
     let mut mask = 0;
-    let mut p = 1;
-    while p < PARTIES {
-        let s = t[p];
-        mask = holders::with_if(needs_gap(s, key, next), mask, p);
-        p += 1;
+    for p in 1..PARTIES {
+        mask = holders::with_if(needs_gap(t[p], key, next), mask, p);
     }
     mask
 }
@@ -176,6 +159,6 @@ pub fn asked_at(t: [Session; PARTIES], key: u32, next: u32, so: Passed) -> Asked
     let gap = gap_mask(t, key, next, so);
     Asked {
         locate: so.mask,
-        gap: gap,
+        gap,
     }
 }

@@ -11,31 +11,32 @@ ghost use Rattle.recovering.specs.Recovering.{lapsed_words, lapsed_session, laps
 
 use sessions::{PARTIES, Session};
 
+// Begun and not asked.
+fn lapses(x: Session) -> bool
+    ensures { result ≡ lapsing x }
+{
+    x.begun != 0 && x.asked == 0
+}
+
 // Session p, whose record is x, aborts if it is begun and not asked.
 fn lapse_words(store: &mut [u32], m: usize, r: usize, p: u32, x: Session)
     requires { lapsing x ≡ true → AbortReady store.old m r p x }
     ensures { store.new ≡ lapsed_words store.old m r p x }
 {
-    if x.begun == 0 {
-        return;
+    if lapses(x) { // the asked are spared
+        aborting::abort_words(store, m, r, p, x);
     }
-    if x.asked != 0 { // spared
-        return;
-    }
-    aborting::abort_words(store, m, r, p, x);
 }
 
 // Its record then.
 fn lapse_session(x: Session) -> Session
     ensures { result ≡ lapsed_session x }
 {
-    if x.begun == 0 {
-        return x;
+    if lapses(x) {
+        endings::ended_session(x)
+    } else {
+        x
     }
-    if x.asked != 0 {
-        return x;
-    }
-    endings::ended_session(x)
 }
 
 // Each session in turn.
@@ -43,13 +44,10 @@ fn lapse_all(store: &mut [u32], m: usize, r: usize, mut t: [Session; PARTIES]) -
     requires { RecoverReady store.old t m r }
     ensures { kept store.new result ≡ lapsed_all m r (kept store.old t) }
 {
-    let mut p = 1;
-    while p < PARTIES {
+    for p in 1..PARTIES {
         let x = t[p];
-        let session = p as u32;
-        lapse_words(store, m, r, session, x);
+        lapse_words(store, m, r, p as u32, x);
         t[p] = lapse_session(x);
-        p += 1;
     }
     t
 }

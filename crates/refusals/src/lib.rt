@@ -1,19 +1,21 @@
-// Refusals: the number that each call is refused with, 0 if it is accepted, as the session table and the arguments tell it.
+// Refusals: what each call is refused for, as the session table and the arguments tell it.
 //
 // Refusals 1 and 2, of the words of store and table, are asked before; 11 and 12 are a step's. Each function promises that its result EQUALS a
-// definition of specs/: seat, is_begun and has_request what the table says, settle the table with one record changed; a refusal the first number of a
-// list whose test is true (Refusing.first_of), the lists being document 01's order. Refusing proves that these lists are the machine's, on sound words;
-// Coded that the checks of a request are those of its code. It rests on the crates sessions, endings for an idle record, words for how many records a
-// store has, meaning and machine.
-#![tactic(auto)]
+// definition of specs/: seat, is_begun and has_request what the table says, settle the table with one record changed; a check that the number of its
+// refusal, 0 for none, is the first number of a list whose test is true (Refusing.first_of), the lists being document 01's order. Refusing proves that
+// these lists are the machine's, on sound words; Coded that the checks of a request are those of its code. It rests on the crates sessions, outcomes for
+// the refusals, endings for an idle record, words for how many records a store has, meaning and machine.
+#![tactic(auto, unfolding(crate::specs::Refusing::first_of, crate::specs::Refusing::is_begun_in, crate::specs::Refusing::asked_in, crate::specs::Refusing::hand_in))]
 
 ghost use Rattle.std.specs.Prelude.{◌≡◌, ◌||◌, ◌≤◌, eqb, ltb, set};
 ghost use Rattle.sessions.specs.Sessions.{session_at};
+ghost use Rattle.outcomes.specs.Refused.{refused_by};
 ghost use Rattle.machine.specs.Holders.{width};
 ghost use Rattle.machine.specs.Calls.{infinite, no_party, no_session, format_checks};
 ghost use Rattle.refusals.specs.Refusing.{first_of, is_begun_in, asked_in, hand_in, begin_list, step_list, commit_list, abort_list, ask_list, party_list, request_list, put_list};
 ghost use Rattle.refusals.specs.Coded.{value_list, change_list, locate_list, tidy_list};
 
+use outcomes::Refusal;
 use sessions::{PARTIES, Session};
 
 // ---- what the table says
@@ -43,27 +45,21 @@ pub fn settle(mut t: [Session; PARTIES], p: u32, x: Session) -> [Session; PARTIE
 pub fn is_begun(t: [Session; PARTIES], p: u32) -> bool
     ensures { result ≡ is_begun_in t p }
 {
-    let s = seat(t, p);
-    if p == 0 {
-        return true;
-    }
-    s.begun != 0
+    p == 0 || seat(t, p).begun != 0
 }
 
 // A request in hand.
 pub fn has_request(t: [Session; PARTIES], p: u32) -> bool
     ensures { result ≡ hand_in t p }
 {
-    let s = seat(t, p);
-    s.stage != 0
+    seat(t, p).stage != 0
 }
 
 // The session is asked.
 pub fn is_asked(t: [Session; PARTIES], p: u32) -> bool
     ensures { result ≡ asked_in t p }
 {
-    let s = seat(t, p);
-    s.asked != 0
+    seat(t, p).asked != 0
 }
 
 // ---- tests of the arguments
@@ -78,244 +74,197 @@ fn not_party(p: u32) -> bool
 fn not_session(p: u32) -> bool
     ensures { result ≡ no_session p }
 {
-    if p == 0 {
-        return true;
-    }
-    not_party(p)
+    p == 0 || not_party(p)
 }
 
 // No entry of m.
 fn not_entry(m: u32, e: u32) -> bool
     ensures { result ≡ (eqb e 0 || ltb m e) }
 {
-    if e == 0 {
-        return true;
-    }
-    m < e
+    e == 0 || m < e
 }
 
 // One of the two infinities.
 fn is_infinite(k: u32) -> bool
     ensures { result ≡ infinite k }
 {
-    if k == 0 {
-        return true;
-    }
-    4294967295 <= k
+    k == 0 || k == u32::MAX
 }
 
 // ---- the calls but put
 
-pub fn begin_refusal(t: [Session; PARTIES], p: u32) -> u32
-    ensures { result ≡ first_of (begin_list t p) }
+pub fn check_begin(t: [Session; PARTIES], p: u32) -> Result<(), Refusal>
+    ensures { refused_by result ≡ first_of (begin_list t p) }
 {
     let unknown = not_session(p);
     let already = is_begun(t, p);
     if unknown {
-        return 4;
+        return Err(Refusal::Party);
     }
     if already {
-        return 5;
+        return Err(Refusal::Begun);
     }
-    0
+    Ok(())
 }
 
-pub fn step_refusal(t: [Session; PARTIES], p: u32) -> u32
-    ensures { result ≡ first_of (step_list t p) }
+pub fn check_step(t: [Session; PARTIES], p: u32) -> Result<(), Refusal>
+    ensures { refused_by result ≡ first_of (step_list t p) }
 {
-    let out = not_party(p);
-    let begun = is_begun(t, p);
-    let busy = has_request(t, p);
-    if out {
-        return 4;
+    if not_party(p) {
+        return Err(Refusal::Party);
     }
-    if !begun {
-        return 5;
+    if !is_begun(t, p) {
+        return Err(Refusal::Begun);
     }
-    if !busy {
-        return 7;
+    if !has_request(t, p) {
+        return Err(Refusal::Hand);
     }
-    0
+    Ok(())
 }
 
-pub fn commit_refusal(t: [Session; PARTIES], p: u32) -> u32
-    ensures { result ≡ first_of (commit_list t p) }
+pub fn check_commit(t: [Session; PARTIES], p: u32) -> Result<(), Refusal>
+    ensures { refused_by result ≡ first_of (commit_list t p) }
 {
-    let out = not_session(p);
-    let begun = is_begun(t, p);
-    let busy = has_request(t, p);
-    if out {
-        return 4;
+    check_abort(t, p)?;
+    if has_request(t, p) {
+        return Err(Refusal::Hand);
     }
-    if !begun {
-        return 5;
-    }
-    if busy {
-        return 7;
-    }
-    0
+    Ok(())
 }
 
-pub fn abort_refusal(t: [Session; PARTIES], p: u32) -> u32
-    ensures { result ≡ first_of (abort_list t p) }
+pub fn check_abort(t: [Session; PARTIES], p: u32) -> Result<(), Refusal>
+    ensures { refused_by result ≡ first_of (abort_list t p) }
 {
-    let out = not_session(p);
-    let begun = is_begun(t, p);
-    if out {
-        return 4;
+    if not_session(p) {
+        return Err(Refusal::Party);
     }
-    if !begun {
-        return 5;
+    if !is_begun(t, p) {
+        return Err(Refusal::Begun);
     }
-    0
+    Ok(())
 }
 
-pub fn ask_refusal(t: [Session; PARTIES], p: u32) -> u32
-    ensures { result ≡ first_of (ask_list t p) }
+pub fn check_ask(t: [Session; PARTIES], p: u32) -> Result<(), Refusal>
+    ensures { refused_by result ≡ first_of (ask_list t p) }
 {
-    let out = not_session(p);
-    let begun = is_begun(t, p);
-    let fixed = is_asked(t, p);
-    let busy = has_request(t, p);
-    if out {
-        return 4;
+    check_abort(t, p)?;
+    if is_asked(t, p) {
+        return Err(Refusal::Asked);
     }
-    if !begun {
-        return 5;
+    if has_request(t, p) {
+        return Err(Refusal::Hand);
     }
-    if fixed {
-        return 21;
-    }
-    if busy {
-        return 7;
-    }
-    0
+    Ok(())
 }
 
 // Format, of a store of so many words. No number of entries above 1024 is asked for its records.
-pub fn format_refusal(m: u32, words: usize) -> u32
-    ensures { result ≡ first_of (format_checks m words) }
+pub fn check_format(m: u32, words: usize) -> Result<(), Refusal>
+    ensures { refused_by result ≡ first_of (format_checks m words) }
 {
-    if m == 0 {
-        return 3;
+    if m == 0 || 1024 < m || words::records_for(m as usize, words) < 8 {
+        return Err(Refusal::Sizes);
     }
-    if 1024 < m {
-        return 3;
-    }
-    let r = words::records_for(m as usize, words);
-    if r < 8 {
-        return 3;
-    }
-    0
+    Ok(())
 }
 
 // ---- put
 
 // A read or a write.
-fn value_refusal(m: u32, p: u32, e: u32) -> u32
-    ensures { result ≡ first_of (value_list m p e) }
+fn check_value(m: u32, p: u32, e: u32) -> Result<(), Refusal>
+    ensures { refused_by result ≡ first_of (value_list m p e) }
 {
-    let out = not_entry(m, e);
     if p == 0 {
-        return 6;
+        return Err(Refusal::Code);
     }
-    if out {
-        return 8;
+    if not_entry(m, e) {
+        return Err(Refusal::Entry);
     }
-    0
+    Ok(())
 }
 
 // An insert or a remove.
-fn change_refusal(m: u32, p: u32, e: u32, f: u32) -> u32
-    ensures { result ≡ first_of (change_list m p e f) }
+fn check_change(m: u32, p: u32, e: u32, f: u32) -> Result<(), Refusal>
+    ensures { refused_by result ≡ first_of (change_list m p e f) }
 {
-    let outside = not_entry(m, e);
-    let unbounded = is_infinite(f);
-    if p == 0 {
-        return 6;
+    check_value(m, p, e)?;
+    if is_infinite(f) {
+        return Err(Refusal::Key);
     }
-    if outside {
-        return 8;
-    }
-    if unbounded {
-        return 9;
-    }
-    0
+    Ok(())
 }
 
 // A locate.
-fn locate_refusal(p: u32, f: u32, g: u32) -> u32
-    ensures { result ≡ first_of (locate_list p f g) }
+fn check_locate(p: u32, f: u32, g: u32) -> Result<(), Refusal>
+    ensures { refused_by result ≡ first_of (locate_list p f g) }
 {
-    let low = is_infinite(f);
-    let high = is_infinite(g);
     if p == 0 {
-        return 6;
+        return Err(Refusal::Code);
     }
-    if low {
-        return 9;
-    }
-    if high {
-        return 9;
+    if is_infinite(f) || is_infinite(g) {
+        return Err(Refusal::Key);
     }
     if g < f {
-        return 10;
+        return Err(Refusal::Range);
     }
-    0
+    Ok(())
 }
 
 // A tidy: the housekeeper's only.
-fn tidy_refusal(p: u32) -> u32
-    ensures { result ≡ first_of (tidy_list p) }
+fn check_tidy(p: u32) -> Result<(), Refusal>
+    ensures { refused_by result ≡ first_of (tidy_list p) }
 {
     if p != 0 {
-        return 6;
+        return Err(Refusal::Code);
     }
-    0
+    Ok(())
 }
 
 // A request of m entries by its code.
-pub fn request_refusal(m: u32, p: u32, c: u32, e: u32, f: u32, g: u32) -> u32
-    ensures { result ≡ first_of (request_list m p c e f g) }
+pub fn check_request(m: u32, p: u32, c: u32, e: u32, f: u32, g: u32) -> Result<(), Refusal>
+    ensures { refused_by result ≡ first_of (request_list m p c e f g) }
 {
     match c {
-        1 | 2 => value_refusal(m, p, e),
-        3 | 4 => change_refusal(m, p, e, f),
-        5 => locate_refusal(p, f, g),
-        6 => tidy_refusal(p),
-        0 | 7..=4294967295 => 6,
+        1 | 2 => check_value(m, p, e),
+        3 | 4 => check_change(m, p, e, f),
+        5 => check_locate(p, f, g),
+        6 => check_tidy(p),
+        0 | 7..=4294967295 => Err(Refusal::Code),
     }
 }
 
-// What refuses a request before it is looked at: 4, 5 or 21, and 0 for none.
-pub fn party_refusal(t: [Session; PARTIES], p: u32) -> u32
-    ensures { result ≡ first_of (party_list t p) }
+// What refuses a request before it is looked at: 4, 5 or 21.
+pub fn check_party(t: [Session; PARTIES], p: u32) -> Result<(), Refusal>
+    ensures { refused_by result ≡ first_of (party_list t p) }
 {
     let out = not_party(p);
     let begun = is_begun(t, p);
     let asked = is_asked(t, p);
     if out {
-        return 4;
+        return Err(Refusal::Party);
     }
     if !begun {
-        return 5;
+        return Err(Refusal::Begun);
     }
     if asked {
-        return 21;
+        return Err(Refusal::Asked);
     }
-    0
+    Ok(())
 }
 
-pub fn put_refusal(m: u32, t: [Session; PARTIES], p: u32, c: u32, e: u32, f: u32, g: u32) -> u32
-    ensures { result ≡ first_of (put_list m t p c e f g) }
+pub fn check_put(
+    m: u32,
+    t: [Session; PARTIES],
+    p: u32,
+    c: u32,
+    e: u32,
+    f: u32,
+    g: u32,
+) -> Result<(), Refusal>
+    ensures { refused_by result ≡ first_of (put_list m t p c e f g) }
 {
-    let n = party_refusal(t, p);
-    let busy = has_request(t, p);
-    if n != 0 {
-        return n;
+    check_party(t, p)?;
+    if has_request(t, p) {
+        return Err(Refusal::Hand);
     }
-    if busy {
-        return 7;
-    }
-    request_refusal(m, p, c, e, f, g)
+    check_request(m, p, c, e, f, g)
 }

@@ -1,13 +1,12 @@
--- The memberships in lent arrays: the place of one, whether it is one of them, one more, one less.
-use Rattle.std.specs.Prelude.{◌≡◌, Bool, true, false, List, ◌∷◌, ◌⊎◌, ℕ, suc, ◌+◌, ◌-◌, ◌≤◌, ◌<◌, eqb, ltb, length, get_or, drop}
+-- The memberships in arrays: the place of one, whether it is one of them, one more, one less.
+use Rattle.std.specs.Prelude.{◌≡◌, refl, Bool, true, false, ◌&&◌, List, ◌∷◌, ◌⊎◌, ℕ, suc, ◌+◌, ◌-◌, ◌≤◌, ◌<◌, eqb, ltb, length, get_or, drop}
 use Rattle.std.proofs.Common.{sym, ap, subst, ◌∙◌, true≢false, inl, inr, arith, drop_of_length-le, eqb-true, ltb-true, ltb-false}
 use Rattle.std.proofs.lemmas.Bool.{false≢true, eqb-false}
 use Rattle.serial.specs.Rising.{Rising, has, ins, del, has-cases, rising-ins, rising-del}
 use Rattle.serial.specs.Model.{Pair, Before, by_key}
 use Rattle.reshaping.specs.Ops.{insert_in, remove_in}
 use Rattle.reshaping.specs.Live.{insert_at, remove_at, length-insert_in, length-remove_in}
-use Rattle.replay.specs.declared.Fed.{Fed}
-use Rattle.replay.specs.Held.{members_in}
+use Rattle.replay.specs.Held.{Fed, members_in}
 use Rattle.replay.specs.Places.{rank, rank-past, rank-here, rank-none, rank-le, has-at, rank-has, ins-new, ins-old, del-none, del-one}
 use Rattle.replay.specs.Pairs.{length-members, member-at, members-from, members-more, members-less}
 
@@ -126,6 +125,13 @@ module _ (ks es : List ℕ) (n p k e : ℕ) (s : Sorted ks es n) (at : p ≡ pla
     where
       there : get_or es p 0 ≡ e → has by_key (k, e) ms ≡ 1
       there r = has-at by_key (k, e) (0, 0) ms p (omega (arith, count_of s)) (pair_of s p h ∙ λ i. (q i, r i))
+
+  pub finds-both : p < n → Finds ks es n (k, e) p (eqb (get_or ks p 0) k && eqb (get_or es p 0) e)
+  finds-both h = go (eqb (get_or ks p 0) k) refl
+    where
+      go : (b : Bool) → eqb (get_or ks p 0) k ≡ b → Finds ks es n (k, e) p (b && eqb (get_or es p 0) e)
+      go true q = finds-entry h (eqb-true (get_or ks p 0) k q)
+      go false q = finds-other (eqb-false (get_or ks p 0) k q)
 
 -- ---- one more, one less
 

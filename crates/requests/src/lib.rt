@@ -7,7 +7,7 @@
 ghost use Rattle.std.specs.Prelude.{◌≡◌};
 ghost use Rattle.requests.specs.Requests.{value_ok, change_ok, locate_stage, locate_ok, tidy_ok, code_ok, request_ok};
 
-use sessions::Session;
+use sessions::{Code, Session, Stage};
 
 // A read or a write in hand.
 fn value_ok(s: Session, m: usize) -> bool
@@ -17,7 +17,7 @@ fn value_ok(s: Session, m: usize) -> bool
     if !marks::entry_ok(e, m) {
         return false;
     }
-    s.stage == 1
+    s.stage == Stage::Start as u32
 }
 
 // An insert or a remove in hand: at its start, at its change, or on its way to first.
@@ -32,13 +32,13 @@ fn change_ok(s: Session, m: usize) -> bool
     if !marks::key_ok(key) {
         return false;
     }
-    if 4 < s.stage {
+    if s.stage > Stage::Change as u32 {
         return false;
     }
-    if s.stage == 1 {
+    if s.stage == Stage::Start as u32 {
         return true;
     }
-    if s.stage == 4 {
+    if s.stage == Stage::Change as u32 {
         return true;
     }
     s.target == s.first
@@ -48,7 +48,7 @@ fn change_ok(s: Session, m: usize) -> bool
 fn locate_stage(s: Session) -> bool
     ensures { result ≡ locate_stage s }
 {
-    if s.stage == 5 {
+    if s.stage == Stage::Take as u32 {
         if s.last == 0 {
             return true;
         }
@@ -57,10 +57,10 @@ fn locate_stage(s: Session) -> bool
         }
         return s.last < s.second;
     }
-    if s.stage < 2 {
+    if s.stage < Stage::EnterRoot as u32 {
         return false;
     }
-    if 3 < s.stage {
+    if s.stage > Stage::AtNode as u32 {
         return false;
     }
     if s.target == s.first {
@@ -91,13 +91,13 @@ fn locate_ok(s: Session) -> bool
 fn tidy_ok(s: Session) -> bool
     ensures { result ≡ tidy_ok s }
 {
-    if s.code != 6 {
+    if s.code != Code::Tidy as u32 {
         return false;
     }
-    if s.stage == 1 {
+    if s.stage == Stage::Start as u32 {
         return true;
     }
-    if 3 < s.stage {
+    if s.stage > Stage::AtNode as u32 {
         return false;
     }
     s.first < s.target
@@ -110,13 +110,13 @@ fn code_ok(s: Session, m: usize) -> bool
     if s.code == 0 {
         return false;
     }
-    if s.code <= 2 {
+    if s.code <= Code::Write as u32 {
         return value_ok(s, m);
     }
-    if s.code <= 4 {
+    if s.code <= Code::Remove as u32 {
         return change_ok(s, m);
     }
-    if s.code == 5 {
+    if s.code == Code::Locate as u32 {
         return locate_ok(s);
     }
     false
@@ -126,7 +126,7 @@ fn code_ok(s: Session, m: usize) -> bool
 pub fn request_ok(p: usize, s: Session, m: usize) -> bool
     ensures { result ≡ request_ok p s m }
 {
-    if s.stage == 0 {
+    if s.stage == Stage::Idle as u32 {
         return true;
     }
     if p == 0 {

@@ -1,70 +1,64 @@
--- Turns of the loops (shifts of an insertion and a removal, copy), and what two changed arrays make.
+-- What a shift and a copy leave of an array, and what two changed arrays make.
 use mathlib.Core.Path.{◌≡◌, refl, sym, ap, ap₂, ◌∙◌}
-use mathlib.Core.List.{List, [], ◌∷◌, ◌++◌, append-nil}
+use mathlib.Core.List.{List, [], ◌∷◌, ◌++◌, append-nil, append_assoc}
 use Prim.Native.Nat.{ℕ, suc, ◌+◌, ◌-◌, ◌≤◌, ◌<◌}
 use native.Mathlib.Numerals.{add-one}
 use native.Mathlib.Omega.{arith}
-use lib.ListN.{length, take, drop, get_or, set, drop_of_length-le, length-drop}
-use lib.Seq.{drop-cons, take-suc-set, drop-set-lt, append_snoc, take_all, set_split, paste, paste-zero, paste-suc}
+use lib.ListN.{length, take, drop, set, drop_of_length-le, length-drop}
+use lib.Seq.{take_all, set_split, paste}
+use borrow.Rule.Slice.PartMut.{put_mid}
+use Rattle.std.proofs.Common.{length-append, drop_at}
+use Rattle.std.proofs.lemmas.List.{length-take-le, take-append-le, take-take}
+use Rattle.std.proofs.lemmas.List.Edits.{length-paste, take-paste}
+use Rattle.std.proofs.lemmas.Slice.{put_mid-paste}
 use Rattle.nodes.specs.declared.Node.{Node}
 use Rattle.reshaping.specs.Ops.{insert_in, remove_in, insert_son, drop_son, join_nodes}
 use Rattle.reshaping.specs.declared.Neighbours.{Neighbours}
 
--- ---- the insertion: what is left of it, done, gives the whole
-pub record Shifting (whole a : List ℕ) (i x : ℕ) : Type 0 where
-  pub is : take i a ++ take (length (drop i a)) (x ∷ drop i a) ≡ whole
+-- ---- one array
 
-pub shift-start : (a : List ℕ) (i x : ℕ) → Shifting (insert_in a i x) a i x
+-- moved on by one from `i` on, and x put there
+pub inserted : (a : List ℕ) (i x : ℕ) {b : List ℕ} → i < length a → b ≡ paste a (i + 1) (drop i a) (length a - 1 - i) → set b i x ≡ insert_in a i x
 unfolding insert_in
-shift-start a i x = record { is = ap (λ (k : ℕ). take i a ++ take k (x ∷ drop i a)) (length-drop i a) }
+inserted a i x {b} h e =
+    let k : ℕ = length a - 1 - i in
+    let front : length (take (i + 1) a) ≡ suc i = length-take-le (i + 1) a (omega arith) ∙ add-one i in
+    let l : b ≡ take (i + 1) a ++ take k (drop i a) =
+    e ∙ ap (λ (r : List ℕ). (take (i + 1) a ++ take k (drop i a)) ++ r) (drop_of_length-le a {i = i + 1 + k} (omega arith)) ∙ append-nil _ in
+    let n : length a - i ≡ suc k = omega arith in
+    ap (λ (c : List ℕ). set c i x) l
+    ∙ set_split (take (i + 1) a ++ take k (drop i a)) i x (omega (arith, length-append (take (i + 1) a) (take k (drop i a)), front))
+    ∙ ap₂ (λ (c d : List ℕ). c ++ x ∷ d) (take-append-le i (take (i + 1) a) (take k (drop i a)) (omega (arith, front)) ∙ take-take i (i + 1) a (omega arith))
+    (drop_at (take (i + 1) a) (take k (drop i a)) (suc i) front)
+    ∙ ap (λ (m : ℕ). take i a ++ take m (x ∷ drop i a)) (sym n)
 
-pub shift-more : {whole a : List ℕ} {i x : ℕ} → Shifting whole a i x → i < length a → Shifting whole (set a i x) (i + 1) (get_or a i 0)
-shift-more {whole} {a} {i} {x} s h =
-    record {
-      is =
-          rw (add-one i, take-suc-set a i x h, drop-set-lt (suc i) a i x (omega arith))
-          (append_snoc (take i a) x (take (length (drop (suc i) a)) (get_or a i 0 ∷ drop (suc i) a)) ∙ rw (drop-cons a i 0 h) at s.is);
-    }
+-- at the end nothing is put
+pub inserted_none : (a : List ℕ) (i x : ℕ) → length a ≤ i → a ≡ insert_in a i x
+unfolding insert_in
+inserted_none a i x h =
+    let z : length a - i ≡ 0 = omega arith in
+    sym (ap (λ (k : ℕ). take i a ++ take k (x ∷ drop i a)) z ∙ append-nil _ ∙ take_all i a h)
 
-pub shift-end : {whole a : List ℕ} {i x : ℕ} → Shifting whole a i x → length a ≤ i → a ≡ whole
-shift-end {whole} {a} {i} {x} s h = sym (append-nil a) ∙ rw (drop_of_length-le a {i = i} h, take_all i a h) at s.is
-
--- ---- the removal, in the same way
-pub record Closing (whole a : List ℕ) (i : ℕ) : Type 0 where
-  pub is : take i a ++ (drop (suc i) a ++ (0 ∷ [])) ≡ whole
-
-pub close-start : (a : List ℕ) (i : ℕ) → Closing (remove_in a i) a i
+-- moved up by one from behind `i` on, and a 0 put last
+pub removed : (a : List ℕ) (i : ℕ) {b : List ℕ} → i < length a → b ≡ paste a i (drop (i + 1) a) (length a - (i + 1)) → set b (length a - 1) 0 ≡ remove_in a i
 unfolding remove_in
-close-start a i = record { is = refl }
+removed a i {b} h e =
+    let k : ℕ = length a - (i + 1) in
+    let d : List ℕ = drop (i + 1) a in
+    let many : length d ≡ k = length-drop (i + 1) a in
+    let last : length a - 1 ≡ i + k = omega arith in
+    let all : length b ≡ length a = ap length e ∙ length-paste a i d k (omega arith) (omega (arith, many)) in
+    set_split b (length a - 1) 0 (omega (arith, all))
+    ∙ ap₂ (λ (c f : List ℕ). c ++ 0 ∷ f)
+    (ap₂ take last e ∙ take-paste a i d k (omega arith) (omega (arith, many)) ∙ ap (λ (f : List ℕ). take i a ++ f) (take_all k d (omega (arith, many))))
+    (drop_of_length-le b {i = suc (length a - 1)} (omega (arith, all)))
+    ∙ append_assoc (take i a) d (0 ∷ [])
+    ∙ ap (λ (m : ℕ). take i a ++ (drop m a ++ (0 ∷ []))) (add-one i)
 
-pub close_more : {whole a : List ℕ} {i : ℕ} → Closing whole a i → i + 1 < length a → Closing whole (set a i (get_or a (i + 1) 0)) (i + 1)
-close_more {whole} {a} {i} c h =
-    let y : ℕ = get_or a (suc i) 0 in
-    record {
-      is =
-          rw (add-one i, take-suc-set a i y (omega arith), drop-set-lt (suc (suc i)) a i y (omega arith))
-          (append_snoc (take i a) y (drop (suc (suc i)) a ++ (0 ∷ [])) ∙ rw (drop-cons a (suc i) 0 (omega arith)) at c.is);
-    }
-
-pub close-end : {whole a : List ℕ} {i : ℕ} → Closing whole a i → i < length a → length a ≤ i + 1 → set a i 0 ≡ whole
-close-end {whole} {a} {i} c h l =
-    let n : drop (suc i) a ≡ [] = drop_of_length-le a {i = suc i} (omega arith) in
-    set_split a i 0 h ∙ ap (λ (r : List ℕ). take i a ++ (0 ∷ r)) n ∙ rw n at c.is
-
--- ---- the copy: l is d after i turns
-pub record Pasted (d : List ℕ) (at : ℕ) (s : List ℕ) (i : ℕ) (l : List ℕ) : Type 0 where
-  pub is : l ≡ paste d at s i
-
-pub paste_none : (d : List ℕ) (at : ℕ) (s : List ℕ) → Pasted d at s 0 d
-paste_none d at s = record { is = paste-zero d at s }
-
-pub paste_more : {d : List ℕ} {at : ℕ} {s : List ℕ} {i : ℕ} {l : List ℕ} → Pasted d at s i l → at + i < length d → i < length s
-    → Pasted d at s (i + 1) (set l (at + i) (get_or s i 0))
-paste_more {d} {at} {s} {i} {l} p hd hs =
-    record { is = ap (λ (m : List ℕ). set m (at + i) (get_or s i 0)) p.is ∙ paste-suc d at s i 0 hd hs ∙ ap (paste d at s) (sym (add-one i)) }
-
-pub paste-end : {d : List ℕ} {at : ℕ} {s : List ℕ} {i : ℕ} {l : List ℕ} (n : ℕ) → Pasted d at s i l → i ≡ n → l ≡ paste d at s n
-paste-end {d} {at} {s} n p e = p.is ∙ ap (paste d at s) e
+-- the first n words of s written over d from `at` on
+pub copied : (d : List ℕ) (at k : ℕ) (s : List ℕ) (n : ℕ) {c : List ℕ} → c ≡ take n s → n ≡ k → n ≤ length s → put_mid at k d c ≡ paste d at s n
+copied d at k s n e q h =
+    put_mid-paste at k d _ (take n s) n e q (sym (length-take-le n s h)) ∙ ap (λ (l : List ℕ). (take at d ++ l) ++ drop (at + n) d) (take-take n n s (omega arith))
 
 -- ---- a node, from its two changed arrays: a son more, a son less
 node_made : (latch count : ℕ) {b b₁ s s₁ : List ℕ} → b ≡ b₁ → s ≡ s₁

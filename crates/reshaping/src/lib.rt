@@ -9,7 +9,6 @@
 #![tactic(auto)]
 
 ghost use Rattle.std.specs.Prelude.{◌≡◌, ◌+◌, ◌≤◌, ◌<◌, length};
-ghost use Rattle.std.proofs.Math.Seq.{paste};
 ghost use Rattle.reshaping.specs.Ops.{insert_in, remove_in, insert_son, insert_before, insert_behind, drop_son, remove_before, remove_behind, remove_son, set_bound, split_node, join_nodes, move_from_left, move_from_right};
 
 use nodes::Node;
@@ -29,13 +28,9 @@ pub fn insert_in(a: &mut [u32], at: usize, x: u32)
     requires { at ≤ length a.old }
     ensures { a.new ≡ insert_in a.old at x }
 {
-    let mut carry = x;
-    let mut i = at;
-    while i < a.len() {
-        let t = a[i];
-        a[i] = carry;
-        carry = t;
-        i += 1;
+    if at < a.len() {
+        a.copy_within(at..a.len() - 1, at + 1);
+        a[at] = x;
     }
 }
 
@@ -44,43 +39,22 @@ pub fn remove_in(a: &mut [u32], at: usize)
     requires { at < length a.old }
     ensures { a.new ≡ remove_in a.old at }
 {
-    let mut i = at;
-    while i + 1 < a.len() {
-        a[i] = a[i + 1];
-        i += 1;
-    }
-    a[i] = 0;
-}
-
-// Copies the first n words of src over dst from `at` on.
-fn copy_at(dst: &mut [u32], at: usize, src: &[u32], n: usize)
-    requires { (at + n ≤ length dst.old) × (n ≤ length src.now) }
-    ensures { dst.new ≡ paste dst.old at src.now n }
-{
-    let mut i = 0;
-    while i < n {
-        dst[at + i] = src[i];
-        i += 1;
-    }
+    let last = a.len() - 1;
+    a.copy_within(at + 1.., at);
+    a[last] = 0;
 }
 
 // ---- a son more, a son less
 
 // One more boundary, at i, and one more son, at j.
-pub fn insert_son(n: Node, i: usize, key: u32, j: usize, son: u32) -> Node
+pub fn insert_son(mut n: Node, i: usize, key: u32, j: usize, son: u32) -> Node
     requires { (n.count < 8) × (i ≤ 7) × (j ≤ 8) }
     ensures { result ≡ insert_son n i key j son }
 {
-    let mut b = n.bounds;
-    let mut s = n.sons;
-    insert_in(&mut b, i, key);
-    insert_in(&mut s, j, son);
-    Node {
-        latch: n.latch,
-        count: n.count + 1,
-        bounds: b,
-        sons: s,
-    }
+    insert_in(&mut n.bounds, i, key);
+    insert_in(&mut n.sons, j, son);
+    n.count += 1;
+    n
 }
 
 // A son before place i, and the boundary between the two.
@@ -100,20 +74,14 @@ pub fn insert_behind(n: Node, i: usize, key: u32, son: u32) -> Node
 }
 
 // Boundary i and son j less.
-pub fn drop_son(n: Node, i: usize, j: usize) -> Node
+pub fn drop_son(mut n: Node, i: usize, j: usize) -> Node
     requires { (1 ≤ n.count) × (i < 7) × (j < 8) }
     ensures { result ≡ drop_son n i j }
 {
-    let mut b = n.bounds;
-    let mut s = n.sons;
-    remove_in(&mut b, i);
-    remove_in(&mut s, j);
-    Node {
-        latch: n.latch,
-        count: n.count - 1,
-        bounds: b,
-        sons: s,
-    }
+    remove_in(&mut n.bounds, i);
+    remove_in(&mut n.sons, j);
+    n.count -= 1;
+    n
 }
 
 // Boundary i less, and the son before it.
@@ -145,19 +113,12 @@ pub fn remove_son(n: Node, i: usize) -> Node
 }
 
 // The node with boundary i replaced.
-pub fn set_bound(n: Node, i: usize, key: u32) -> Node
+pub fn set_bound(mut n: Node, i: usize, key: u32) -> Node
     requires { i < 7 }
     ensures { result ≡ set_bound n i key }
 {
-    let mut b = n.bounds;
-    let s = n.sons;
-    b[i] = key;
-    Node {
-        latch: n.latch,
-        count: n.count,
-        bounds: b,
-        sons: s,
-    }
+    n.bounds[i] = key;
+    n
 }
 
 // ---- two nodes
@@ -168,50 +129,35 @@ pub fn split_node(n: Node) -> Neighbours
 {
     let b = n.bounds;
     let s = n.sons;
-    let lb = [b[0], b[1], b[2], 0, 0, 0, 0];
-    let ls = [s[0], s[1], s[2], s[3], 0, 0, 0, 0];
-    let rb = [b[4], b[5], b[6], 0, 0, 0, 0];
-    let rs = [s[4], s[5], s[6], s[7], 0, 0, 0, 0];
-    let up = b[3];
-    let left = Node {
-        latch: n.latch,
-        count: 4,
-        bounds: lb,
-        sons: ls,
-    };
-    let right = Node {
-        latch: 0,
-        count: 4,
-        bounds: rb,
-        sons: rs,
-    };
     Neighbours {
-        left: left,
-        up: up,
-        right: right,
+        left: Node {
+            latch: n.latch,
+            count: 4,
+            bounds: [b[0], b[1], b[2], 0, 0, 0, 0],
+            sons: [s[0], s[1], s[2], s[3], 0, 0, 0, 0],
+        },
+        up: b[3],
+        right: Node {
+            latch: 0,
+            count: 4,
+            bounds: [b[4], b[5], b[6], 0, 0, 0, 0],
+            sons: [s[4], s[5], s[6], s[7], 0, 0, 0, 0],
+        },
     }
 }
 
 // Two nodes of at most 8 sons together as one, with the boundary that comes down between them.
-pub fn join_nodes(l: Node, down: u32, r: Node) -> Node
+pub fn join_nodes(mut l: Node, down: u32, r: Node) -> Node
     requires { (1 ≤ l.count) × (1 ≤ r.count) × (l.count + r.count ≤ 8) }
     ensures { result ≡ join_nodes l down r }
 {
     let lc = l.count as usize;
     let rc = r.count as usize;
-    let mut b = l.bounds;
-    let mut s = l.sons;
-    let rb = r.bounds;
-    let rs = r.sons;
-    b[lc - 1] = down;
-    copy_at(&mut b, lc, &rb, rc - 1);
-    copy_at(&mut s, lc, &rs, rc);
-    Node {
-        latch: l.latch,
-        count: l.count + r.count,
-        bounds: b,
-        sons: s,
-    }
+    l.bounds[lc - 1] = down;
+    l.bounds[lc..lc + rc - 1].copy_from_slice(&r.bounds[..rc - 1]);
+    l.sons[lc..lc + rc].copy_from_slice(&r.sons[..rc]);
+    l.count += r.count;
+    l
 }
 
 // The left one's last son goes to the front of the right one, down comes down before its former first son, and the left one's last
@@ -220,19 +166,12 @@ pub fn move_from_left(l: Node, down: u32, r: Node) -> Neighbours
     requires { (2 ≤ l.count) × (l.count ≤ 8) × (r.count < 8) }
     ensures { result ≡ move_from_left l down r }
 {
-    let b = l.bounds;
-    let s = l.sons;
-    let first = 0;
     let last = (l.count - 1) as usize;
-    let before = last - 1;
-    let up = b[before];
-    let moved = s[last]; // the left one's last
-    let right = insert_before(r, first, down, moved);
-    let left = remove_behind(l, before);
+    let moved = l.sons[last]; // the left one's last
     Neighbours {
-        left: left,
-        up: up,
-        right: right,
+        left: remove_behind(l, last - 1),
+        up: l.bounds[last - 1],
+        right: insert_before(r, 0, down, moved),
     }
 }
 
@@ -242,17 +181,11 @@ pub fn move_from_right(l: Node, down: u32, r: Node) -> Neighbours
     requires { (1 ≤ l.count) × (l.count < 8) × (1 ≤ r.count) }
     ensures { result ≡ move_from_right l down r }
 {
-    let b = r.bounds;
-    let s = r.sons;
-    let first = 0;
     let last = (l.count - 1) as usize;
-    let up = b[first];
-    let moved = s[first]; // the right one's first
-    let left = insert_behind(l, last, down, moved);
-    let right = remove_before(r, first);
+    let moved = r.sons[0]; // the right one's first
     Neighbours {
-        left: left,
-        up: up,
-        right: right,
+        left: insert_behind(l, last, down, moved),
+        up: r.bounds[0],
+        right: remove_before(r, 0),
     }
 }

@@ -32,7 +32,6 @@ use Rattle.layout.specs.Puts.{node-latch}
 use Rattle.layout.specs.Room.{Sizes, sizes-of}
 use Rattle.layout.specs.Asked.{request_in, wait-moves}
 use Rattle.nodes.specs.Paths.{son_at}
-use Rattle.nodes.specs.Ops.{latch_at}
 use Rattle.descents.specs.Descents.{has_free, first_in_way}
 use Rattle.splits.specs.Splits.{split_root, split_root_half, drop_root}
 use Rattle.finishing.proofs.Ended.{refused-moves}

@@ -20,8 +20,8 @@ ghost use Rattle.walking.specs.Hands.{standing_at};
 ghost use Rattle.finishing.specs.Finishing.{Endable};
 ghost use Rattle.root_entry.specs.RootEntry.{drops_root, entered_node, dropped_words, root_in_way, splits_root, has_two, enter_whole, enter_halves, root_refused, enter_full, enter_free, enter_step_of, RootReady, FreeReady, EnterReady};
 
-use outcomes::{Answer, Moved};
-use sessions::Session;
+use outcomes::{Answer, Moved, Refusal};
+use sessions::{Session, Stage};
 
 // ---- what is entered
 
@@ -32,10 +32,7 @@ fn drops_root(store: &[u32], m: usize) -> bool
 {
     let root = words::root(store) as usize;
     let height = words::height(store);
-    if height < 2 {
-        return false;
-    }
-    nodes::node_count(store, m, root) == 1
+    2 <= height && nodes::node_count(store, m, root) == 1
 }
 
 // The root, or its lone son.
@@ -44,11 +41,11 @@ fn entered_node(store: &[u32], m: usize) -> usize
     ensures { result ≡ entered_node store.now m }
 {
     let root = words::root(store) as usize;
-    let drops = drops_root(store, m);
-    if drops {
-        return nodes::node_son(store, m, root, 0) as usize;
+    if drops_root(store, m) {
+        nodes::node_son(store, m, root, 0) as usize
+    } else {
+        root
     }
-    root
 }
 
 // The root gives way to its lone son, where that is a node.
@@ -56,11 +53,9 @@ fn drop_lone(store: &mut [u32], m: usize)
     requires { HasRecord store.old m (header_word store.old root_place) }
     ensures { store.new ≡ dropped_words store.old m }
 {
-    let drops = drops_root(store, m);
-    if !drops {
-        return;
+    if drops_root(store, m) {
+        splits::drop_root(store, m);
     }
-    splits::drop_root(store, m);
 }
 
 // ---- the tests
@@ -82,11 +77,7 @@ fn splits_root(store: &[u32], m: usize, p: u32) -> bool
     requires { RootReady store.now m p }
     ensures { result ≡ splits_root store.now m p }
 {
-    if p == 0 {
-        return false;
-    }
-    let node = entered_node(store, m);
-    nodes::node_count(store, m, node) == 8
+    p != 0 && nodes::node_count(store, m, entered_node(store, m)) == 8
 }
 
 // Two records are free, or come to be by the drop.
@@ -94,11 +85,11 @@ fn has_two(store: &[u32], m: usize) -> bool
     requires { HasRecord store.now m (header_word store.now root_place) × Poppable store.now m }
     ensures { result ≡ has_two store.now m }
 {
-    let drops = drops_root(store, m);
-    if drops {
-        return descents::has_free(store, m, 1);
+    if drops_root(store, m) {
+        descents::has_free(store, m, 1)
+    } else {
+        descents::has_free(store, m, 2)
     }
-    descents::has_free(store, m, 2)
 }
 
 // ---- the effects
@@ -107,7 +98,7 @@ fn has_two(store: &[u32], m: usize) -> bool
 fn at_node(mut x: Session, i: u32, level: u32) -> Session
     ensures { result ≡ standing_at x i level }
 {
-    x.stage = 3;
+    x.stage = Stage::AtNode as u32;
     x.at = i;
     x.level = level;
     x
@@ -148,7 +139,7 @@ fn root_refused(store: &mut [u32], m: usize, x: Session) -> Moved
 {
     let idle = finishing::end_request(store, m, x);
     Moved {
-        answer: Answer::Refused(11, 0),
+        answer: Answer::Refused(Refusal::Full as u32, 0),
         session: idle,
     }
 }

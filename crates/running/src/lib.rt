@@ -21,7 +21,7 @@ ghost use Rattle.running.specs.Seats.{Seated, SeatRuns};
 ghost use Rattle.running.specs.Scans.{Hint, place_after, Scannable, SatServes};
 
 use outcomes::{Answer, Ran};
-use sessions::{PARTIES, Session};
+use sessions::{PARTIES, Session, Stage};
 
 // The most steps of one run; promises/specs/Runs has it as most_steps.
 pub const MOST_STEPS: u32 = 16383;
@@ -31,32 +31,19 @@ pub const MOST_STEPS: u32 = 16383;
 pub fn is_more(a: Answer) -> bool
     ensures { result ≡ is_more a }
 {
-    match a {
-        Answer::Ok => false,
-        Answer::More => true,
-        Answer::Wait(_) => false,
-        Answer::Done(_) => false,
-        Answer::Tidied(_, _) => false,
-        Answer::Refused(_, _) => false,
-    }
+    matches!(a, Answer::More)
 }
 
 pub fn is_ok(a: Answer) -> bool
     ensures { result ≡ is_ok_of a }
 {
-    match a {
-        Answer::Ok => true,
-        Answer::More => false,
-        Answer::Wait(_) => false,
-        Answer::Done(_) => false,
-        Answer::Tidied(_, _) => false,
-        Answer::Refused(_, _) => false,
-    }
+    matches!(a, Answer::Ok)
 }
 
 // ---- one step of a party whose record is x
 
-// What a step leaves of its party's record, its answer, and the record of the descriptor that the next step of a scan takes, 0 where that is not known.
+// What a step leaves of its party's record, its answer, and the record of the descriptor that the next step of a scan takes, 0 where that is not known: no
+// Option, since the definitions that the contracts name, place_after and Hint, have the 0.
 #[derive(Clone, Copy)]
 struct Sat {
     session: Session,
@@ -80,8 +67,7 @@ fn place_after(store: &[u32], m: usize, d: usize, a: Answer) -> usize
     requires { HasRecord store.now m d }
     ensures { result ≡ place_after store.now m d a }
 {
-    let more = is_more(a);
-    if !more {
+    if !is_more(a) {
         return 0;
     }
     groups::descriptor_next(store, m, d) as usize
@@ -102,13 +88,10 @@ fn scan_step(
 {
     let d = place_of(store, m, r, x, from);
     let z = taking::take_at(store, list, m, r, p, x, d);
-    let answer = z.answer;
-    let y = z.session;
-    let next = place_after(store, m, d, answer);
     Sat {
-        session: y,
-        answer: answer,
-        next: next,
+        session: z.session,
+        answer: z.answer,
+        next: place_after(store, m, d, z.answer),
     }
 }
 
@@ -125,15 +108,13 @@ fn seat_step(
     requires { Seated store.old m r p x × Hint store.old m r x from }
     ensures { SatServes m r p x store.old list.old result.answer list.new store.new result.session result.next }
 {
-    if x.stage == 5 {
+    if x.stage == Stage::Take as u32 {
         return scan_step(store, list, m, r, p, x, from);
     }
     let z = stepping::early_step(store, m, r, p, x);
-    let answer = z.answer;
-    let y = z.session;
     Sat {
-        session: y,
-        answer: answer,
+        session: z.session,
+        answer: z.answer,
         next: 0,
     }
 }
@@ -184,18 +165,12 @@ fn run_seat(
         let answer = sat.answer;
         let more = is_more(answer);
         if !more {
-            return Went {
-                sat: sat,
-                steps: steps,
-            };
+            return Went { sat, steps };
         }
         sat = seat_step(store, list, m, r, p, y, sat.next);
         steps += 1;
     }
-    Went {
-        sat: sat,
-        steps: steps,
-    }
+    Went { sat, steps }
 }
 
 // Steps of party p until one is not answered more: at least one, at most bound, and never more than MOST_STEPS.
@@ -203,13 +178,8 @@ pub fn run(store: &mut [u32], list: &mut [u32], t: [Session; PARTIES], p: u32, b
     requires { Sound store.old t }
     ensures { Runs p bound store.old t list.old (said result.answer) result.steps list.new store.new result.table }
 {
-    let n = refusals::step_refusal(t, p);
-    if n != 0 {
-        return Ran {
-            table: t,
-            answer: Answer::Refused(n, 0),
-            steps: 1,
-        };
+    if let Err(refusal) = refusals::check_step(t, p) {
+        return Ran::refused(t, refusal, 1);
     }
     let m = words::entries(store) as usize;
     let r = words::records(store) as usize;

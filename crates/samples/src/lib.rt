@@ -10,158 +10,155 @@ pub mod lines;
 pub mod words;
 
 use build::{
-    BEGUN, ENTRY, EXCLUSIVE, GAP, GROUP, HIGH, KEY, LAST, LATCH, LOCATE, LOW, NEXT, ORDER, PINS,
-    SAVED, SHARE, STAGE, TARGET, UPDATE, base, descriptor, free_from, member, node, undo,
+    AT, BEGUN, CODE, ENTRY, EXCLUSIVE, GAP, GROUP, HIGH, LAST, LATCH, LEVEL, LOCATE, LOW, ORDER,
+    PINS, SAVED, SHARE, STAGE, Stage, TARGET, UPDATE, UndoKind, base, descriptor, free_from,
+    member, node, undo,
 };
 use lines::number;
-use words::{
-    PARTIES, STORE, WORDS, Words, bit, entry_place, get, party_place, put, record_place,
-    set_record, wide,
-};
+use words::{PARTIES, STORE, Words, entry_place};
 
-// Which numbers of a line are words as they stand: those up to this one, and how many. The numbers before them say where.
-fn words_end(letter: u8) -> u32 {
-    match letter {
-        b'H' | b'b' | b'i' | b't' | b'L' | b'U' => 3,
-        b'r' | b'E' | b'R' | b'P' | b'd' | b'm' | b'w' => 4,
-        b'h' | b'o' => 5,
-        b'p' | b'a' => 6,
-        _ => 0,
+// The words of the header from the root's on.
+fn root(w: &mut Words, record: u32, height: u32, first: u32) {
+    w.set(STORE + 2, record);
+    w.set(STORE + 3, height);
+    w.set(STORE + 4, first);
+}
+
+// Session b becomes a holder at this place.
+fn hold(w: &mut Words, at: usize, b: u32) {
+    w.change(at, |x| x | words::bit(b));
+}
+
+// A holder of key or gap of record a.
+fn hold_record(w: &mut Words, a: u32, k: u32, b: u32) {
+    let at = w.record_place(a, k);
+    hold(w, at, b);
+}
+
+// Party a pins descriptor b, which has one pin more.
+fn pin(w: &mut Words, a: u32, k: u32, b: u32) {
+    w.set_field(a, k, b);
+    let pins = w.record_place(b, PINS);
+    w.change(pins, |x| x.wrapping_add(1));
+}
+
+// Session a begins, with this mark. If no line gives it another place in the order of begins, the last one's is 1.
+fn begin(w: &mut Words, a: u32, mark: u32) {
+    w.set_field(a, BEGUN, mark);
+    w.set_field(a, ORDER, (PARTIES as u32).wrapping_sub(a));
+}
+
+// Party a comes to a stage.
+fn come(w: &mut Words, a: u32, stage: Stage) {
+    w.set_field(a, STAGE, stage as u32);
+}
+
+// Party a puts a request, and begins if it is a session.
+fn put(w: &mut Words, a: u32, request: [u32; 4]) {
+    for (k, x) in request.iter().enumerate() {
+        w.set_field(a, CODE + k as u32, *x);
+    }
+    come(w, a, Stage::Start);
+    if a != 0 {
+        begin(w, a, 1);
     }
 }
 
-fn word_count(letter: u8) -> u32 {
-    match letter {
-        b'd' | b'o' => 2,
-        b'r' | b'h' | b'a' => 3,
-        b'p' => 4,
-        _ => 1,
-    }
+// Party a, on its way to a key, has come to a node, whose latch it has.
+fn here(w: &mut Words, a: u32, target: u32, node: u32, level: u32) {
+    w.set_field(a, TARGET, target);
+    w.set_field(a, AT, node);
+    w.set_field(a, LEVEL, level);
+    come(w, a, Stage::Here);
+    w.set_record(node, LATCH, a.wrapping_add(1));
 }
 
-// The word of its record or party that number k goes to, if the second number is b.
-fn field(letter: u8, b: u32, k: u32) -> u32 {
-    match letter {
-        b'R' | b'P' => b,
-        b'd' => if k == 2 { KEY } else { NEXT },
-        b'm' | b'w' | b'a' | b'o' => match k {
-            3 => ENTRY,
-            4 => GROUP,
-            _ => SAVED,
-        },
-        b'p' => std::num::wrapping_sub_u32(k, 1),
-        b'i' => TARGET,
-        b'h' => std::num::wrapping_add_u32(k, 4),
-        b'L' => LOW,
-        b'U' => HIGH,
-        b't' => LAST,
-        _ => BEGUN,
-    }
+// Undo record b of session a: of a write to an entry, of a member of a group that was added, or was taken out.
+fn wrote(w: &mut Words, a: u32, b: u32, entry: u32) {
+    w.set_record(b, ENTRY, entry);
+    undo(w, UndoKind::Write, a, b);
 }
 
-// Where number k goes in a store of m entries, if the first two are a and b.
-fn place(m: u32, letter: u8, a: u32, b: u32, k: u32) -> usize {
-    match letter {
-        b'r' => STORE + 1 + wide(k),
-        b'H' => STORE + wide(a),
-        b'E' => entry_place(a, b),
-        b'R' | b'd' | b'm' => record_place(m, a, field(letter, b, k)),
-        b'w' | b'a' | b'o' => record_place(m, b, field(letter, b, k)),
-        _ => party_place(a, field(letter, b, k)),
-    }
+fn added(w: &mut Words, a: u32, b: u32, entry: u32, group: u32, membership: u32) {
+    w.set_record(b, ENTRY, entry);
+    w.set_record(b, SAVED, membership);
+    w.set_record(b, GROUP, group);
+    undo(w, UndoKind::Added, a, b);
 }
 
-fn add_words(w: &mut Words, letter: u8, text: &[u8], at: usize) {
-    let m = get(w, STORE);
-    let a = number(text, at, 1);
-    let b = number(text, at, 2);
-    let end = words_end(letter);
-    let mut k = std::num::wrapping_sub_u32(end, word_count(letter));
-    while k < end {
-        put(w, place(m, letter, a, b, k), number(text, at, k));
-        k += 1;
-    }
+fn taken_out(w: &mut Words, a: u32, b: u32, entry: u32, group: u32) {
+    w.set_record(b, ENTRY, entry);
+    w.set_record(b, GROUP, group);
+    undo(w, UndoKind::Out, a, b);
 }
 
-// Records: a base, descriptors, nodes, free ones, memberships and undo records.
-fn add_record(w: &mut Words, letter: u8, a: u32, b: u32, c: u32) {
+// What the line says of records: a base, a root, descriptors, nodes, free ones, memberships and undo records, and one word of any.
+fn add_record(w: &mut Words, letter: u8, numbers: [u32; 5]) {
+    let [a, b, c, d, e] = numbers;
     match letter {
         b'B' => base(w, a, b, c),
-        b'd' => descriptor(w, a, b),
+        b'r' => root(w, a, b, c),
+        b'd' => descriptor(w, a, b, c),
         b'n' => node(w, a, b, c),
         b'f' => free_from(w, a),
-        b'm' => member(w, a, b),
-        b'w' | b'a' | b'o' => undo(w, letter, a, b),
+        b'm' => member(w, a, b, c),
+        b'w' => wrote(w, a, b, c),
+        b'a' => added(w, a, b, c, d, e),
+        b'o' => taken_out(w, a, b, c, d),
+        b'H' => w.set(STORE + a as usize, b),
+        b'E' => w.set(entry_place(a, b), c),
+        b'R' => w.set_record(a, b, c),
         _ => {}
     }
 }
 
-// Where the word lies that a line only changes: the holders of an entry, of a key or of its gap, and the pins of a descriptor.
-fn changed_place(m: u32, letter: u8, a: u32, b: u32) -> usize {
+// What it says of holders and pins.
+fn add_holder(w: &mut Words, letter: u8, a: u32, b: u32) {
     match letter {
-        b's' => entry_place(a, SHARE),
-        b'e' => entry_place(a, EXCLUSIVE),
-        b'l' => record_place(m, a, LOCATE),
-        b'u' => record_place(m, a, UPDATE),
-        b'g' => record_place(m, a, GAP),
-        b'L' | b'U' => record_place(m, b, PINS),
-        _ => WORDS,
-    }
-}
-
-// Session b becomes a holder; descriptor b has one pin more.
-fn change(w: &mut Words, letter: u8, a: u32, b: u32) {
-    let at = changed_place(get(w, STORE), letter, a, b);
-    let x = get(w, at);
-    let y = match letter {
-        b'L' | b'U' => std::num::wrapping_add_u32(x, 1),
-        _ => x | bit(b),
-    };
-    put(w, at, y);
-}
-
-// The stage that a line brings its party to: it puts a request, is to enter the root, has come to a node, is to change the group of first,
-// or to take.
-fn stage(letter: u8) -> u32 {
-    match letter {
-        b'p' => 1,
-        b'i' => 2,
-        b'h' => 3,
-        b'c' => 4,
-        b't' => 5,
-        _ => 0,
-    }
-}
-
-// Session p's place in the order of begins, if no line gives it another: the last one's is 1.
-fn order(p: u32) -> u32 {
-    std::num::wrapping_sub_u32(PARTIES as u32, p)
-}
-
-// A session that puts a request begins; a session that begins has its place; a party that has come to node c has its latch.
-fn add_party(w: &mut Words, letter: u8, a: u32, c: u32) {
-    let to = stage(letter);
-    if to != 0 {
-        put(w, party_place(a, STAGE), to);
-    }
-    match letter {
-        b'p' => if a != 0 {
-            put(w, party_place(a, BEGUN), 1);
-            put(w, party_place(a, ORDER), order(a));
-        },
-        b'b' => put(w, party_place(a, ORDER), order(a)),
-        b'h' => set_record(w, c, LATCH, std::num::wrapping_add_u32(a, 1)),
+        b's' => hold(w, entry_place(a, SHARE), b),
+        b'e' => hold(w, entry_place(a, EXCLUSIVE), b),
+        b'l' => hold_record(w, a, LOCATE, b),
+        b'u' => hold_record(w, a, UPDATE, b),
+        b'g' => hold_record(w, a, GAP, b),
+        b'L' => pin(w, a, LOW, b),
+        b'U' => pin(w, a, HIGH, b),
         _ => {}
     }
 }
 
-// Adds what the line that begins here with this letter says to a store and its table.
-pub fn add(w: &mut Words, letter: u8, text: &[u8], at: usize) {
-    let a = number(text, at, 1);
-    let b = number(text, at, 2);
-    let c = number(text, at, 3);
-    add_words(w, letter, text, at);
-    add_record(w, letter, a, b, c);
-    change(w, letter, a, b);
-    add_party(w, letter, a, c);
+// What it says of a party: that it begins, puts a request, or comes to a stage; and one word of any.
+fn add_party(w: &mut Words, letter: u8, numbers: [u32; 5]) {
+    let [a, b, c, d, e] = numbers;
+    match letter {
+        b'b' => begin(w, a, b),
+        b'p' => put(w, a, [b, c, d, e]),
+        b'i' => {
+            w.set_field(a, TARGET, b);
+            come(w, a, Stage::Enter);
+        }
+        b'h' => here(w, a, b, c, d),
+        b'c' => come(w, a, Stage::Change),
+        b't' => {
+            w.set_field(a, LAST, b);
+            come(w, a, Stage::Take);
+        }
+        b'P' => w.set_field(a, b, c),
+        _ => {}
+    }
+}
+
+// Adds what a line says to a store and its table.
+pub fn add(w: &mut Words, line: &[u8]) {
+    if let Some(letter) = line.first() {
+        let numbers = [
+            number(line, 1),
+            number(line, 2),
+            number(line, 3),
+            number(line, 4),
+            number(line, 5),
+        ];
+        add_record(w, *letter, numbers);
+        add_holder(w, *letter, numbers[0], numbers[1]);
+        add_party(w, *letter, numbers);
+    }
 }

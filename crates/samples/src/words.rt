@@ -1,5 +1,7 @@
-// Words: a session table and a store as one run of words, and where each lies (docs/STORE.md). What lies outside is neither read nor written.
-ghost use Rattle.std.specs.Prelude.{◌≡◌};
+// Words: a session table and a store as one run of words, and where each lies (docs/STORE.md).
+//
+// A line may name any word by its numbers, one behind the store too. So table, store and what is behind them stay one array, in which places are counted
+// through; what lies outside is neither read nor written.
 
 // How many parties there are, and how many words a party has, the header, an entry and a record.
 pub const PARTIES: usize = 17;
@@ -15,8 +17,6 @@ const RECORD_WORDS: usize = 20;
 // The session table; then a store, with room for one of 4,097 records; and 10 words that no sample uses.
 pub const WORDS: usize = BEHIND + 10;
 
-pub type Words = [u32; WORDS];
-
 // Where the store begins, how many words it has at most, and where the words behind it begin.
 pub const STORE: usize = PARTIES * SESSION_WORDS;
 
@@ -29,62 +29,96 @@ const NO_ENTRY: usize = STORE + HEADER_WORDS - ENTRY_WORDS;
 
 const NO_RECORD: usize = STORE + HEADER_WORDS - RECORD_WORDS;
 
-pub fn wide(x: u32) -> usize
-    ensures { result ≡ x }
-{
-    x as usize
+// A party's record.
+pub type Row = [u32; SESSION_WORDS];
+
+#[derive(Drop)]
+pub struct Words {
+    words: [u32; WORDS],
 }
 
-pub fn get(w: &Words, at: usize) -> u32 {
-    if at < WORDS { w[at] } else { 0 }
-}
-
-pub fn put(w: &mut Words, at: usize, x: u32) {
-    if at < WORDS {
-        w[at] = x;
-    }
-}
-
-// Where field k of party p lies, word k of entry e, and word k of record i in a store of m entries.
+// Where word k of party p lies, and of entry e.
 pub fn party_place(p: u32, k: u32) -> usize {
-    SESSION_WORDS * wide(p) + wide(k)
+    SESSION_WORDS * p as usize + k as usize
 }
 
 pub fn entry_place(e: u32, k: u32) -> usize {
-    NO_ENTRY + ENTRY_WORDS * wide(e) + wide(k)
+    NO_ENTRY + ENTRY_WORDS * e as usize + k as usize
 }
 
-pub fn record_place(m: u32, i: u32, k: u32) -> usize {
-    NO_RECORD + ENTRY_WORDS * wide(m) + RECORD_WORDS * wide(i) + wide(k)
-}
-
-pub fn record_word(w: &Words, i: u32, k: u32) -> u32 {
-    get(w, record_place(get(w, STORE), i, k))
-}
-
-pub fn set_record(w: &mut Words, i: u32, k: u32, x: u32) {
-    let at = record_place(get(w, STORE), i, k);
-    put(w, at, x);
-}
-
-// How many words the store has: those its header speaks of, if nothing else is said.
-pub fn store_words(w: &Words, said: u32) -> u32 {
-    let m = wide(get(w, STORE));
-    let r = wide(get(w, STORE + 1));
-    let n = HEADER_WORDS + ENTRY_WORDS * m + RECORD_WORDS * r;
-    if said != 0 {
-        return said;
+impl Words {
+    // All words are 0.
+    pub fn new() -> Self {
+        Words { words: [0; WORDS] }
     }
-    if n < ROOM { n as u32 } else { ROOM as u32 }
+
+    pub fn get(&self, at: usize) -> u32 {
+        self.words.get(at).copied().unwrap_or(0)
+    }
+
+    pub fn set(&mut self, at: usize, x: u32) {
+        if at < WORDS {
+            self.words[at] = x;
+        }
+    }
+
+    // The word at this place becomes what f makes of it.
+    pub fn change<F: FnOnce(u32) -> u32>(&mut self, at: usize, f: F)
+        requires { F.IsAlwaysCallable f }
+    {
+        self.set(at, f(self.get(at)));
+    }
+
+    // Word k of the header.
+    pub fn header(&self, k: usize) -> u32 {
+        self.get(STORE + k % HEADER_WORDS)
+    }
+
+    // The record of a party.
+    pub fn row(&self, p: usize) -> Row {
+        let from = SESSION_WORDS * (p % PARTIES);
+        std::array::from_fn(|k| self.get(from + k % SESSION_WORDS))
+    }
+
+    pub fn set_field(&mut self, p: u32, k: u32, x: u32) {
+        self.set(party_place(p, k), x);
+    }
+
+    // Where word k of record i lies, by the header's number of entries.
+    pub fn record_place(&self, i: u32, k: u32) -> usize {
+        let entries = ENTRY_WORDS * self.header(0) as usize;
+        NO_RECORD + entries + RECORD_WORDS * i as usize + k as usize
+    }
+
+    pub fn record_word(&self, i: u32, k: u32) -> u32 {
+        self.get(self.record_place(i, k))
+    }
+
+    pub fn set_record(&mut self, i: u32, k: u32, x: u32) {
+        self.set(self.record_place(i, k), x);
+    }
+
+    // How many words the store has: so many, or those that its header speaks of where that is 0.
+    pub fn store_words(&self, said: u32) -> u32 {
+        if said != 0 {
+            return said;
+        }
+        let entries = ENTRY_WORDS * self.header(0) as usize;
+        let records = RECORD_WORDS * self.header(1) as usize;
+        (HEADER_WORDS + entries + records).min(ROOM) as u32
+    }
+
+    // A store of so many words; all words where there are not so many.
+    pub fn store(&self, words: u32) -> &[u32] {
+        let end = STORE + words as usize;
+        self.words.get(STORE..end).unwrap_or(&self.words)
+    }
 }
 
 // The bit of session p in a holders word.
 pub fn bit(p: u32) -> u32 {
-    if p < 1 {
+    if p == 0 {
         return 0;
     }
-    if 32 < p {
-        return 0;
-    }
-    1 << (p - 1)
+    1u32.checked_shl(p - 1).unwrap_or(0)
 }

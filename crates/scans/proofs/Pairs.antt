@@ -7,13 +7,13 @@ use native.Mathlib.Omega.{arith}
 use lib.Dec.{eqb, leb}
 use lib.ListN.{length, take, drop, get_or, set, take-append-drop, length-drop, length-append, drop_of_length-le}
 use lib.Seq.{take-suc, drop-cons, append_snoc, set_split, drop-set-lt, take-suc-set, drop-drop, length-take-le, take_at, drop_at, take_all}
-use borrow.Author.Tests.{eq-eqb, ne_eqb, le-leb, lt-leb, leb-true, leb-false}
+use borrow.Author.Tests.{eq-eqb, ne_eqb, le-leb, lt-leb}
 use borrow.Rule.Slice.PartMut.{put_mid}
-use Rattle.words.specs.Store.{HasRecord, word_of}
+use Rattle.words.specs.Store.{word_of}
 use Rattle.chain.specs.Walk.{Walk}
 use Rattle.scans.specs.Scans.{entries_in, raise, rising, pair_words, range_words, range_count, WalkRange, over, earlier, later, Settled, insert_pair, GroupWritten}
-use Rattle.scans.specs.Rising.{Least, Rising, raise-raise, raise-rising, length-raise, length-rising, length_pairs, length-range}
-use Rattle.scans.proofs.Turns.{Onward, walk-one, OnwardRange, range-one, none_in, more-in, none_of, past_of, more_of}
+use Rattle.scans.specs.Rising.{Least, Rising, raise-raise, raise-rising, length-raise, length-rising, length_pairs}
+use Rattle.scans.proofs.Turns.{Onward, walk-one, OnwardRange, range-one, none_in, more-in, more_of}
 
 -- ---- one pair put in
 

@@ -14,7 +14,22 @@ use Rattle.scans.specs.Scans.{last_upto, membership_of, entries_in, range_count,
 one_less : (k : ℕ) → 1 ≤ k → k ≡ suc (k - 1)
 one_less k h = omega arith
 
+pub all_turns : (r : ℕ) → r - 0 ≡ r
+all_turns r = omega arith
+
+pub one_turn : (r t : ℕ) → r - (t + 1) ≡ r - t - 1
+one_turn r t = omega arith
+
 -- ---- one record on
+
+-- a walk that may meet no more records is at its end
+pub walk-none : (s : List ℕ) (m n i : ℕ) → Walk s m n i → n ≡ 0 → i ≡ 0
+unfolding Walk
+walk-none s m n i w e = subst (λ (k : ℕ). Walk s m k i) e w
+
+pub range-none : (s : List ℕ) (m r n i : ℕ) → WalkRange s m r n i → n ≡ 0 → i ≡ 0
+unfolding WalkRange
+range-none s m r n i w e = subst (λ (k : ℕ). WalkRange s m r k i) e w
 
 -- the walk's record is there, and so is one more turn
 pub record Onward (s : List ℕ) (m n i : ℕ) : Type 0 where
@@ -55,52 +70,49 @@ members_of {s} {m} {r} on e = subst (λ (j : ℕ). Walk s m r j) (sym e) on.memb
 -- ---- the last descriptor
 
 -- what is left of the walk, done, gives the whole
-pub record Following (whole : ℕ) (s : List ℕ) (m at more next k : ℕ) : Type 0 where
+pub record Following (whole : ℕ) (s : List ℕ) (m at more k : ℕ) : Type 0 where
   pub has : HasRecord s m at
-  pub link : next ≡ word_of s m at 0
-  pub walk : Walk s m more next
+  pub walk : Walk s m more (word_of s m at 0)
   pub is : last_upto s m more at k ≡ whole
 
-pub follow-start : {s : List ℕ} {m r i next k : ℕ} → HasRecord s m i → next ≡ word_of s m i 0 → Walk s m r (word_of s m i 0)
-    → Following (last_upto s m r i k) s m i r next k
-follow-start {s} {m} {r} {i} {next} {k} has e w =
-    record { has = has; link = e; walk = subst (λ (j : ℕ). Walk s m r j) (sym e) w; is = refl }
+pub follow-over : {whole : ℕ} {s : List ℕ} {m at more k : ℕ} → Following whole s m at more k → more ≡ 0 → at ≡ whole
+unfolding last_upto
+follow-over {whole} {s} {m} {at} {more} {k} f e = ap (λ (n : ℕ). last_upto s m n at k) (sym e) ∙ f.is
 
-module _ {whole : ℕ} {s : List ℕ} {m at more next k : ℕ} (f : Following whole s m at more next k) where
+module _ {whole : ℕ} {s : List ℕ} {m at more k next : ℕ} (f : Following whole s m at more k) (link : next ≡ word_of s m at 0) where
   pub follow-end : next ≡ 0 → at ≡ whole
   unfolding last_upto
   follow-end e = sym (at-end more) ∙ f.is
     where
       at-end : (n : ℕ) → last_upto s m n at k ≡ at
       at-end zero = refl
-      at-end (suc n) = simp (eq-eqb (word_of s m at 0) 0 (sym f.link ∙ e))
+      at-end (suc n) = simp (eq-eqb (word_of s m at 0) 0 (sym link ∙ e))
+
+  pub follow-on : (next ≡ 0 → ⊥) → Onward s m more next
+  follow-on = walk-one more (subst (λ (j : ℕ). Walk s m more j) (sym link) f.walk)
 
   module _ (ne : next ≡ 0 → ⊥) {key : ℕ} (named : key ≡ word_of s m next 1) where
-    onward : Onward s m more next
-    onward = walk-one more f.walk ne
-
     some : more ≡ suc (more - 1)
-    some = one_less more onward.some
+    some = one_less more (follow-on ne).some
 
     there : eqb (word_of s m at 0) 0 ≡ false
-    there = ne_eqb (word_of s m at 0) 0 (λ z. ne (f.link ∙ z))
+    there = ne_eqb (word_of s m at 0) 0 (λ z. ne (link ∙ z))
 
     as-key : leb (word_of s m (word_of s m at 0) 1) k ≡ leb key k
-    as-key = ap (λ (j : ℕ). leb (word_of s m j 1) k) (sym f.link) ∙ ap (λ (x : ℕ). leb x k) (sym named)
+    as-key = ap (λ (j : ℕ). leb (word_of s m j 1) k) (sym link) ∙ ap (λ (x : ℕ). leb x k) (sym named)
 
     pub follow-stop : k < key → at ≡ whole
     unfolding last_upto
     follow-stop h = (simp (there, as-key ∙ lt-leb key k h) at (ap (λ (n : ℕ). last_upto s m n at k) (sym some))) ∙ f.is
 
-    pub follow-more : {next' : ℕ} → key ≤ k → next' ≡ word_of s m next 0 → Following whole s m next (more - 1) next' k
+    pub follow-more : key ≤ k → Following whole s m next (more - 1) k
     unfolding last_upto
-    follow-more {next'} h e =
+    follow-more h =
         record {
-          has = onward.has;
-          link = e;
-          walk = subst (λ (j : ℕ). Walk s m (more - 1) j) (sym e) onward.walk;
+          has = (follow-on ne).has;
+          walk = (follow-on ne).walk;
           is =
-              ap (λ (j : ℕ). last_upto s m (more - 1) j k) f.link
+              ap (λ (j : ℕ). last_upto s m (more - 1) j k) link
               ∙ (simp (there, as-key ∙ le-leb key k h) at (ap (λ (n : ℕ). last_upto s m n at k) (sym some)))
               ∙ f.is;
         }

@@ -17,32 +17,27 @@ pub fn last_upto(store: &[u32], m: usize, r: usize, i: usize, k: u32) -> usize
     ensures { result ≡ last_upto store.now m r i k }
 {
     let mut at = i;
-    let mut more = r;
-    let mut next = groups::descriptor_next(store, m, at) as usize;
-    while next != 0 {
-        if k < groups::descriptor_key(store, m, next) {
+    for _turn in 0..r {
+        let next = groups::descriptor_next(store, m, at) as usize;
+        if next == 0 || k < groups::descriptor_key(store, m, next) {
             return at;
         }
         at = next;
-        next = groups::descriptor_next(store, m, at) as usize;
-        more -= 1;
     }
     at
 }
 
-// The membership of entry e, from record i on; 0 for none.
+// The membership of entry e, from record i on; 0 for none, as a link of the chain and membership_of have it.
 pub fn find_member(store: &[u32], m: usize, r: usize, i: usize, e: u32) -> usize
     requires { Walk store.now m r i }
     ensures { result ≡ membership_of store.now m r i e }
 {
     let mut at = i;
-    let mut more = r;
-    while at != 0 {
-        if groups::membership_entry(store, m, at) == e {
+    for _turn in 0..r {
+        if at == 0 || groups::membership_entry(store, m, at) == e {
             return at;
         }
         at = groups::membership_next(store, m, at) as usize;
-        more -= 1;
     }
     0
 }
@@ -53,14 +48,13 @@ pub fn count_members(store: &[u32], m: usize, r: usize, i: usize) -> usize
     ensures { result ≡ length (entries_in store.now m r i) }
 {
     let mut at = i;
-    let mut more = r;
-    let mut n = 0;
-    while at != 0 {
+    for n in 0..r {
+        if at == 0 {
+            return n;
+        }
         at = groups::membership_next(store, m, at) as usize;
-        more -= 1;
-        n += 1;
     }
-    n
+    r
 }
 
 // How many members the descriptors have, from record i on, whose keys are at most hi.
@@ -69,16 +63,14 @@ pub fn count_range(store: &[u32], m: usize, r: usize, i: usize, hi: u32) -> usiz
     ensures { result ≡ range_count store.now m r r i hi }
 {
     let mut at = i;
-    let mut more = r;
     let mut n = 0;
-    while at != 0 {
-        if hi < groups::descriptor_key(store, m, at) {
+    for _turn in 0..r {
+        if at == 0 || hi < groups::descriptor_key(store, m, at) {
             return n;
         }
         let first = groups::descriptor_first(store, m, at) as usize;
         n += count_members(store, m, r, first);
         at = groups::descriptor_next(store, m, at) as usize;
-        more -= 1;
     }
     n
 }
@@ -104,16 +96,11 @@ fn insert_pair(list: &mut [u32], n: usize, key: u32, e: u32)
     ensures { list.new ≡ insert_pair n key e list.old }
 {
     let mut carry = e;
-    let mut i = 0;
-    while i < n {
-        let at = 2 * i + 1;
-        carry = settle(list, at, carry);
-        i += 1;
+    for i in 0..n {
+        carry = settle(list, 2 * i + 1, carry);
     }
-    let end = 2 * n;
-    list[end] = key;
-    let last = end + 1;
-    list[last] = carry;
+    list[2 * n] = key;
+    list[2 * n + 1] = carry;
 }
 
 // Writes the pairs of a group over the start of the list, the entries rising: how many pairs.
@@ -122,16 +109,15 @@ fn write_group(store: &[u32], list: &mut [u32], m: usize, r: usize, first: usize
     ensures { GroupWritten store.now m r first key list.old result list.new }
 {
     let mut at = first;
-    let mut more = r;
-    let mut n = 0;
-    while at != 0 {
+    for n in 0..r {
+        if at == 0 {
+            return n;
+        }
         let e = groups::membership_entry(store, m, at);
         insert_pair(list, n, key, e);
-        n += 1;
         at = groups::membership_next(store, m, at) as usize;
-        more -= 1;
     }
-    n
+    r
 }
 
 // Writes the pairs of the descriptors from record i on whose keys are at most hi over the start of the list.
@@ -140,9 +126,11 @@ pub fn write_pairs(store: &[u32], list: &mut [u32], m: usize, r: usize, i: usize
     ensures { list.new ≡ range_words store.now m r r i hi ++ drop (length (range_words store.now m r r i hi)) list.old }
 {
     let mut d = i;
-    let mut more = r;
     let mut at = 0;
-    while d != 0 {
+    for _turn in 0..r {
+        if d == 0 {
+            return;
+        }
         let key = groups::descriptor_key(store, m, d);
         if hi < key {
             return;
@@ -151,6 +139,5 @@ pub fn write_pairs(store: &[u32], list: &mut [u32], m: usize, r: usize, i: usize
         let n = write_group(store, &mut list[at..], m, r, first, key);
         at += 2 * n;
         d = groups::descriptor_next(store, m, d) as usize;
-        more -= 1;
     }
 }

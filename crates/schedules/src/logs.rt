@@ -1,55 +1,62 @@
-// Logs: the request in hand of each party, and what each session has finished since its begin: code and arguments of each request, and what it answered.
-ghost use Rattle.std.specs.Prelude.{◌<◌};
+// Logs: what a session has finished since its begin: each request, and what it answered.
+ghost use Rattle.std.specs.Prelude.{◌≤◌};
+ghost use Rattle.schedules.specs.declared.logs.TheConstants.{ROOM};
 
-use super::book::{Book, HANDS, LOGS, copy, get, put};
-use super::content::run;
-use super::side::PARTIES;
-use super::words::wide;
+use crate::content::Content;
+use crate::requests::{Code, Request};
 
-// The words of a hand: code, entry, first, second; whether its last step waited; how many requests the session has finished; whether it is begun, and
-// whether it is asked.
-pub const WAITED: usize = 4;
+// How many requests there is room for; where there is none left, a log begins anew.
+pub const ROOM: usize = 200;
 
-pub const FINISHED: usize = 5;
-
-pub const BEGUN: usize = 6;
-
-pub const ASKED: usize = 7;
-
-// Where the hand of a party stands.
-pub fn hand(p: u32) -> usize
-    ensures { result < 1000 }
-{
-    HANDS + 8 * wide(p % PARTIES)
+#[derive(Clone, Copy)]
+struct Finished {
+    request: Request,
+    answer: u32,
 }
 
-// Where request i of session p stands: code, entry, first, second and what it answered. There is room for 200.
-fn logged(p: u32, i: u32) -> usize
-    ensures { result < 100000 }
-{
-    LOGS + 1000 * wide(p % PARTIES) + 5 * wide(i % 200)
+// It has room for a fixed number of requests, since a run has no heap.
+#[derive(Clone, Copy)]
+pub struct Log {
+    finished: [Finished; ROOM],
+    len: usize,
+    ghost fits: { len ≤ ROOM },
 }
 
-// The request in hand is finished, and this is what it answered.
-pub fn add(b: &mut Book, p: u32, answer: u32) {
-    let from = hand(p);
-    let n = get(b, from + FINISHED);
-    let to = logged(p, n);
-    copy(b, from, to, 4);
-    put(b, to + 4, answer);
-    put(b, from + FINISHED, n % 200 + 1);
-}
-
-// Runs what session p has finished, in turn; the number of the first request that answers something else, from 1, or 0.
-pub fn replay(b: &mut Book, p: u32) -> u32 {
-    let n = get(b, hand(p) + FINISHED);
-    let mut i = 0;
-    while i < n {
-        let at = logged(p, i);
-        i += 1;
-        if run(b, at) != get(b, at + 4) {
-            return i;
+impl Log {
+    pub fn new() -> Self {
+        let nothing = Finished {
+            request: Request::new(Code::Read, 0, 0, 0),
+            answer: 0,
+        };
+        Log {
+            finished: [nothing; ROOM],
+            len: 0,
         }
     }
-    0
+
+    // How many requests there are.
+    pub fn len(&self) -> usize {
+        self.len
+    }
+
+    pub fn clear(&mut self) {
+        self.len = 0;
+    }
+
+    // The request is finished, and this is what it answered.
+    pub fn push(&mut self, request: Request, answer: u32) {
+        if self.len == ROOM {
+            self.len = 0;
+        }
+        self.finished[self.len] = Finished { request, answer };
+        self.len += 1;
+    }
+
+    // Runs what is finished, in turn; the number, from 1, of the first request that answers something else.
+    pub fn replay(&self, content: &mut Content) -> Option<usize> {
+        let wrong = self.finished[..self.len]
+            .iter()
+            .position(|f| content.run(f.request) != f.answer)?;
+        Some(wrong + 1)
+    }
 }

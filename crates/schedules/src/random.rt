@@ -1,8 +1,6 @@
-// Random: Marsaglia's xorshift of 32 bits. The state is word 0 of the book.
-use super::book::Book;
-use std::num::wrapping_add_u32;
+// Random: Marsaglia's xorshift of 32 bits.
 
-pub fn mixed(x: u32) -> u32 {
+fn mixed(x: u32) -> u32 {
     let a = x ^ (x << 13);
     let b = a ^ (a >> 17);
     b ^ (b << 5)
@@ -10,25 +8,33 @@ pub fn mixed(x: u32) -> u32 {
 
 // A number with one more word mixed in.
 pub fn with_word(x: u32, w: u32) -> u32 {
-    mixed(wrapping_add_u32(mixed(wrapping_add_u32(x, 2654435769)), w))
+    mixed(mixed(x.wrapping_add(2654435769)).wrapping_add(w))
 }
 
-pub fn random(b: &mut Book) -> u32 {
-    let x = mixed(b[0]);
-    b[0] = x;
-    x
+// The random numbers of a run, each drawn in turn.
+#[derive(Clone, Copy)]
+pub struct Random {
+    state: u32,
 }
 
-// 0 to n - 1, or 0 where n is 0.
-pub fn below(b: &mut Book, n: u32) -> u32 {
-    let x = random(b);
-    if n == 0 {
-        return 0;
+impl Random {
+    pub fn new(seed: u32) -> Self {
+        Random { state: seed }
     }
-    (x >> 5) % n
-}
 
-// True k times of n.
-pub fn chance(b: &mut Book, k: u32, n: u32) -> bool {
-    below(b, n) < k
+    // Any word.
+    pub fn word(&mut self) -> u32 {
+        self.state = mixed(self.state);
+        self.state
+    }
+
+    // 0 to n - 1, or 0 where n is 0.
+    pub fn below(&mut self, n: u32) -> u32 {
+        (self.word() >> 5).checked_rem(n).unwrap_or(0)
+    }
+
+    // True k times of n.
+    pub fn chance(&mut self, k: u32, n: u32) -> bool {
+        self.below(n) < k
+    }
 }

@@ -1,11 +1,9 @@
-// Side: a session table and a store as one run of words, and behind them, as many words again, a copy. What lies outside is neither read nor written.
-
-ghost use Rattle.std.specs.Prelude.{◌<◌};
+// Side: a session table and the store behind it, as the words that calls are lent.
 
 // How many parties there are, and how many sessions among them.
-pub const PARTIES: u32 = 17;
+pub const PARTIES: usize = 17;
 
-pub const SESSIONS: u32 = PARTIES - 1;
+pub const SESSIONS: u32 = PARTIES as u32 - 1;
 
 // How many words a party has, the header, an entry and a record.
 pub const SESSION_WORDS: usize = 15;
@@ -16,82 +14,100 @@ pub const ENTRY_WORDS: usize = 3;
 
 pub const RECORD_WORDS: usize = 20;
 
-// The word of a party that is its number in the order of begins, and the one that is not 0 where it is asked.
-pub const ORDER: usize = 13;
+// The words of a party: the one that is not 0 where it is begun, its number in the order of begins, and the one that is not 0 where it is asked.
+const BEGUN: usize = 0;
 
-pub const ASKED: usize = 14;
+const ORDER: usize = 13;
 
-// The words of the session table; behind it lies the store.
-pub const TABLE: usize = PARTIES as usize * SESSION_WORDS;
+const ASKED: usize = 14;
 
-// The words of the largest store, of 32 entries and 700 records; and with 19 words more, that make no record.
+// The words of the session table.
+pub const TABLE: usize = PARTIES * SESSION_WORDS;
+
+// The words of the largest store, of 32 entries and 700 records. A store is lent up to 19 words more, that make no record.
 pub const LARGEST: usize = HEADER_WORDS + ENTRY_WORDS * 32 + RECORD_WORDS * 700;
 
-pub const STORE: usize = LARGEST + 19;
+// The store, and some words more that no call is lent.
+const ROOM: usize = LARGEST + 64;
 
-// Table and store, and some words more that no call is lent.
-pub const SIDE: usize = TABLE + STORE + 45;
+// A party's record.
+pub type Row = [u32; SESSION_WORDS];
 
-pub const SIDES: usize = 2 * SIDE;
-
-pub type Side = [u32; SIDES];
-
-pub fn word(s: &Side, at: usize) -> u32 {
-    if at < SIDES { s[at] } else { 0 }
+#[derive(Clone, Copy, PartialEq, Eq)]
+pub struct Side {
+    pub table: [Row; PARTIES],
+    pub store: [u32; ROOM],
 }
 
-pub fn set_word(s: &mut Side, at: usize, x: u32) {
-    if at < SIDES {
-        s[at] = x;
-    }
-}
-
-// Copies table and store from one place to another: from 0 to SIDE makes the copy, and back takes everything from it.
-pub fn copy(s: &mut Side, from: usize, to: usize)
-    requires { (from < 100000) × (to < 100000) }
-{
-    let mut k = 0;
-    while k < SIDE {
-        let x = word(s, from + k);
-        set_word(s, to + k, x);
-        k += 1;
-    }
-}
-
-// Is every word from this place on the copy's?
-pub fn is_kept(s: &Side, from: usize) -> bool {
-    let mut x = 0u32;
-    let mut i = from;
-    while i < SIDE {
-        x = x | (word(s, i) ^ word(s, i + SIDE));
-        i += 1;
-    }
-    x == 0
-}
-
-// Is every word the copy's, but the one at this place?
-pub fn is_kept_but(s: &Side, at: usize) -> bool {
-    let mut x = 0u32;
-    let mut i = 0;
-    while i < SIDE {
-        if i != at {
-            x = x | (word(s, i) ^ word(s, i + SIDE));
+impl Side {
+    // All words are 0.
+    pub fn new() -> Self {
+        Side {
+            table: [[0; SESSION_WORDS]; PARTIES],
+            store: [0; ROOM],
         }
-        i += 1;
     }
-    x == 0
-}
 
-// Is every word of the table the copy's that belongs to a party which is asked in the copy?
-pub fn are_asked_kept(s: &Side) -> bool {
-    let mut x = 0u32;
-    let mut i = 0;
-    while i < TABLE {
-        let p = i / SESSION_WORDS;
-        if word(s, SIDE + SESSION_WORDS * p + ASKED) != 0 {
-            x = x | (word(s, i) ^ word(s, i + SIDE));
-        }
-        i += 1;
+    // Is session p begun?
+    pub fn is_begun(&self, p: u32) -> bool {
+        p != 0 && self.party_word(p, BEGUN) != 0
     }
-    x == 0
+
+    // The number of party p in the order of begins.
+    pub fn order(&self, p: u32) -> u32 {
+        self.party_word(p, ORDER)
+    }
+
+    pub fn set_order(&mut self, p: u32, x: u32) {
+        self.table[p as usize % PARTIES][ORDER] = x;
+    }
+
+    // The mark of party p, which is not 0 where it is asked.
+    pub fn set_mark(&mut self, p: u32, x: u32) {
+        self.table[p as usize % PARTIES][ASKED] = x;
+    }
+
+    pub fn is_asked(&self, p: u32) -> bool {
+        self.party_word(p, ASKED) != 0
+    }
+
+    fn party_word(&self, p: u32, k: usize) -> u32 {
+        self.table[p as usize % PARTIES][k % SESSION_WORDS]
+    }
+
+    // The word at a place, counted through the table and on through the store. There is none outside.
+    pub fn word(&self, at: usize) -> u32 {
+        if at < TABLE {
+            return self.table[at / SESSION_WORDS][at % SESSION_WORDS];
+        }
+        self.store.get(at - TABLE).copied().unwrap_or(0)
+    }
+
+    pub fn set_word(&mut self, at: usize, x: u32) {
+        if at < TABLE {
+            self.table[at / SESSION_WORDS][at % SESSION_WORDS] = x;
+        } else if at - TABLE < ROOM {
+            self.store[at - TABLE] = x;
+        }
+    }
+
+    // Is every word of the store the old one's, from this one on?
+    pub fn is_kept_from(&self, old: &Side, at: usize) -> bool {
+        self.store.get(at..) == old.store.get(at..)
+    }
+
+    // Is every word the old one's, but the mark of party p?
+    pub fn is_kept_but_mark(&self, old: &Side, p: u32) -> bool {
+        let mut marked = *old;
+        marked.set_mark(p, self.party_word(p, ASKED));
+        *self == marked
+    }
+
+    // Is the record of each party the old one's that was asked before?
+    pub fn are_asked_kept(&self, old: &Side) -> bool {
+        self.table
+            .iter()
+            .zip(old.table.iter())
+            .all(|(row, before)| before[ASKED] == 0 || row == before)
+    }
 }

@@ -2,190 +2,159 @@
 //
 // Blanks (spaces, tabs, returns) part the words of a line. The first word is one byte, each other one a number in digits, of at most 32 bits. A # ends the
 // words wherever it stands, also inside one: it and the rest of the line are a comment.
+ghost use Rattle.std.specs.Prelude.{◌≡◌, Ok, None, IsErr};
+ghost use Rattle.scripts.specs.declared.lines.Place.TheVariants.{Comment};
+ghost use Rattle.scripts.specs.declared.lines.Words.TheVariants.{Nothing};
 
-pub const NUMBERS: usize = 3;
+// What a line asks for. The party comes first; a recover has none.
+#[derive(Clone, Copy, PartialEq, Eq, Debug)]
+pub enum Command {
+    Begin { party: u32 },
+    Read { party: u32, entry: u32 },
+    Write { party: u32, entry: u32, value: u32 },
+    Insert { party: u32, entry: u32, key: u32 },
+    Remove { party: u32, entry: u32, key: u32 },
+    Locate { party: u32, first: u32, second: u32 },
+    Tidy { party: u32, first: u32 },
+    Step { party: u32 },
+    // Steps until the answer is not more.
+    Go { party: u32 },
+    Commit { party: u32 },
+    Abort { party: u32 },
+    Ask { party: u32 },
+    Recover,
+}
 
-#[derive(Clone, Copy)]
+// A line that is no command.
+#[derive(Clone, Copy, PartialEq, Eq, Debug)]
+pub struct Malformed;
+
+// The words that have begun: the letter, and the numbers.
+#[derive(Clone, Copy, PartialEq, Eq, Debug)]
+pub enum Words {
+    Nothing,
+    Letter(u8),
+    One(u8, u32),
+    Two(u8, u32, u32),
+    Three(u8, u32, u32, u32),
+}
+
+// Where the last byte of a line stands.
+#[derive(Clone, Copy, PartialEq, Eq, Debug)]
+pub enum Place {
+    Blank,
+    Word,
+    Comment,
+}
+
+#[derive(Clone, Copy, PartialEq, Eq, Debug)]
 pub struct Line {
-    // How many words have begun: the letter and the numbers.
-    pub words: usize,
-    // The last byte was part of a word.
-    pub is_inside: bool,
-    // Some word is not of the form above, or is one too many.
-    pub is_broken: bool,
-    // A comment has begun.
-    pub is_comment: bool,
-    pub letter: u8,
-    pub numbers: [u32; NUMBERS],
+    // An error where some word is not of the form above, or is one too many.
+    pub words: Result<Words, Malformed>,
+    pub place: Place,
 }
 
-fn is_blank(b: u8) -> bool {
-    b == b' ' || b == b'\t' || b == b'\r'
-}
-
-fn is_digit(b: u8) -> bool {
-    b'0' <= b && b <= b'9'
-}
-
-// What a digit is worth.
-fn worth(b: u8) -> u32 {
-    if b < b'0' {
-        return 0;
+fn digit(byte: u8) -> Result<u32, Malformed> {
+    match byte {
+        b'0'..=b'9' => Ok(u32::from(byte - b'0')),
+        _ => Err(Malformed),
     }
-    (b - b'0') as u32
 }
 
-// x with one more digit, above 32 bits where it is too large.
-fn with_digit(x: u32, d: u32) -> u64 {
-    10 * (x as u64) + (d as u64)
+// A number with one more digit.
+fn appended(number: u32, byte: u8) -> Result<u32, Malformed> {
+    let digit = digit(byte)?;
+    let tens = number.checked_mul(10).ok_or(Malformed)?;
+    tens.checked_add(digit).ok_or(Malformed)
 }
 
-fn low(x: u64) -> u32 {
-    if x < 4294967296 {
-        return x as u32;
+impl Words {
+    // The words with a byte that begins another one.
+    fn begin(self, byte: u8) -> Result<Words, Malformed> {
+        match self {
+            Words::Nothing => Ok(Words::Letter(byte)),
+            Words::Letter(letter) => Ok(Words::One(letter, digit(byte)?)),
+            Words::One(letter, a) => Ok(Words::Two(letter, a, digit(byte)?)),
+            Words::Two(letter, a, b) => Ok(Words::Three(letter, a, b, digit(byte)?)),
+            Words::Three(..) => Err(Malformed),
+        }
     }
-    0
+
+    // The words with one more byte of the last one.
+    fn go_on(self, byte: u8) -> Result<Words, Malformed> {
+        match self {
+            Words::Nothing | Words::Letter(_) => Err(Malformed),
+            Words::One(letter, a) => Ok(Words::One(letter, appended(a, byte)?)),
+            Words::Two(letter, a, b) => Ok(Words::Two(letter, a, appended(b, byte)?)),
+            Words::Three(letter, a, b, c) => Ok(Words::Three(letter, a, b, appended(c, byte)?)),
+        }
+    }
+
+    // The command that these words are, none if there are none.
+    fn command(self) -> Result<Option<Command>, Malformed>
+        ensures { self ≡ Nothing → result ≡ Ok None }
+    {
+        Ok(Some(match self {
+            Words::Nothing => return Ok(None),
+            Words::Letter(b'v') => Command::Recover,
+            Words::One(b'b', party) => Command::Begin { party },
+            Words::One(b's', party) => Command::Step { party },
+            Words::One(b'g', party) => Command::Go { party },
+            Words::One(b'c', party) => Command::Commit { party },
+            Words::One(b'a', party) => Command::Abort { party },
+            Words::One(b'k', party) => Command::Ask { party },
+            Words::Two(b'r', party, entry) => Command::Read { party, entry },
+            Words::Two(b't', party, first) => Command::Tidy { party, first },
+            Words::Three(b'w', party, entry, value) => Command::Write {
+                party,
+                entry,
+                value,
+            },
+            Words::Three(b'i', party, entry, key) => Command::Insert { party, entry, key },
+            Words::Three(b'd', party, entry, key) => Command::Remove { party, entry, key },
+            Words::Three(b'l', party, first, second) => Command::Locate {
+                party,
+                first,
+                second,
+            },
+            _ => return Err(Malformed),
+        }))
+    }
 }
 
 impl Line {
-    pub fn new() -> Self {
+    pub fn new() -> Self
+        ensures { result.words ≡ Ok Nothing }
+    {
         Line {
-            words: 0,
-            is_inside: false,
-            is_broken: false,
-            is_comment: false,
-            letter: 0,
-            numbers: [0; NUMBERS],
+            words: Ok(Words::Nothing),
+            place: Place::Blank,
         }
     }
 
-    fn broken(mut self) -> Self {
-        self.is_broken = true;
-        self
-    }
-
-    fn with_blank(mut self) -> Self {
-        self.is_inside = false;
-        self
-    }
-
-    fn with_comment(mut self) -> Self {
-        self.is_comment = true;
-        self
-    }
-
-    fn with_letter(mut self, b: u8) -> Self {
-        self.words = 1;
-        self.is_inside = true;
-        self.letter = b;
-        self
-    }
-
-    // Number i with a digit more.
-    fn with_number(mut self, i: usize, b: u8) -> Self {
-        if i < NUMBERS {
-            let x = with_digit(self.numbers[i], worth(b));
-            if x < 4294967296 {
-                self.numbers[i] = low(x);
-                return self;
+    // Takes one more byte of the line. Behind a # it changes nothing, and a line that is malformed stays so.
+    pub fn push(&mut self, byte: u8)
+        ensures comment { self.old.place ≡ Comment → self.new ≡ self.old }
+        ensures malformed { IsErr self.old.words → IsErr self.new.words }
+        ensures hash { byte ≡ 35 → (self.new.words ≡ self.old.words) × (self.new.place ≡ Comment) }
+    {
+        match (self.place, byte) {
+            (Place::Comment, _) => {}
+            (_, b'#') => self.place = Place::Comment,
+            (_, b' ' | b'\t' | b'\r') => self.place = Place::Blank,
+            (Place::Blank, _) => {
+                self.place = Place::Word;
+                self.words = self.words.and_then(|words| words.begin(byte));
             }
-        }
-        self.broken()
-    }
-
-    // A byte that begins a word after so many.
-    fn begins(mut self, words: usize, b: u8) -> Self {
-        if words == 0 {
-            return self.with_letter(b);
-        }
-        if words <= NUMBERS && is_digit(b) {
-            self.words = words + 1;
-            self.is_inside = true;
-            return self.with_number(words - 1, b);
-        }
-        self.broken()
-    }
-
-    // A byte that goes on with the word that is the last of so many.
-    fn goes_on(self, words: usize, b: u8) -> Self {
-        if 2 <= words && is_digit(b) {
-            return self.with_number(words - 2, b);
-        }
-        self.broken()
-    }
-
-    // The line with one more byte of its words.
-    fn with_part(self, b: u8) -> Self {
-        if is_blank(b) {
-            return self.with_blank();
-        }
-        if self.is_inside {
-            return self.goes_on(self.words, b);
-        }
-        self.begins(self.words, b)
-    }
-
-    // The line with one more byte.
-    pub fn with_byte(self, b: u8) -> Self {
-        if self.is_comment {
-            return self;
-        }
-        if b == b'#' {
-            return self.with_comment();
-        }
-        self.with_part(b)
-    }
-}
-
-// How many words the command with this letter has, 0 for none.
-pub fn words_of(letter: u8) -> usize {
-    match letter {
-        b'v' => {
-            return 1;
-        }
-        b'b' | b's' | b'g' | b'c' | b'a' | b'k' => {
-            return 2;
-        }
-        b'r' | b't' => {
-            return 3;
-        }
-        b'w' | b'i' | b'd' | b'l' => {
-            return 4;
-        }
-        _ => {
-            return 0;
+            (Place::Word, _) => self.words = self.words.and_then(|words| words.go_on(byte)),
         }
     }
-}
 
-// The code of the request with this letter, 0 for none.
-pub fn code_of(letter: u8) -> u32 {
-    match letter {
-        b'r' => {
-            return 1;
-        }
-        b'w' => {
-            return 2;
-        }
-        b'i' => {
-            return 3;
-        }
-        b'd' => {
-            return 4;
-        }
-        b'l' => {
-            return 5;
-        }
-        b't' => {
-            return 6;
-        }
-        _ => {
-            return 0;
-        }
+    // The command of the whole line, none if it is blank or only a comment.
+    pub fn command(self) -> Result<Option<Command>, Malformed>
+        ensures malformed { IsErr self.words → IsErr result }
+        ensures blank { self.words ≡ Ok Nothing → result ≡ Ok None }
+    {
+        self.words?.command()
     }
-}
-
-// A line of at least one word is a command.
-pub fn is_command(x: Line) -> bool {
-    !x.is_broken && words_of(x.letter) == x.words
 }

@@ -8,96 +8,41 @@
 ghost use Rattle.std.specs.Prelude.{◌≡◌};
 ghost use Rattle.sessions.specs.Sessions.{session_at};
 
-use outcomes::{Answer, DayAnswer, DayServed, Made, Ran, Served};
-use sessions::Session;
+use outcomes::{Answer, DayAnswer, Made, Refusal};
+use sessions::{PARTIES, Session};
 
-// What a call leaves: its party, the party's record, and the answer.
+// What a call leaves: its party, the party's record, and the answer; of a run with how many steps were made, of a day call with the next place.
 #[derive(Clone, Copy)]
-pub struct Seat {
+pub struct Seat<A> {
     pub party: u32,
     pub session: Session,
-    pub answer: Answer,
+    pub answer: A,
 }
 
-// The record of party p out of what a call gave back, with the call's answer.
-pub fn seat_of(served: Served, p: u32) -> Seat
-    ensures { result ≡ record { party = p; session = session_at served.table p; answer = served.answer } }
+// The record of party p out of the table that a call gave back, with the call's answer.
+pub fn seat_of<A>(table: [Session; PARTIES], p: u32, answer: A) -> Seat<A>
+    ensures { result ≡ record { party = p; session = session_at table p; answer = answer } }
 {
-    let t = served.table;
-    let answer = served.answer;
-    let session = refusals::seat(t, p);
     Seat {
         party: p,
-        session: session,
-        answer: answer,
+        session: refusals::seat(table, p),
+        answer,
     }
 }
 
-// What a run leaves: its party, the party's record, the last answer and how many steps were made.
-#[derive(Clone, Copy)]
-pub struct Stint {
-    pub party: u32,
-    pub session: Session,
-    pub made: Made,
-}
-
-// The record of party p out of what a run gave back, with its answer and its steps.
-pub fn stint_of(ran: Ran, p: u32) -> Stint
-    ensures { result ≡ record { party = p; session = session_at ran.table p; made = record { answer = ran.answer; steps = ran.steps } } }
-{
-    let u = ran.table;
-    let answer = ran.answer;
-    let session = refusals::seat(u, p);
-    let made = Made {
-        answer: answer,
-        steps: ran.steps,
-    };
-    Stint {
-        party: p,
-        session: session,
-        made: made,
-    }
-}
-
-// What a day call leaves: its party, the party's record, and the answer with the next place.
-#[derive(Clone, Copy)]
-pub struct DaySeat {
-    pub party: u32,
-    pub session: Session,
-    pub answer: DayAnswer,
-}
-
-// The record of party p out of what a day call gave back, with the call's answer.
-pub fn day_seat_of(served: DayServed, p: u32) -> DaySeat
-    ensures { result ≡ record { party = p; session = session_at served.table p; answer = served.answer } }
-{
-    let v = served.table;
-    let answer = served.answer;
-    let session = refusals::seat(v, p);
-    DaySeat {
-        party: p,
-        session: session,
-        answer: answer,
-    }
-}
-
-// The number of the refusal of a table that is not of 17 records.
-const WRONG_TABLE: u32 = 1;
-
-// The answer to such a table.
+// The answer to a table that is not of 17 records.
 pub fn wrong_table() -> Answer
     ensures { result ≡ Answer.Refused 1 0 }
 {
-    Answer::Refused(WRONG_TABLE, 0)
+    Answer::from(Refusal::Table)
 }
 
 // The same where steps are told with it: none.
 pub fn wrong_table_made() -> Made
     ensures { result ≡ record { answer = Answer.Refused 1 0; steps = 0 } }
 {
-    let answer = wrong_table();
     Made {
-        answer: answer,
+        answer: wrong_table(),
         steps: 0,
     }
 }
@@ -106,5 +51,5 @@ pub fn wrong_table_made() -> Made
 pub fn wrong_table_day() -> DayAnswer
     ensures { result ≡ DayAnswer.Refused 1 0 }
 {
-    DayAnswer::Refused(WRONG_TABLE, 0)
+    DayAnswer::from(Refusal::Table)
 }

@@ -1,54 +1,43 @@
 -- The turns of the loops over the sessions.
-use mathlib.Core.Path.{◌≡◌, refl, sym, ap, ◌∙◌}
+use mathlib.Core.Path.{◌≡◌, refl, sym, ap, ap₂, ◌∙◌}
 use mathlib.Core.List.{List, [], ◌∷◌}
-use mathlib.Core.Bool.{Bool, true, false, cond, not, ◌&&◌}
-use mathlib.Core.Logic.{◌⊎◌, inl, inr}
+use mathlib.Core.Bool.{Bool, true, false, cond, not, ◌&&◌, ◌||◌}
 use Prim.Native.Nat.{ℕ, zero, suc, ◌+◌, ◌-◌, ◌≤◌, ◌<◌}
 use native.Mathlib.Omega.{arith}
+use native.Mathlib.Numerals.{add-one}
 use lib.Dec.{eqb, ltb}
-use lib.ListN.{length, set}
+use lib.ListN.{length, set, take, drop, drop_of_length-le, length-drop}
+use lib.Seq.{drop-cons, take_all}
+use Rattle.std.specs.List.{filter, list_any, list_all, range_with_len}
 use borrow.Author.Tests.{eqb-true, eqb-false, eq-eqb, ne_eqb, lt-ltb, le-ltb}
 use Rattle.locks.specs.Holders.{width, word_bits, left_by, holders, first_of}
 use Rattle.locks.specs.Bits.{left_le}
 use Rattle.locks.specs.Blockers.{none-holds}
 use Rattle.sessions.specs.declared.Session.{Session}
-use Rattle.sessions.specs.Sessions.{session_at, is_begun}
+use Rattle.sessions.specs.Sessions.{parties, idle_session, session_at, is_begun}
 use Rattle.seniority.specs.Seniority.{many_from, earlier_in, ranked_in, but_first, renumbered_in, is_numbered, shared_from, distinct_from, elder_of, eldest_from, eldest_of, eldest_in, best_of}
-use Rattle.seniority.specs.Laws.{earlier-few, renumbered-many, renumbered-at}
+use Rattle.seniority.specs.Laws.{many, many-sessions, earlier-few, renumbered-many, renumbered-at}
 use Rattle.seniority.proofs.Walk.{First, first-is, none_within, first-within}
 
-one_less : (k : ℕ) → 0 < k → k ≡ suc (k - 1)
-one_less k h = omega arith
+-- the slice of the records from p on
+pub behind : (t : List Session) (p n : ℕ) → p + n ≡ length t → take n (drop p t) ≡ drop p t
+behind t p n e = take_all n (drop p t) (omega (arith, length-drop p t, e))
 
 -- ---- how many
 
--- so many before p, and those from p on, are the whole
-pub record Counting (whole : ℕ) (f : Session → Bool) (t : List Session) (k p rest : ℕ) : Type 0 where
-  pub is : k + many_from f t p rest ≡ whole
+many-filter : (f : Session → Bool) (t : List Session) → length (filter f t) ≡ many f t
+unfolding many
+many-filter f [] = refl
+many-filter f (x ∷ t) = go (f x) (many-filter f t)
+  where
+    go : (b : Bool) → length (filter f t) ≡ many f t → length (cond b (x ∷ filter f t) (filter f t)) ≡ cond b (suc (many f t)) (many f t)
+    go true h = ap suc h
+    go false h = h
 
-module _ {whole : ℕ} {f : Session → Bool} {t : List Session} {k p rest : ℕ} (g : Counting whole f t k p rest) where
-  pub count-more : {k' rest' : ℕ} {b : Bool} → 0 < rest → b ≡ f (session_at t p) → k' ≡ cond b (suc k) k → rest' ≡ rest - 1 → Counting whole f t k' (p + 1) rest'
-  unfolding many_from
-  count-more {k'} {rest'} {b} h eb e z =
-      record {
-        is = ap (λ (n : ℕ). k' + many_from f t (p + 1) n) z
-            ∙ go (f (session_at t p)) (e ∙ ap (λ (u : Bool). cond u (suc k) k) eb) (ap (many_from f t p) (one_less rest h));
-      }
-    where
-      m : ℕ
-      m = many_from f t (p + 1) (rest - 1)
-
-      go : (u : Bool) → k' ≡ cond u (suc k) k → many_from f t p rest ≡ cond u (suc m) m → k' + m ≡ whole
-      go true a q = omega (arith, a, q, g.is)
-      go false a q = omega (arith, a, q, g.is)
-
-  pub one_more : {k' : ℕ} (b : Bool) → k' ≡ cond b (suc k) k → k < p → k' < p + 1
-  one_more true e h = omega (arith, e, h)
-  one_more false e h = omega (arith, e, h)
-
-  pub count-end : rest ≡ 0 → k ≡ whole
-  unfolding many_from
-  count-end e = let q : many_from f t p rest ≡ 0 = ap (many_from f t p) e in omega (arith, q, g.is)
+-- the records behind the first that have a property
+pub many_kept : (f : Session → Bool) (t : List Session) → length t ≡ suc width → length (filter f (drop 1 t)) ≡ many_from f t 1 width
+many_kept f [] e = absurd (omega (arith, e))
+many_kept f (x ∷ t) e = many-filter f t ∙ sym (many-sessions f x t (omega (arith, e)))
 
 pub earlier-le : (t : List Session) (n : ℕ) {k : ℕ} → k ≡ earlier_in t n → k ≤ width
 earlier-le t n e = omega (arith, e, earlier-few t n)
@@ -104,55 +93,22 @@ rank-end {t} g e = g.is ∙ ap (λ (j : ℕ). mixed j (renumbered_in t) t) e ∙
 
 -- ---- no two share a number
 
--- what is left of the sessions says what the whole says
-pub record Sharing (whole : Bool) (t : List Session) (n p rest : ℕ) : Type 0 where
-  pub is : shared_from t n p rest ≡ whole
+pub any-shared : (t : List Session) (n p k : ℕ) → p + k ≡ length t → list_any (is_numbered n) (drop p t) ≡ shared_from t n p k
+unfolding shared_from
+any-shared t n p zero e = ap (list_any (is_numbered n)) (drop_of_length-le t {i = p} (omega (arith, e)))
+any-shared t n p (suc k) e =
+    ap (list_any (is_numbered n)) (drop-cons t p idle_session (omega (arith, e)))
+    ∙ ap (λ (b : Bool). is_numbered n (session_at t p) || b) (ap (λ (j : ℕ). list_any (is_numbered n) (drop j t)) (sym (add-one p)) ∙ any-shared t n (p + 1) k (omega (arith, e)))
 
-module _ {whole : Bool} {t : List Session} {n p rest : ℕ} (g : Sharing whole t n p rest) where
-  pub share-found : {b : Bool} → 0 < rest → b ≡ is_numbered n (session_at t p) → b ≡ true → true ≡ whole
-  unfolding shared_from
-  share-found h e o = (simp (sym e ∙ o) at (ap (shared_from t n p) (sym (one_less rest h)))) ∙ g.is
+-- session p is begun, and a later one has its number
+abbrev pub clashes : List Session → ℕ → Bool
+clashes t p = is_begun (session_at t p) && shared_from t (session_at t p).order (p + 1) (parties - (p + 1))
 
-  pub share-more : {b : Bool} {rest' : ℕ} → 0 < rest → b ≡ is_numbered n (session_at t p) → b ≡ false → rest' ≡ rest - 1 → Sharing whole t n (p + 1) rest'
-  unfolding shared_from
-  share-more h e o z =
-      record { is = ap (shared_from t n (p + 1)) z ∙ ((simp (sym e ∙ o) at (ap (shared_from t n p) (sym (one_less rest h)))) ∙ g.is) }
-
-  pub share-end : rest ≡ 0 → false ≡ whole
-  unfolding shared_from
-  share-end e = ap (shared_from t n p) (sym e) ∙ g.is
-
-pub record Differing (whole : Bool) (t : List Session) (p rest : ℕ) : Type 0 where
-  pub is : distinct_from t p rest ≡ whole
-
-module _ {whole : Bool} {t : List Session} {p rest : ℕ} (g : Differing whole t p rest) (h : 0 < rest) where
-  -- by the next session
-  differs : not (is_begun (session_at t p) && shared_from t (session_at t p).order (p + 1) (rest - 1)) && distinct_from t (p + 1) (rest - 1) ≡ whole
-  unfolding distinct_from
-  differs = ap (distinct_from t p) (sym (one_less rest h)) ∙ g.is
-
-  pub differ-bad : {b s : Bool} {k : ℕ} → b ≡ is_begun (session_at t p) → b ≡ true → s ≡ shared_from t (session_at t p).order (p + 1) k → s ≡ true → k ≡ rest - 1 → false ≡ whole
-  differ-bad {b} {s} {k} eb ob es os z = go (is_begun (session_at t p)) (shared_from t (session_at t p).order (p + 1) (rest - 1)) (sym eb ∙ ob) (ap (shared_from t (session_at t p).order (p + 1)) (sym z) ∙ sym es ∙ os) differs
-    where
-      go : (u v : Bool) → u ≡ true → v ≡ true → not (u && v) && distinct_from t (p + 1) (rest - 1) ≡ whole → false ≡ whole
-      go u v a c e = (simp (a, c) at e)
-
-  pub differ-more : {rest' : ℕ} → (is_begun (session_at t p) ≡ false) ⊎ (shared_from t (session_at t p).order (p + 1) rest' ≡ false) → rest' ≡ rest - 1 → Differing whole t (p + 1) rest'
-  differ-more {rest'} d z = record { is = ap (distinct_from t (p + 1)) z ∙ go (is_begun (session_at t p)) (shared_from t (session_at t p).order (p + 1) (rest - 1)) (same d) differs }
-    where
-      same : (is_begun (session_at t p) ≡ false) ⊎ (shared_from t (session_at t p).order (p + 1) rest' ≡ false)
-          → (is_begun (session_at t p) ≡ false) ⊎ (shared_from t (session_at t p).order (p + 1) (rest - 1) ≡ false)
-      same (inl a) = inl a
-      same (inr a) = inr (ap (shared_from t (session_at t p).order (p + 1)) (sym z) ∙ a)
-
-      go : (u v : Bool) → (u ≡ false) ⊎ (v ≡ false) → not (u && v) && distinct_from t (p + 1) (rest - 1) ≡ whole → distinct_from t (p + 1) (rest - 1) ≡ whole
-      go u v (inl a) e = (simp a at e)
-      go true v (inr a) e = (simp a at e)
-      go false v (inr a) e = e
-
-pub differ-end : {whole : Bool} {t : List Session} {p rest : ℕ} → Differing whole t p rest → rest ≡ 0 → true ≡ whole
+pub none-distinct : (t : List Session) (p n : ℕ) → p + n ≡ parties → list_all (λ q. not (clashes t q)) (range_with_len p n) ≡ distinct_from t p n
 unfolding distinct_from
-differ-end {whole} {t} {p} g e = ap (distinct_from t p) (sym e) ∙ g.is
+none-distinct t p zero e = refl
+none-distinct t p (suc n) e =
+    ap₂ (λ (k : ℕ) (b : Bool). not (is_begun (session_at t p) && shared_from t (session_at t p).order (p + 1) k) && b) (omega (arith, e)) (none-distinct t (p + 1) n (omega (arith, e)))
 
 -- ---- who began first
 

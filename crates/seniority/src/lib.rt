@@ -25,59 +25,30 @@ fn is_begun(s: Session) -> bool
 fn is_earlier(s: Session, n: u32) -> bool
     ensures { result ≡ is_earlier n s }
 {
-    if !is_begun(s) {
-        return false;
-    }
-    s.order < n
-}
-
-// One more, where it has a property.
-fn more_if(has: bool, n: u32) -> u32
-    requires { n ≤ width }
-    ensures { result ≡ cond has (suc n) n }
-{
-    if has {
-        return n + 1;
-    }
-    n
+    is_begun(s) && s.order < n
 }
 
 // How many begun sessions have a number below n.
 pub fn earlier(t: [Session; PARTIES], n: u32) -> u32
     ensures { result ≡ earlier_in t n }
 {
-    let mut k = 0;
-    let mut p = 1;
-    while p < PARTIES {
-        let s = t[p];
-        k = more_if(is_earlier(s, n), k);
-        p += 1;
-    }
-    k
+    t[1..].iter().filter(|s| is_earlier(**s, n)).count() as u32
 }
 
 // How many sessions are begun.
 pub fn begun_count(t: [Session; PARTIES]) -> u32
     ensures { result ≡ begun_in t }
 {
-    let mut k = 0;
-    let mut p = 1;
-    while p < PARTIES {
-        let s = t[p];
-        k = more_if(is_begun(s), k);
-        p += 1;
-    }
-    k
+    t[1..].iter().filter(|s| is_begun(**s)).count() as u32
 }
 
 // A begun session's record with its rank for its number: 1 and how many have a lower one.
 fn ranked(t: [Session; PARTIES], mut s: Session) -> Session
     ensures { result ≡ ranked_in t s }
 {
-    if !is_begun(s) {
-        return s;
+    if is_begun(s) {
+        s.order = earlier(t, s.order) + 1;
     }
-    s.order = earlier(t, s.order) + 1;
     s
 }
 
@@ -86,11 +57,8 @@ pub fn renumbered(t: [Session; PARTIES]) -> [Session; PARTIES]
     ensures { result ≡ renumbered_in t }
 {
     let mut after = t;
-    let mut p = 1;
-    while p < PARTIES {
-        let s = t[p];
-        after[p] = ranked(t, s);
-        p += 1;
+    for p in 1..PARTIES {
+        after[p] = ranked(t, t[p]);
     }
     after
 }
@@ -101,10 +69,7 @@ pub fn renumbered(t: [Session; PARTIES]) -> [Session; PARTIES]
 fn is_numbered(s: Session, n: u32) -> bool
     ensures { result ≡ is_numbered n s }
 {
-    if !is_begun(s) {
-        return false;
-    }
-    s.order == n
+    is_begun(s) && s.order == n
 }
 
 // Some session from `from` on is begun and has number n.
@@ -112,49 +77,24 @@ fn shared(t: [Session; PARTIES], n: u32, from: usize) -> bool
     requires { from ≤ parties }
     ensures { result ≡ shared_from t n from (parties - from) }
 {
-    let mut p = from;
-    while p < PARTIES {
-        let s = t[p];
-        if is_numbered(s, n) {
-            return true;
-        }
-        p += 1;
-    }
-    false
+    t[from..].iter().any(|s| is_numbered(*s, n))
 }
 
 // No two begun sessions share a number.
 pub fn distinct(t: [Session; PARTIES]) -> bool
     ensures { result ≡ distinct_in t }
 {
-    let mut p = 1;
-    while p < PARTIES {
-        let s = t[p];
-        p += 1;
-        if is_begun(s) {
-            if shared(t, s.order, p) {
-                return false;
-            }
-        }
-    }
-    true
+    (1..PARTIES).all(|p| !(is_begun(t[p]) && shared(t, t[p].order, p + 1)))
 }
 
 // ---- who began first
 
-// Of the eldest so far, 0 for none, and session p the elder.
+// Of the eldest so far, 0 for none as in best_of, and session p the elder.
 fn elder(t: [Session; PARTIES], best: u32, p: u32) -> u32
     requires { (best ≤ width) × (1 ≤ p) × (p ≤ width) }
     ensures { result ≡ best_of t best p }
 {
-    if best == 0 {
-        return p;
-    }
-    let next = p as usize;
-    let at = best as usize;
-    let c = t[next];
-    let b = t[at];
-    if c.order < b.order {
+    if best == 0 || t[p as usize].order < t[best as usize].order {
         return p;
     }
     best

@@ -11,21 +11,17 @@ ghost use Rattle.outcomes.specs.Said.{said};
 ghost use Rattle.meaning.specs.Sound.{Sound};
 ghost use Rattle.promises.specs.Ways.{Serves};
 
-use outcomes::{Answer, Served};
+use outcomes::Served;
 use sessions::{PARTIES, Session};
 
 pub fn begin(store: &[u32], t: [Session; PARTIES], p: u32) -> Served
     requires { Sound store.now t }
     ensures { Serves (C.begin p) store.now t (said result.answer) [] store.now result.table }
 {
-    let n = refusals::begin_refusal(t, p);
-    if n != 0 {
-        return Served {
-            table: t, // numbers as they were
-            answer: Answer::Refused(n, 0),
-        };
+    match refusals::check_begin(t, p) {
+        Ok(()) => accepted::begin(store, t, p),
+        Err(refusal) => Served::refused(t, refusal), // numbers as they were
     }
-    accepted::begin(store, t, p)
 }
 
 pub fn put(
@@ -41,68 +37,48 @@ pub fn put(
     ensures { Serves (C.put p code entry first second) store.now t (said result.answer) [] store.now result.table }
 {
     let m = words::entries(store);
-    let n = refusals::put_refusal(m, t, p, code, entry, first, second);
-    if n != 0 {
-        return Served {
-            table: t,
-            answer: Answer::Refused(n, 0),
-        };
+    match refusals::check_put(m, t, p, code, entry, first, second) {
+        Ok(()) => accepted::put(store, t, p, code, entry, first, second),
+        Err(refusal) => Served::refused(t, refusal),
     }
-    accepted::put(store, t, p, code, entry, first, second)
 }
 
 pub fn step(store: &mut [u32], list: &mut [u32], t: [Session; PARTIES], p: u32) -> Served
     requires { Sound store.old t }
     ensures { Serves (C.step p list.old) store.old t (said result.answer) list.new store.new result.table }
 {
-    let n = refusals::step_refusal(t, p);
-    if n != 0 {
-        return Served {
-            table: t,
-            answer: Answer::Refused(n, 0),
-        };
+    match refusals::check_step(t, p) {
+        Ok(()) => stepping::step(store, list, t, p),
+        Err(refusal) => Served::refused(t, refusal),
     }
-    stepping::step(store, list, t, p)
 }
 
 pub fn commit(store: &mut [u32], t: [Session; PARTIES], p: u32) -> Served
     requires { Sound store.old t }
     ensures { Serves (C.commit p) store.old t (said result.answer) [] store.new result.table }
 {
-    let n = refusals::commit_refusal(t, p);
-    if n != 0 {
-        return Served {
-            table: t,
-            answer: Answer::Refused(n, 0),
-        };
+    match refusals::check_commit(t, p) {
+        Ok(()) => accepted::commit(store, t, p),
+        Err(refusal) => Served::refused(t, refusal),
     }
-    accepted::commit(store, t, p)
 }
 
 pub fn abort(store: &mut [u32], t: [Session; PARTIES], p: u32) -> Served
     requires { Sound store.old t }
     ensures { Serves (C.abort p) store.old t (said result.answer) [] store.new result.table }
 {
-    let n = refusals::abort_refusal(t, p);
-    if n != 0 {
-        return Served {
-            table: t,
-            answer: Answer::Refused(n, 0),
-        };
+    match refusals::check_abort(t, p) {
+        Ok(()) => accepted::abort(store, t, p),
+        Err(refusal) => Served::refused(t, refusal),
     }
-    accepted::abort(store, t, p)
 }
 
 pub fn ask(store: &[u32], t: [Session; PARTIES], p: u32) -> Served
     requires { Sound store.now t }
     ensures { Serves (C.ask p) store.now t (said result.answer) [] store.now result.table }
 {
-    let n = refusals::ask_refusal(t, p);
-    if n != 0 {
-        return Served {
-            table: t, // not asked
-            answer: Answer::Refused(n, 0),
-        };
+    match refusals::check_ask(t, p) {
+        Ok(()) => accepted::ask(store, t, p),
+        Err(refusal) => Served::refused(t, refusal),
     }
-    accepted::ask(store, t, p)
 }

@@ -7,9 +7,33 @@
 // How many parties there are: the sessions and the housekeeper.
 pub const PARTIES: usize = 17;
 
+// What a request does. Its number is the code that put is handed and that the record keeps: a lent record's code and stage may be any
+// word, so they stand there as words.
+#[derive(Clone, Copy, PartialEq, Eq, Debug)]
+pub enum Code {
+    Read = 1,
+    Write = 2,
+    Insert = 3,
+    Remove = 4,
+    Locate = 5,
+    Tidy = 6,
+}
+
+// Where a request stands; its number is the stage of its party's record.
+#[derive(Clone, Copy, PartialEq, Eq, Debug)]
+pub enum Stage {
+    // No request is in hand.
+    Idle = 0,
+    Start = 1,
+    EnterRoot = 2,
+    AtNode = 3,
+    Change = 4,
+    Take = 5,
+}
+
 // In memory: its 15 words in this order, as a C program lends them.
 #[repr(C)]
-#[derive(Clone, Copy)]
+#[derive(Clone, Copy, PartialEq, Eq, Debug, Default)]
 pub struct Session {
     // Not 0: the session is begun. Unused for party 0.
     pub begun: u32,

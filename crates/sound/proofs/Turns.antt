@@ -3,23 +3,37 @@ use mathlib.Core.Path.{◌≡◌, refl, sym, ap, subst, ◌∙◌}
 use mathlib.Core.List.{List}
 use mathlib.Core.Bool.{Bool, true, false, cond}
 use Prim.Native.Nat.{ℕ, zero, suc, ◌≤◌, ◌<◌}
-use lib.Dec.{leb}
+use native.Mathlib.Omega.{arith}
+use lib.Dec.{eqb, leb}
 use lib.ListN.{get_or, replicate}
 use borrow.Author.Tests.{eq-eqb, ne_eqb, le-leb, lt-leb}
-use Rattle.words.specs.Header.{header_word, free_place}
+use Rattle.words.specs.Header.{header_word, entries_place, records_place, free_place}
+use Rattle.seniority.specs.Seniority.{distinct_in}
 use Rattle.sessions.specs.declared.Session.{Session}
-use Rattle.marks.specs.declared.Chain.{Chain}
-use Rattle.marks.specs.Trail.{Going, Turn, Turned, turned_as, turn, Trail, Ends, trail-as}
-use Rattle.parties.specs.Parties.{parties_ok, standing_at_nodes, has_undos, all_undos}
+use Rattle.std.specs.Prelude.{Option, Some, None, Result, Ok, Err, is_ok, ok_or}
+use Rattle.marks.specs.Trail.{Going, Turn, Turned, turned_as, turn, Trail, Ends, trail-as, trail-none}
+use Rattle.parties.specs.Parties.{parties_ok, standing_at_nodes, has_undos, all_undos, marks_ok}
 use Rattle.parties.proofs.Turns.{undos-none}
 use Rattle.tree_walk.specs.declared.Walk.{Walk}
-use Rattle.tree_walk.specs.TreeWalk.{tour, Toured, root_tour}
+use Rattle.tree_walk.proofs.Turns.{toured-as, toured-off}
+use Rattle.tree_walk.specs.TreeWalk.{Stand, going, Tour, Toured, root_tour}
 use Rattle.holders.specs.Holders.{begun_mask, entries_from}
 use Rattle.holdings.specs.Holdings.{all_groups}
 use Rattle.holdings.proofs.SameFiles.{groups-same}
-use Rattle.sound.specs.declared.Checked.{Checked}
-use Rattle.sound.specs.Faults.{entries_fault, zero_fault, tree_fault, requests_fault, latches_fault, undos_fault, groups_fault, free_fault, unreached_fault}
-use Rattle.sound.specs.Sound.{failed, lowest_ok, free_turn, free_from, ending, finish_of, after_groups, groups_then, after_undos, undos_then, after_parties, parties_then, after_tree, fault_in}
+use Rattle.sound.specs.declared.Fault.{Fault}
+use Rattle.sound.specs.declared.Fault.TheVariants.{Sizes, Entries, KeyZero, Tree, Requests, Latches, Undos, Groups, FreeChain, Unreached, Orders, Asked}
+use Rattle.sound.specs.Faults.{entries_fault, zero_fault, tree_fault, requests_fault, latches_fault, undos_fault, groups_fault, free_fault, unreached_fault, orders_fault, asked_fault, fault_number}
+use Rattle.sound.specs.Sizes.{sizes_ok}
+use Rattle.sound.specs.Sound.{Checked, checked, failed, next_part, lowest_ok, free_turn, free_from, ending, finish_of, after_groups, groups_then, after_undos, undos_then, after_parties, parties_then, after_tree, fault_in, first_fault}
+
+-- ---- what a pass answers where the walk under it does
+
+module _ {A : Type 0} (f : Fault) where
+  pub walked : (o : Option A) {r : Result A Fault} (x : A) → r ≡ ok_or o f → r ≡ Ok x → o ≡ Some x
+  walked o x e h = grind arith
+
+  pub refused : (o : Option A) {r : Result A Fault} (g : Fault) → r ≡ ok_or o f → r ≡ Err g → (o ≡ None) × (g ≡ f)
+  refused o g e h = grind arith
 
 -- ---- the free chain
 
@@ -32,49 +46,55 @@ pub at_ahead : {whole : Trail ℕ} {next : ℕ → ℕ} {r kind : ℕ} {f : List
     → Going ℕ whole next r kind f seen a j left
 at_ahead {whole} {next} {r} {kind} {f} {seen} {a} {i} {j} {left} e g = subst (λ z. Going ℕ whole next r kind f seen a z left) e g
 
-module _ (s : List ℕ) (m r : ℕ) (seen : List ℕ) (left : ℕ) {first : ℕ} {w : Chain} {seen' : List ℕ} (ef : first ≡ header_word s free_place) (k : Ends ℕ (free_from s m r seen first left) w seen' 0) where
-  free-as : {b : Bool} → w.ok ≡ b → finish_of s m r seen left ≡ ending left (record { ok = b; left = w.left; seen = seen'; held = 0 })
+module _ (s : List ℕ) (m r : ℕ) (seen : List ℕ) (left : ℕ) {first : ℕ} {w : Option ℕ} {seen' : List ℕ} (ef : first ≡ header_word s free_place) (k : Ends ℕ (free_from s m r seen first left) w seen' 0) where
+  free-as : {v : Trail ℕ} → free_from s m r seen first left ≡ v → finish_of s m r seen left ≡ ending left v
   unfolding finish_of
-  free-as o = rw (← ef, trail-as k o) refl
+  free-as o = rw (← ef) (ap (ending left) o)
 
-  pub free-bad : {c : Checked} → w.ok ≡ false → c ≡ failed free_fault → c ≡ finish_of s m r seen left
+  pub free-bad : w ≡ None → failed free_fault ≡ finish_of s m r seen left
   unfolding ending
-  free-bad o e = e ∙ sym (free-as o)
+  free-bad o = sym (free-as (trail-none k o))
 
-  pub free-short : {c : Checked} → w.ok ≡ true → (w.left ≡ 0 → ⊥) → c ≡ failed unreached_fault → c ≡ finish_of s m r seen left
-  unfolding ending
-  free-short o n e = e ∙ sym (free-as o ∙ simp (ne_eqb w.left 0 n))
+  module _ (n : ℕ) (o : w ≡ Some n) where
+    pub free-short : (n ≡ 0 → ⊥) → failed unreached_fault ≡ finish_of s m r seen left
+    unfolding ending
+    free-short z = sym (free-as (trail-as k o) ∙ simp (ne_eqb n 0 z))
 
-  pub free-good : w.ok ≡ true → w.left ≡ 0 → record { fault = 0; free = left } ≡ finish_of s m r seen left
-  unfolding ending
-  free-good o z = sym (free-as o ∙ simp (eq-eqb w.left 0 z))
+    pub free-good : n ≡ 0 → record { fault = 0; free = left } ≡ finish_of s m r seen left
+    unfolding ending
+    free-good z = sym (free-as (trail-as k o) ∙ simp (eq-eqb n 0 z))
 
 -- ---- the groups
 
-module _ (s order tally f : List ℕ) (m r begun : ℕ) (t : List Session) (count : ℕ) (seen : List ℕ) (left : ℕ) {c : Checked} where
-  pub groups-many : 4097 < count → c ≡ failed groups_fault → c ≡ groups_then s order tally f m r begun t count seen left
+module _ (s order tally f : List ℕ) (m r begun : ℕ) (t : List Session) (count : ℕ) (seen : List ℕ) (left : ℕ) where
+  pub groups-many : 4097 < count → failed groups_fault ≡ groups_then s order tally f m r begun t count seen left
   unfolding groups_then
-  groups-many h e = simp (lt-leb count 4097 h) e
+  groups-many h = simp (lt-leb count 4097 h)
 
-  module _ (h : count ≤ 4097) {w : Chain} {seen' l : List ℕ} (k : Ends _ (all_groups s order tally f m r begun t count seen (replicate 2050 0) left) w seen' l) where
-    pub groups-bad : w.ok ≡ false → c ≡ failed groups_fault → c ≡ groups_then s order tally f m r begun t count seen left
-    unfolding groups_then after_groups
-    groups-bad o e = simp (le-leb count 4097 h, trail-as k o) e
+  module _ (h : count ≤ 4097) {w : Option ℕ} {seen' l : List ℕ} (k : Ends _ (all_groups s order tally f m r begun t count seen (replicate 2050 0) left) w seen' l) where
+    groups-as : {v : Trail (List ℕ)} → all_groups s order tally f m r begun t count seen (replicate 2050 0) left ≡ v
+        → after_groups s m r v ≡ groups_then s order tally f m r begun t count seen left
+    unfolding groups_then
+    groups-as o = simp (le-leb count 4097 h) (ap (after_groups s m r) (sym o))
 
-    pub groups-go : w.ok ≡ true → c ≡ finish_of s m r seen' w.left → c ≡ groups_then s order tally f m r begun t count seen left
-    unfolding groups_then after_groups
-    groups-go o e = simp (le-leb count 4097 h, trail-as k o) e
+    pub groups-bad : w ≡ None → failed groups_fault ≡ groups_then s order tally f m r begun t count seen left
+    unfolding after_groups
+    groups-bad o = groups-as (trail-none k o)
+
+    pub groups-go : (n : ℕ) {c : Checked} → w ≡ Some n → c ≡ finish_of s m r seen' n → c ≡ groups_then s order tally f m r begun t count seen left
+    unfolding after_groups
+    groups-go n o e = e ∙ groups-as (trail-as k o)
 
 -- ---- the chains of undo records
 
-module _ (s order tally : List ℕ) (m r begun : ℕ) (t : List Session) (count : ℕ) (seen : List ℕ) (left : ℕ) {c : Checked} {w : Chain} {seen' f : List ℕ} (k : Ends _ (all_undos s m r t seen (replicate 12291 0) left) w seen' f) where
-  pub undos-bad : w.ok ≡ false → c ≡ failed undos_fault → c ≡ undos_then s order tally m r begun t count seen left
+module _ (s order tally : List ℕ) (m r begun : ℕ) (t : List Session) (count : ℕ) (seen : List ℕ) (left : ℕ) {w : Option ℕ} {seen' f : List ℕ} (k : Ends _ (all_undos s m r t seen (replicate 12291 0) left) w seen' f) where
+  pub undos-bad : w ≡ None → failed undos_fault ≡ undos_then s order tally m r begun t count seen left
   unfolding undos_then after_undos
-  undos-bad o e = simp (trail-as k o) e
+  undos-bad o = ap (after_undos s order tally m r begun t count) (sym (trail-none k o))
 
-  pub undos-go : w.ok ≡ true → c ≡ groups_then s order tally f m r begun t count seen' w.left → c ≡ undos_then s order tally m r begun t count seen left
+  pub undos-go : (n : ℕ) {c : Checked} → w ≡ Some n → c ≡ groups_then s order tally f m r begun t count seen' n → c ≡ undos_then s order tally m r begun t count seen left
   unfolding undos_then after_undos
-  undos-go o e = simp (trail-as k o) e
+  undos-go n o e = e ∙ ap (after_undos s order tally m r begun t count) (sym (trail-as k o))
 
 -- where no session has one, nothing is filed: room that is all zeros reads as no room
 abbrev room : ℕ → List ℕ
@@ -100,7 +120,7 @@ module _ (s order tally : List ℕ) (m r begun : ℕ) (t : List Session) (count 
 
 -- ---- the parties
 
-module _ (s order : List ℕ) (m r begun : ℕ) (t : List Session) (w : Walk) (seen : List ℕ) {c : Checked} {b : Bool} {tally : List ℕ} (k : Turned (parties_ok s seen m r t (replicate 4097 0)) b tally) where
+module _ (s order : List ℕ) (m r begun : ℕ) (t : List Session) (w : Stand) (seen : List ℕ) {c : Checked} {b : Bool} {tally : List ℕ} (k : Turned (parties_ok s seen m r t (replicate 4097 0)) b tally) where
   pub parties-bad : b ≡ false → c ≡ failed requests_fault → c ≡ parties_then s order m r begun t w seen
   unfolding parties_then after_parties
   parties-bad o e = simp (turned_as k o) e
@@ -129,15 +149,62 @@ module _ (s : List ℕ) (m r : ℕ) (t : List Session) {begun : ℕ} {a : Bool} 
     unfolding fault_in
     fault-lowest o e = simp (entries-as h, sym el ∙ o) e
 
-    module _ (o : l ≡ true) {w : Walk} {seen order : List ℕ} (q : Toured (root_tour s m r (replicate 4097 0) (replicate 4097 0)) w seen order) where
-      tree-as : fault_in s m r t ≡ after_tree s m r begun t (tour w seen order)
+    module _ (o : l ≡ true) {x : Option Walk} {seen order : List ℕ} (q : Toured (root_tour s m r (replicate 4097 0) (replicate 4097 0)) x seen order) where
+      tree-as : {v : Tour} → root_tour s m r (replicate 4097 0) (replicate 4097 0) ≡ v → fault_in s m r t ≡ after_tree s m r begun t v
       unfolding fault_in
-      tree-as = rw (entries-as h, sym el ∙ o, ← q.is, g) refl
+      tree-as e = rw (entries-as h, sym el ∙ o, g) (ap (after_tree s m r (begun_mask t) t) e)
 
-      pub fault-tree : {c : Checked} → w.ok ≡ false → c ≡ failed tree_fault → c ≡ fault_in s m r t
+      pub fault-tree : x ≡ None → failed tree_fault ≡ fault_in s m r t
       unfolding after_tree
-      fault-tree z e = e ∙ sym (tree-as ∙ simp z)
+      fault-tree z = sym (tree-as refl ∙ simp (toured-off q z))
 
-      pub fault-go : {c : Checked} → w.ok ≡ true → c ≡ parties_then s order m r begun t w seen → c ≡ fault_in s m r t
+      pub fault-go : (w : Walk) {c : Checked} → x ≡ Some w → c ≡ parties_then s order m r begun t (going w) seen → c ≡ fault_in s m r t
       unfolding after_tree
-      fault-go z e = e ∙ sym (tree-as ∙ simp z)
+      fault-go w z e = e ∙ sym (tree-as (toured-as w q z))
+
+-- ---- the parts behind those
+
+-- a part that is broken has a number
+numbered : (f : Fault) → eqb (fault_number f) 0 ≡ false
+numbered Sizes = refl
+numbered Entries = refl
+numbered KeyZero = refl
+numbered Tree = refl
+numbered Requests = refl
+numbered Latches = refl
+numbered Undos = refl
+numbered Groups = refl
+numbered FreeChain = refl
+numbered Unreached = refl
+numbered Orders = refl
+numbered Asked = refl
+
+pub is-none : (x : Result ℕ Fault) → is_ok x ≡ eqb (checked x).fault 0
+is-none (Ok n) = refl
+is-none (Err f) = sym (numbered f)
+
+next-broken : (n : ℕ) (b : Bool) (f : Fault) → failed (fault_number f) ≡ next_part n b (failed (fault_number f))
+unfolding next_part
+next-broken n b f = simp (numbered f)
+
+module _ (s : List ℕ) (t : List Session) {m r : ℕ} (em : m ≡ header_word s entries_place) (er : r ≡ header_word s records_place) (z : sizes_ok s ≡ true) where
+  first-as : {c : Checked} → c ≡ fault_in s m r t → next_part asked_fault (marks_ok t) (next_part orders_fault (distinct_in t) c) ≡ first_fault s t
+  unfolding first_fault
+  first-as e = rw (z, e, em, er) refl
+
+  pub first-broken : (f : Fault) → failed (fault_number f) ≡ fault_in s m r t → failed (fault_number f) ≡ first_fault s t
+  first-broken f e =
+      next-broken asked_fault (marks_ok t) f ∙ ap (next_part asked_fault (marks_ok t)) (next-broken orders_fault (distinct_in t) f) ∙ first-as e
+
+  module _ (n : ℕ) (e : record { fault = 0; free = n } ≡ fault_in s m r t) where
+    pub first-orders : distinct_in t ≡ false → failed orders_fault ≡ first_fault s t
+    unfolding next_part
+    first-orders d = simp d at (first-as e)
+
+    pub first-asked : distinct_in t ≡ true → marks_ok t ≡ false → failed asked_fault ≡ first_fault s t
+    unfolding next_part
+    first-asked d k = simp (d, k) at (first-as e)
+
+    pub first-none : distinct_in t ≡ true → marks_ok t ≡ true → record { fault = 0; free = n } ≡ first_fault s t
+    unfolding next_part
+    first-none d k = simp (d, k) at (first-as e)

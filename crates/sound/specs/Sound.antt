@@ -1,5 +1,5 @@
 -- "Sound means" (document 01, and document 02, M-101), of the words of a store and a session table: the passes of the test, one after the other.
-use Rattle.std.specs.Prelude.{List, Bool, true, cond, not, ◌&&◌, ℕ, eqb, leb, replicate}
+use Rattle.std.specs.Prelude.{Result, Ok, Err, List, Bool, true, cond, not, ◌&&◌, ℕ, eqb, leb, replicate}
 use Rattle.words.specs.Store.{word_of}
 use Rattle.words.specs.Header.{header_word, entries_place, records_place, first_place, free_place}
 use Rattle.groups.specs.Descriptor.{descriptor_at}
@@ -8,16 +8,25 @@ use Rattle.seniority.specs.Seniority.{distinct_in}
 use Rattle.marks.specs.Marks.{free_mark}
 use Rattle.marks.specs.Trail.{Trail, Turn, turn, chain_of}
 use Rattle.parties.specs.Parties.{parties_ok, standing_at_nodes, all_undos, marks_ok}
-use Rattle.tree_walk.specs.declared.Walk.{Walk}
-use Rattle.tree_walk.specs.TreeWalk.{Tour, root_tour}
+use Rattle.tree_walk.specs.TreeWalk.{Stand, Tour, root_tour}
 use Rattle.holders.specs.Holders.{begun_mask, entries_from}
 use Rattle.holdings.specs.Holdings.{all_groups}
-use Rattle.sound.specs.declared.Checked.{Checked}
-use Rattle.sound.specs.Faults.{sizes_fault, entries_fault, zero_fault, tree_fault, requests_fault, latches_fault, undos_fault, groups_fault, free_fault, unreached_fault, orders_fault, asked_fault}
+use Rattle.sound.specs.declared.Fault.{Fault}
+use Rattle.sound.specs.Faults.{sizes_fault, entries_fault, zero_fault, tree_fault, requests_fault, latches_fault, undos_fault, groups_fault, free_fault, unreached_fault, orders_fault, asked_fault, fault_number}
 use Rattle.sound.specs.Sizes.{sizes_ok}
+
+-- the test's answer: the number of the first part that is broken, 0 for none, and, where it is none, how many records are free
+pub record Checked : Type 0 where
+  pub fault : ℕ
+  pub free : ℕ
 
 abbrev pub failed : ℕ → Checked
 failed fault = record { fault = fault; free = 0 }
+
+-- what a function answers
+abbrev pub checked : Result ℕ Fault → Checked
+checked (Ok free) = record { fault = 0; free = free }
+checked (Err f) = failed (fault_number f)
 
 -- ---- parts that are no pass of their own
 
@@ -63,13 +72,13 @@ undos_then s order tally m r begun t count seen left =
     after_undos s order tally m r begun t count (all_undos s m r t seen (replicate 12291 0) left)
 
 -- the requests in hand, and then as many latches as parties at a node
-unfoldable pub after_parties : List ℕ → List ℕ → ℕ → ℕ → ℕ → List Session → Walk → List ℕ → Turn (List ℕ) → Checked
+unfoldable pub after_parties : List ℕ → List ℕ → ℕ → ℕ → ℕ → List Session → Stand → List ℕ → Turn (List ℕ) → Checked
 after_parties s order m r begun t w seen q =
     cond q.ok
     (cond (eqb (standing_at_nodes t) w.latches) (undos_then s order q.held m r begun t w.count seen w.left) (failed latches_fault))
     (failed requests_fault)
 
-unfoldable pub parties_then : List ℕ → List ℕ → ℕ → ℕ → ℕ → List Session → Walk → List ℕ → Checked
+unfoldable pub parties_then : List ℕ → List ℕ → ℕ → ℕ → ℕ → List Session → Stand → List ℕ → Checked
 parties_then s order m r begun t w seen = after_parties s order m r begun t w seen (parties_ok s seen m r t (replicate 4097 0))
 
 -- the tree

@@ -11,9 +11,8 @@ use Rattle.sessions.specs.declared.Session.{Session}
 use Rattle.seniority.specs.Seniority.{distinct_in}
 use Rattle.parties.specs.Parties.{standing_at_nodes, marks_ok}
 use Rattle.holders.specs.Holders.{begun_mask, entries_from}
-use Rattle.sound.specs.declared.Checked.{Checked}
 use Rattle.sound.specs.Sizes.{sizes_ok}
-use Rattle.sound.specs.Sound.{first_fault, fault_in, after_tree, parties_then, after_parties, undos_then, after_undos, groups_then, after_groups, finish_of, ending, next_part, failed, lowest_ok}
+use Rattle.sound.specs.Sound.{Checked, first_fault, fault_in, after_tree, parties_then, after_parties, undos_then, after_undos, groups_then, after_groups, finish_of, ending, next_part, failed, lowest_ok}
 use Rattle.meaning.specs.Reading.{M-of, R-of}
 use Rattle.soundness.specs.HeldTests.{entries-is}
 use Rattle.soundness.specs.SizesPass.{sizes-found, sizes-pass}

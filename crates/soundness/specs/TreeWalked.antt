@@ -24,8 +24,7 @@ use Rattle.meaning.specs.Reading.{Leaf, Numbered, read_sons, read_tree, erase, n
 use Rattle.meaning.specs.Sound.{All}
 use Rattle.marks.specs.Marks.{Visit, start, meet, node_mark, descriptor_mark}
 use Rattle.marks.specs.Steps.{no, both}
-use Rattle.tree_walk.specs.declared.Walk.{Walk}
-use Rattle.tree_walk.specs.TreeWalk.{Tour, tour, then_tour, stop, stop_tour, raise, top_of, leaf_words, met_walk, leaf_met, leaf_tour, leaves_from, entered_as, enter_tour, count_latch, fanout_ok, sons_from, inside, into, tree_from}
+use Rattle.tree_walk.specs.TreeWalk.{Stand, Tour, tour, then_tour, stop, stop_tour, raise, top_of, leaf_words, met_walk, leaf_met, leaf_tour, leaves_from, entered_as, enter_tour, count_latch, fanout_ok, sons_from, inside, into, tree_from}
 use Rattle.soundness.specs.Marking.{all_append, all_left, all_right, met, meet-new, meet-found}
 use Rattle.soundness.specs.Sons.{last_low, least_before, entries_from, least-from, entries-as, entries-last, fan-usable, fan-found, fan-walks}
 use Rattle.soundness.specs.TreeRecords.{kinds, latched_many, trace, forest, leaf_trace, node_trace, trace-node, leaf-fits, node-fits, trace-fits, read-many}
@@ -55,7 +54,7 @@ pub stopped : (t : Tour) → (stop_tour t).walk.ok ≡ false
 unfolding stop
 stopped t = refl
 
-past_stop : (b : Bool) (v w : Walk) → (cond b w (stop v)).ok ≡ true → b ≡ true
+past_stop : (b : Bool) (v w : Stand) → (cond b w (stop v)).ok ≡ true → b ≡ true
 unfolding stop
 past_stop true v w e = refl
 past_stop false v w e = no e
@@ -67,7 +66,7 @@ module _ (s : List ℕ) (m r : ℕ) where
   abbrev Keyed : ℕ → ℕ → ℕ → ℕ → Type 0
   Keyed low i least top = (low ≤ word_of s m i 1) × (least ≤ word_of s m i 1) × (word_of s m i 1 ≤ top)
 
-  words-found : (i least top : ℕ) (w : Walk) → (leaf_words s m i least top w).ok ≡ true → Keyed w.low i least top
+  words-found : (i least top : ℕ) (w : Stand) → (leaf_words s m i least top w).ok ≡ true → Keyed w.low i least top
   unfolding leaf_words decode_descriptor
   words-found i least top w e =
       let k = word_of s m i 1 in
@@ -75,7 +74,7 @@ module _ (s : List ℕ) (m r : ℕ) where
       let q = both (leb w.low k) (leb least k) p.0 in
       (leb-true w.low k q.0, leb-true least k q.1, leb-true k top p.1)
 
-  words-walk : (i least top : ℕ) (w : Walk) → Keyed w.low i least top
+  words-walk : (i least top : ℕ) (w : Stand) → Keyed w.low i least top
       → leaf_words s m i least top w ≡ record { ok = true; left = w.left; latches = w.latches; next = word_of s m i 0; count = w.count + 1; low = word_of s m i 1 + 1 }
   unfolding leaf_words decode_descriptor
   words-walk i least top w k = simp (le-leb w.low (word_of s m i 1) k.0, le-leb least (word_of s m i 1) k.1, le-leb (word_of s m i 1) top k.2)

@@ -13,7 +13,7 @@ use Rattle.chain.specs.Free.{Poppable, pop_free, push_free}
 -- ---- splits
 
 -- what belongs to the half of a key: up to the boundary the left one, else the right one
-abbrev pub half_of : ℕ → ℕ → ℕ → ℕ → ℕ
+abbrev pub half_of : {A : Type 0} → ℕ → ℕ → A → A → A
 half_of key up l r = cond (leb key up) l r
 
 -- both halves at records l and r, the half of the key latched

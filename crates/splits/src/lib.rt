@@ -15,28 +15,17 @@ ghost use Rattle.nodes.specs.Ops.{lone_node};
 ghost use Rattle.reshaping.specs.Ops.{insert_behind, split_node};
 ghost use Rattle.splits.specs.Splits.{half_of, put_halves, CanSplitSon, split_son, split_son_half, CanSplitRoot, put_top, split_root, split_root_half, CanDropRoot, drop_root};
 
+use kinds::Record;
 use nodes::Node;
 use reshaping::Neighbours;
 
 // ---- the two halves of a node
 
-// What belongs to the half of a key, and that as a record.
-fn half_word(key: u32, up: u32, l: u32, r: u32) -> u32
+// What belongs to the half of a key: a word or a record.
+fn half_of<T: Copy>(key: u32, up: u32, l: T, r: T) -> T
     ensures { result ≡ half_of key up l r }
 {
-    if key <= up {
-        return l;
-    }
-    r
-}
-
-fn half_of(key: u32, up: u32, l: usize, r: usize) -> usize
-    ensures { result ≡ half_of key up l r }
-{
-    if key <= up {
-        return l;
-    }
-    r
+    if key <= up { l } else { r }
 }
 
 // Writes the two halves of a node, the half of the key with the latch.
@@ -44,12 +33,12 @@ fn put_halves(store: &mut [u32], m: usize, l: usize, r: usize, n: Neighbours, ke
     requires { HasRecord store.old m l × HasRecord store.old m r }
     ensures { store.new ≡ put_halves store.old m l r n key w }
 {
-    let lw = half_word(key, n.up, w, 0);
-    let rw = half_word(key, n.up, 0, w);
-    let left = nodes::with_latch(n.left, lw);
-    let right = nodes::with_latch(n.right, rw);
-    nodes::write_node(store, m, l, left);
-    nodes::write_node(store, m, r, right);
+    let lw = half_of(key, n.up, w, 0);
+    let rw = half_of(key, n.up, 0, w);
+    let left = n.left.with_latch(lw);
+    let right = n.right.with_latch(rw);
+    left.write(store, m, l);
+    right.write(store, m, r);
 }
 
 // The two halves of node i.
@@ -57,7 +46,7 @@ fn halves(store: &[u32], m: usize, i: usize) -> Neighbours
     requires { HasRecord store.now m i }
     ensures { result ≡ split_node (node_at store.now m i) }
 {
-    reshaping::split_node(nodes::load_node(store, m, i))
+    reshaping::split_node(Node::load(store, m, i))
 }
 
 // Splits the full son on the path to the key, releases node `at`, latches the half of the key: that half.
@@ -65,14 +54,14 @@ pub fn split_son(store: &mut [u32], m: usize, at: usize, key: u32, w: u32) -> us
     requires { CanSplitSon store.old m at key }
     ensures { (result ≡ split_son_half store.old m at key) × (store.new ≡ split_son store.old m at key w) }
 {
-    let p = nodes::load_node(store, m, at);
-    let i = nodes::find_son(p, key);
+    let p = Node::load(store, m, at);
+    let i = p.find_son(key);
     let son = nodes::node_son(store, m, at, i) as usize;
     let n = halves(store, m, son);
     let a = chain::pop_free(store, m);
     put_halves(store, m, son, a, n, key, w);
     let wider = reshaping::insert_behind(p, i, n.up, a as u32);
-    nodes::write_node(store, m, at, nodes::with_latch(wider, 0)); // split
+    wider.with_latch(0).write(store, m, at); // split
     half_of(key, n.up, son, a)
 }
 
@@ -91,7 +80,7 @@ fn set_top(store: &mut [u32], root: usize, height: u32)
 fn node_over(l: u32, up: u32, r: u32) -> Node
     ensures { result ≡ insert_behind (lone_node l) 0 up r }
 {
-    reshaping::insert_behind(nodes::lone_node(l), 0, up, r)
+    reshaping::insert_behind(Node::lone(l), 0, up, r)
 }
 
 // Splits the full root under a new one and latches the half of the key: that half.
@@ -105,7 +94,7 @@ pub fn split_root(store: &mut [u32], m: usize, key: u32, w: u32) -> usize
     let a = chain::pop_free(store, m);
     let b = chain::pop_free(store, m);
     put_halves(store, m, t as usize, a, n, key, w);
-    nodes::write_node(store, m, b, node_over(t, n.up, a as u32));
+    node_over(t, n.up, a as u32).write(store, m, b);
     set_top(store, b, height + 1);
     half_of(key, n.up, t as usize, a)
 }

@@ -1,6 +1,6 @@
 -- The laws of stamps, for every base offset b up to 180: every covered minute has a marked stamp that reads back; an accepted marked stamp is the stamp of its
 -- minute; one with no mark reads as with the one mark that is accepted; 19 exactly in skipped hours, 20 exactly in doubled ones.
-use Rattle.std.specs.Prelude.{◌≡◌, refl, Bool, true, false, cond, not, ◌&&◌, ◌⊎◌, ◌↔◌, ℕ, zero, suc, ◌+◌, ◌-◌, ◌*◌, ◌/◌, ◌%◌, ◌≤◌, ◌<◌, leb, ltb}
+use Rattle.std.specs.Prelude.{◌≡◌, refl, Bool, true, false, cond, not, ◌&&◌, ◌⊎◌, ◌↔◌, ℕ, zero, suc, ◌+◌, ◌-◌, ◌*◌, ◌/◌, ◌%◌, ◌≤◌, ◌<◌, leb, ltb, Ok, Err}
 use Rattle.std.proofs.Common.{sym, ap, ap₂, subst, ◌∙◌, true≢false, inl, inr, arith, leb-true, leb-false, ltb-true, le-leb, lt-ltb}
 use Rattle.calendar.specs.Tests.{and_left, and_right, and_yes}
 use Rattle.calendar.specs.declared.Date.{Date}
@@ -8,11 +8,10 @@ use Rattle.calendar.specs.Calendar.{day_number, month_days, date_of, IsDate}
 use Rattle.calendar.specs.Dates.{in-year, of_number, number_of}
 use Rattle.switches.specs.Switches.{sunday_minute, spring, autumn}
 use Rattle.stamps.specs.declared.Stamp.{Stamp}
-use Rattle.stamps.specs.declared.Reading.{Reading}
-use Rattle.stamps.specs.declared.Reading.TheVariants.{Minute, Outside, Skipped, Doubled}
-use Rattle.stamps.specs.Stamps.{first_minute, end_minute, last_day, covered, summer, stamped, stamp_at, stamp, within, proper_date, proper, local, as_summer, as_winter, unmarked, settle, reading, marked}
+use Rattle.stamps.specs.Stamps.{Reading, first_minute, end_minute, last_day, covered, summer, stamped, stamp_at, stamp, within, proper_date, proper, local, as_summer, as_winter, unmarked, settle, reading, marked}
 use Rattle.stamps.specs.Minutes.{year-mono, next-year, first-2002, covered-is, covered-yes}
 use Rattle.stamps.specs.Settled.{summer-of, winter-of, Agree, summer_alone, winter_alone, an_hour_apart, none_skipped, none, agree, Hour, skipped-in, in-skipped, doubled-in, in-doubled}
+use Rattle.stamps.specs.declared.Refusal.TheVariants.{Outside, Skipped, Doubled}
 
 -- ---- a proper stamp
 
@@ -146,18 +145,18 @@ reading-at : (b m l : ℕ) → Proper (stamp_at m l) → l / 1440 < 50038 → re
 unfolding stamp_at stamped
 reading-at b m l p h = proper-reading b p ∙ ap (λ (n : ℕ). settle m (n - b)) (local-stamp m l h)
 
-as-summer : (w : ℕ) {t : ℕ} → w - 60 ≡ t → covered t ≡ true → summer t ≡ true → as_summer w ≡ Minute t
+as-summer : (w : ℕ) {t : ℕ} → w - 60 ≡ t → covered t ≡ true → summer t ≡ true → as_summer w ≡ Ok t
 unfolding as_summer
 as-summer w e c d = cc
 
-as-winter : {w t : ℕ} → w ≡ t → covered t ≡ true → summer t ≡ false → as_winter w ≡ Minute t
+as-winter : {w t : ℕ} → w ≡ t → covered t ≡ true → summer t ≡ false → as_winter w ≡ Ok t
 unfolding as_winter
 as-winter e c d = cc
 
 pub record Stamps (b t : ℕ) (s : Stamp) : Type 0 where
   pub proper : Proper s
   pub marks : (s.mark ≡ 1) ⊎ (s.mark ≡ 2)
-  pub reads : reading b s ≡ Minute t
+  pub reads : reading b s ≡ Ok t
 
 pub reads-back : (b t : ℕ) → b ≤ 180 → first_minute ≤ t → t < end_minute → Stamps b t (stamp b t)
 unfolding stamp settle stamp_at stamped
@@ -186,15 +185,15 @@ reads-back b t small from before = go (summer t) refl
 -- ---- law 2: an accepted marked stamp is the stamp of its minute
 
 -- what a reading that is not Outside settles
-pub settled : {r : Reading} (b : ℕ) (s : Stamp) → reading b s ≡ r → (r ≡ Outside → ⊥) → Proper s × (settle s.mark (local s - b) ≡ r)
+pub settled : {r : Reading} (b : ℕ) (s : Stamp) → reading b s ≡ r → (r ≡ Err Outside → ⊥) → Proper s × (settle s.mark (local s - b) ≡ r)
 unfolding reading
 settled {r} b s e n = go (proper s) refl e
   where
-    go : (c : Bool) → proper s ≡ c → cond c (settle s.mark (local s - b)) Outside ≡ r → Proper s × (settle s.mark (local s - b) ≡ r)
+    go : (c : Bool) → proper s ≡ c → cond c (settle s.mark (local s - b)) (Err Outside) ≡ r → Proper s × (settle s.mark (local s - b) ≡ r)
     go true p q = (proper_is s p, q)
     go false p q = absurd (n (sym q))
 
-minute-in : {t : ℕ} → Minute t ≡ Outside → ⊥
+minute-in : {t : ℕ} → Ok t ≡ Err Outside → ⊥
 minute-in e = true≢false (cc)
 
 -- a mark that is accepted at w: the minute t is covered, and its stamp has that mark and shows w with the base offset put on
@@ -203,7 +202,7 @@ record Fits (m w t : ℕ) : Type 0 where
   covers : (first_minute ≤ t) × (t < end_minute)
   shows : (b : ℕ) → stamp b t ≡ stamp_at m (w + b)
 
-fits : (m w t : ℕ) → (m ≡ 1) ⊎ (m ≡ 2) → settle m w ≡ Minute t → Fits m w t
+fits : (m w t : ℕ) → (m ≡ 1) ⊎ (m ≡ 2) → settle m w ≡ Ok t → Fits m w t
 unfolding settle stamp
 fits m w t (inl e) q =
     let f = summer-of w t (cc) in
@@ -212,7 +211,7 @@ fits m w t (inl e) q =
     record { early = omega arith; covers = c; shows = λ b. let over : t + b + 60 ≡ w + b = omega arith in cc }
 fits m w t (inr e) q = let f = winter-of w t (cc) in let z = f.0 in record { early = omega arith; covers = covered-is t f.1; shows = λ b. cc }
 
-pub is-stamp : (b : ℕ) (s : Stamp) (t : ℕ) → (s.mark ≡ 1) ⊎ (s.mark ≡ 2) → reading b s ≡ Minute t → (first_minute ≤ t) × (t < end_minute) × (stamp b t ≡ s)
+pub is-stamp : (b : ℕ) (s : Stamp) (t : ℕ) → (s.mark ≡ 1) ⊎ (s.mark ≡ 2) → reading b s ≡ Ok t → (first_minute ≤ t) × (t < end_minute) × (stamp b t ≡ s)
 is-stamp b s t m e =
     let q = settled b s e minute-in in
     let f = fits s.mark (local s - b) t m q.1 in
@@ -222,7 +221,7 @@ is-stamp b s t m e =
     (c.0, c.1, f.shows b ∙ ap (stamp_at s.mark) over ∙ stamp-local q.0)
 
 -- so the marked stamps accepted are those of the minutes covered, each of one minute
-pub marked-exactly : (b : ℕ) (s : Stamp) (t : ℕ) → b ≤ 180 → (s.mark ≡ 1) ⊎ (s.mark ≡ 2) → (reading b s ≡ Minute t) ↔ ((first_minute ≤ t) × (t < end_minute) × (stamp b t ≡ s))
+pub marked-exactly : (b : ℕ) (s : Stamp) (t : ℕ) → b ≤ 180 → (s.mark ≡ 1) ⊎ (s.mark ≡ 2) → (reading b s ≡ Ok t) ↔ ((first_minute ≤ t) × (t < end_minute) × (stamp b t ≡ s))
 marked-exactly b s t small m = (is-stamp b s t m, λ q. ap (reading b) (sym q.2) ∙ (reads-back b t small q.0 q.1).reads)
 
 -- ---- law 3: the readings of one stamp with no mark, with that of summer and with that of winter
@@ -234,16 +233,16 @@ marks-agree b s = go (proper_date s.year s.month s.day && (ltb s.hour 24 && (ltb
     w : ℕ
     w = local s - b
 
-    go : (c : Bool) → Agree (cond c (unmarked w) Outside) (cond c (as_summer w) Outside) (cond c (as_winter w) Outside)
+    go : (c : Bool) → Agree (cond c (unmarked w) (Err Outside)) (cond c (as_summer w) (Err Outside)) (cond c (as_winter w) (Err Outside))
     go true = agree w
     go false = none
 
 -- an accepted stamp with no mark reads as with the one mark that is accepted
-pub one-mark : (b : ℕ) (s : Stamp) (t : ℕ) → s.mark ≡ 0 → reading b s ≡ Minute t
-    → ((reading b (marked 1 s) ≡ Minute t) × (reading b (marked 2 s) ≡ Outside)) ⊎ ((reading b (marked 1 s) ≡ Outside) × (reading b (marked 2 s) ≡ Minute t))
+pub one-mark : (b : ℕ) (s : Stamp) (t : ℕ) → s.mark ≡ 0 → reading b s ≡ Ok t
+    → ((reading b (marked 1 s) ≡ Ok t) × (reading b (marked 2 s) ≡ Err Outside)) ⊎ ((reading b (marked 1 s) ≡ Err Outside) × (reading b (marked 2 s) ≡ Ok t))
 one-mark b s t m e = go (marks-agree b s) (ap (λ (n : ℕ). reading b (marked n s)) (sym m) ∙ e)
   where
-    go : {x y z : Reading} → Agree x y z → x ≡ Minute t → ((y ≡ Minute t) × (z ≡ Outside)) ⊎ ((y ≡ Outside) × (z ≡ Minute t))
+    go : {x y z : Reading} → Agree x y z → x ≡ Ok t → ((y ≡ Ok t) × (z ≡ Err Outside)) ⊎ ((y ≡ Err Outside) × (z ≡ Ok t))
     go summer_alone q = inl (q, refl)
     go winter_alone q = inr (refl, q)
     go an_hour_apart q = let z : ◌≡◌ {A = ℕ} 0 1 = cc in absurd (omega arith)
@@ -277,25 +276,25 @@ unfolding sunday_minute
 late-switch m y = omega arith
 
 -- one law for both
-hour-exactly : (b : ℕ) (s : Stamp) {r : Reading} {switch : ℕ → ℕ} → s.mark ≡ 0 → (r ≡ Outside → ⊥) → ((n : ℕ) → 0 < switch n) → ((w : ℕ) → unmarked w ≡ r → Hour switch w)
+hour-exactly : (b : ℕ) (s : Stamp) {r : Reading} {switch : ℕ → ℕ} → s.mark ≡ 0 → (r ≡ Err Outside → ⊥) → ((n : ℕ) → 0 < switch n) → ((w : ℕ) → unmarked w ≡ r → Hour switch w)
     → ((w : ℕ) → Hour switch w → unmarked w ≡ r) → (reading b s ≡ r) ↔ (Proper s × LocalHour b switch (local s))
 hour-exactly b s {r} {switch} m n pos f g = (there, λ q. unmarked-reading b s m q.0 ∙ g (local s - b) (off-base q.1))
   where
     there : reading b s ≡ r → Proper s × LocalHour b switch (local s)
     there e = let p = (settled b s e n).0 in (p, on-base b (local s) pos (f (local s - b) (sym (unmarked-reading b s m p) ∙ e)))
 
-pub skipped-exactly : (b : ℕ) (s : Stamp) → s.mark ≡ 0 → (reading b s ≡ Skipped) ↔ (Proper s × LocalHour b spring (local s))
+pub skipped-exactly : (b : ℕ) (s : Stamp) → s.mark ≡ 0 → (reading b s ≡ Err Skipped) ↔ (Proper s × LocalHour b spring (local s))
 skipped-exactly b s m = hour-exactly b s m (λ e. true≢false (cc)) (late-switch 3) in-skipped skipped-in
 
-pub doubled-exactly : (b : ℕ) (s : Stamp) → s.mark ≡ 0 → (reading b s ≡ Doubled) ↔ (Proper s × LocalHour b autumn (local s))
+pub doubled-exactly : (b : ℕ) (s : Stamp) → s.mark ≡ 0 → (reading b s ≡ Err Doubled) ↔ (Proper s × LocalHour b autumn (local s))
 doubled-exactly b s m = hour-exactly b s m (λ e. true≢false (cc)) (late-switch 10) in-doubled doubled-in
 
 -- a marked stamp reads as a minute or is Outside, never Skipped or Doubled
 pub data Plain : Reading → Type 0 where
-  read : {t : ℕ} → Plain (Minute t)
-  refused : Plain Outside
+  read : {t : ℕ} → Plain (Ok t)
+  refused : Plain (Err Outside)
 
-plain : (c : Bool) (t : ℕ) → Plain (cond c (Minute t) Outside)
+plain : (c : Bool) (t : ℕ) → Plain (cond c (Ok t) (Err Outside))
 plain true t = read
 plain false t = refused
 
@@ -306,20 +305,20 @@ marked-plain b s m = go (proper s) m
     w : ℕ
     w = local s - b
 
-    go : (c : Bool) → (s.mark ≡ 1) ⊎ (s.mark ≡ 2) → Plain (cond c (settle s.mark w) Outside)
+    go : (c : Bool) → (s.mark ≡ 1) ⊎ (s.mark ≡ 2) → Plain (cond c (settle s.mark w) (Err Outside))
     go true (inl e) = subst (λ (n : ℕ). Plain (settle n w)) (sym e) (plain (covered (w - 60) && summer (w - 60)) (w - 60))
     go true (inr e) = subst (λ (n : ℕ). Plain (settle n w)) (sym e) (plain (covered w && not (summer w)) w)
     go false e = refused
 
 -- ---- what is read lies in the years covered, marked or not
 
-pub read-covered : (b : ℕ) (s : Stamp) (t : ℕ) → reading b s ≡ Minute t → (first_minute ≤ t) × (t < end_minute)
+pub read-covered : (b : ℕ) (s : Stamp) (t : ℕ) → reading b s ≡ Ok t → (first_minute ≤ t) × (t < end_minute)
 read-covered b s t e = go (which-mark (settled b s e minute-in).0)
   where
-    by-mark : (r : Stamp) → (r.mark ≡ 1) ⊎ (r.mark ≡ 2) → reading b r ≡ Minute t → (first_minute ≤ t) × (t < end_minute)
+    by-mark : (r : Stamp) → (r.mark ≡ 1) ⊎ (r.mark ≡ 2) → reading b r ≡ Ok t → (first_minute ≤ t) × (t < end_minute)
     by-mark r m e = let q = is-stamp b r t m e in (q.0, q.1)
 
-    either : ((reading b (marked 1 s) ≡ Minute t) × (reading b (marked 2 s) ≡ Outside)) ⊎ ((reading b (marked 1 s) ≡ Outside) × (reading b (marked 2 s) ≡ Minute t)) → (first_minute ≤ t) × (t < end_minute)
+    either : ((reading b (marked 1 s) ≡ Ok t) × (reading b (marked 2 s) ≡ Err Outside)) ⊎ ((reading b (marked 1 s) ≡ Err Outside) × (reading b (marked 2 s) ≡ Ok t)) → (first_minute ≤ t) × (t < end_minute)
     either (inl p) = by-mark (marked 1 s) (inl refl) p.0
     either (inr p) = by-mark (marked 2 s) (inr refl) p.1
 

@@ -1,5 +1,5 @@
 -- The refusals of a stamp, each exactly as document 02 lists it: for every stamp, with any mark, and any base offset.
-use Rattle.std.specs.Prelude.{◌≡◌, Bool, ◌⊎◌, ◌↔◌, ℕ, zero, suc, ◌-◌, ◌≤◌, eqb, leb}
+use Rattle.std.specs.Prelude.{◌≡◌, Bool, ◌⊎◌, ◌↔◌, ℕ, zero, suc, ◌-◌, ◌≤◌, eqb, leb, Err}
 use Rattle.std.proofs.Math.Path.{refl, sym}
 use Rattle.std.proofs.Common.{ap, subst, ◌∙◌, true≢false, inl, inr, arith, leb-true, leb-false}
 use Rattle.std.proofs.Math.Bool.{true, false, cond, and-false}
@@ -8,12 +8,11 @@ use Rattle.calendar.specs.Calendar.{thirty, month_days, first_day, days_before, 
 use Rattle.calendar.specs.Dates.{in-year}
 use Rattle.switches.specs.Switches.{spring, autumn}
 use Rattle.stamps.specs.declared.Stamp.{Stamp}
-use Rattle.stamps.specs.declared.Reading.{Reading}
-use Rattle.stamps.specs.declared.Reading.TheVariants.{Outside, Skipped, Doubled}
-use Rattle.stamps.specs.Stamps.{last_day, covered, year, summer, proper, local, as_summer, as_winter, unmarked, settle, reading}
+use Rattle.stamps.specs.Stamps.{Reading, last_day, covered, year, summer, proper, local, as_summer, as_winter, unmarked, settle, reading}
 use Rattle.stamps.specs.Minutes.{next-year, year-mono, first-2106, covered-years}
 use Rattle.stamps.specs.Settled.{unmarked-left}
 use Rattle.stamps.specs.Laws.{ProperDate, Proper, which-mark, settled, proper_is, proper-yes, proper-reading, LocalHour, skipped-exactly, doubled-exactly, Plain, refused, marked-plain}
+use Rattle.stamps.specs.declared.Refusal.TheVariants.{Outside, Skipped, Doubled}
 
 -- ---- the dates that a stamp may have, 1 January 2002 to 1 January 2106
 
@@ -56,11 +55,11 @@ pub data Listed (b : ℕ) (s : Stamp) : Type 0 where
   winter_in_summer : Proper s → s.mark ≡ 2 → summer (given b s) ≡ true → Listed b s
 
 module _ (b : ℕ) (s : Stamp) where
-  there : Proper s → reading b s ≡ Outside → Listed b s
+  there : Proper s → reading b s ≡ Err Outside → Listed b s
   unfolding given settle as_summer as_winter
   there p q = by-year (covered (given b s)) refl
     where
-      out : settle s.mark (local s - b) ≡ Outside
+      out : settle s.mark (local s - b) ≡ Err Outside
       out = sym (proper-reading b p) ∙ q
 
       by-season : covered (given b s) ≡ true → (s.mark ≡ 0) ⊎ ((s.mark ≡ 1) ⊎ (s.mark ≡ 2)) → (c : Bool) → summer (given b s) ≡ c → Listed b s
@@ -74,16 +73,16 @@ module _ (b : ℕ) (s : Stamp) where
       by-year true k = by-season k (which-mark p) (summer (given b s)) refl
       by-year false k = leaves p (λ y. true≢false (cc ((covered-years (given b s)).1 y)))
 
-  back : Listed b s → reading b s ≡ Outside
+  back : Listed b s → reading b s ≡ Err Outside
   unfolding given reading settle as_summer as_winter unmarked
   back (improper n) = go (proper s) refl
     where
-      go : (c : Bool) → proper s ≡ c → cond c (settle s.mark (local s - b)) Outside ≡ Outside
+      go : (c : Bool) → proper s ≡ c → cond c (settle s.mark (local s - b)) (Err Outside) ≡ Err Outside
       go true e = absurd (n (proper_is s e))
       go false e = refl
   back (leaves p n) = proper-reading b p ∙ go (covered (given b s)) refl (which-mark p)
     where
-      go : (c : Bool) → covered (given b s) ≡ c → (s.mark ≡ 0) ⊎ ((s.mark ≡ 1) ⊎ (s.mark ≡ 2)) → settle s.mark (local s - b) ≡ Outside
+      go : (c : Bool) → covered (given b s) ≡ c → (s.mark ≡ 0) ⊎ ((s.mark ≡ 1) ⊎ (s.mark ≡ 2)) → settle s.mark (local s - b) ≡ Err Outside
       go true k m = absurd (n ((covered-years (given b s)).0 k))
       go false k (inl m) = cc
       go false k (inr (inl m)) = cc
@@ -91,10 +90,10 @@ module _ (b : ℕ) (s : Stamp) where
   back (summer_in_winter p m e) = cc (proper-yes p, and-false (covered (local s - b - 60)))
   back (winter_in_summer p m e) = cc (proper-yes p, and-false (covered (local s - b)))
 
-pub outside-exactly : (b : ℕ) (s : Stamp) → (reading b s ≡ Outside) ↔ Listed b s
+pub outside-exactly : (b : ℕ) (s : Stamp) → (reading b s ≡ Err Outside) ↔ Listed b s
 outside-exactly b s = (go (proper s) refl, back b s)
   where
-    go : (c : Bool) → proper s ≡ c → reading b s ≡ Outside → Listed b s
+    go : (c : Bool) → proper s ≡ c → reading b s ≡ Err Outside → Listed b s
     go true e q = there b s (proper_is s e) q
     go false e q = improper (λ p. true≢false (cc (proper-yes p)))
 
@@ -109,8 +108,8 @@ any-mark b s {r} {switch} n f = (λ e. go e (which-mark (settled b s e (λ q. n 
     go e (inl m) = let q = (f m).0 e in (m, q.0, q.1)
     go e (inr m) = absurd (n (subst Plain e (marked-plain b s m)))
 
-pub skipped-any : (b : ℕ) (s : Stamp) → (reading b s ≡ Skipped) ↔ ((s.mark ≡ 0) × Proper s × LocalHour b spring (local s))
+pub skipped-any : (b : ℕ) (s : Stamp) → (reading b s ≡ Err Skipped) ↔ ((s.mark ≡ 0) × Proper s × LocalHour b spring (local s))
 skipped-any b s = any-mark b s (elim [ ]) (skipped-exactly b s)
 
-pub doubled-any : (b : ℕ) (s : Stamp) → (reading b s ≡ Doubled) ↔ ((s.mark ≡ 0) × Proper s × LocalHour b autumn (local s))
+pub doubled-any : (b : ℕ) (s : Stamp) → (reading b s ≡ Err Doubled) ↔ ((s.mark ≡ 0) × Proper s × LocalHour b autumn (local s))
 doubled-any b s = any-mark b s (elim [ ]) (doubled-exactly b s)

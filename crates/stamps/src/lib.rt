@@ -6,7 +6,7 @@
 
 ghost use Rattle.std.specs.Prelude.{◌≡◌, true, ◌≤◌, ◌<◌};
 ghost use Rattle.switches.specs.Switches.{spring, autumn};
-ghost use Rattle.stamps.specs.Stamps.{covered, year, summer, stamp_at, stamp, within, proper_date, proper, local, as_summer, as_winter, unmarked, settle, reading, number};
+ghost use Rattle.stamps.specs.Stamps.{covered, year, summer, stamp_at, stamp, within, proper_date, proper, local, as_summer, as_winter, unmarked, settle, reading, refusal_number, number};
 
 use switches::Switches;
 
@@ -17,27 +17,41 @@ pub struct Stamp {
     pub day: u32,
     pub hour: u32,
     pub minute: u32,
+    // A number as the caller has it, and no enum, since one past 2 is refused too (specs/Refused).
     pub mark: u32,
 }
 
-// What a stamp reads as: a UTC minute, or why it is refused.
-#[derive(Clone, Copy)]
-pub enum Reading {
-    Minute(u32),
+// Why a stamp is refused.
+#[derive(Clone, Copy, PartialEq, Eq, Debug)]
+pub enum Refusal {
     Outside,
     Skipped,
     Doubled,
 }
 
+impl Refusal {
+    // Its number in document 02.
+    fn number(self) -> u32
+        ensures { result ≡ refusal_number self }
+    {
+        match self {
+            Refusal::Outside => 18,
+            Refusal::Skipped => 19,
+            Refusal::Doubled => 20,
+        }
+    }
+}
+
+// What a stamp reads as: a UTC minute, or why it is refused.
+pub type Reading = Result<u32, Refusal>;
+
 // ---- the season of a UTC minute
 
+#[tactic(auto, unfolding(crate::specs::Stamps::covered))]
 pub fn covers(t: u32) -> bool
     ensures { result ≡ covered t }
 {
-    if t < 16830720 {
-        return false;
-    }
-    t < 71529120
+    16830720 <= t && t < 71529120
 }
 
 // The switches of a minute's year.
@@ -49,20 +63,19 @@ fn switches_at(t: u32) -> Switches
     switches::switches_of(p.at)
 }
 
+#[tactic(auto, unfolding(crate::specs::Stamps::summer))]
 fn is_summer(t: u32) -> bool
     requires { covered t ≡ true }
     ensures { result ≡ summer t }
 {
     let s = switches_at(t);
-    if t < s.spring {
-        return false;
-    }
-    t < s.autumn
+    s.spring <= t && t < s.autumn
 }
 
 // ---- the stamp of a UTC minute
 
 // The stamp of a local minute.
+#[tactic(auto, unfolding(crate::specs::Stamps::stamp_at, crate::specs::Stamps::stamped))]
 fn stamp_at(mark: u32, l: u32) -> Stamp
     requires { l < 72054720 }
     ensures { result ≡ stamp_at mark l }
@@ -75,62 +88,42 @@ fn stamp_at(mark: u32, l: u32) -> Stamp
         day: d.day,
         hour: r / 60,
         minute: r % 60,
-        mark: mark,
+        mark,
     }
 }
 
+#[tactic(auto, unfolding(crate::specs::Stamps::stamp))]
 pub fn stamp_of(base: u32, t: u32) -> Stamp
     requires { (base ≤ 180) × (covered t ≡ true) }
     ensures { result ≡ stamp base t }
 {
     if is_summer(t) {
-        return stamp_at(1, t + base + 60);
+        stamp_at(1, t + base + 60)
+    } else {
+        stamp_at(2, t + base)
     }
-    stamp_at(2, t + base)
 }
 
 // ---- the reading of a stamp
 
-fn is_within(from: u32, x: u32, upto: u32) -> bool
-    ensures { result ≡ within from x upto }
-{
-    if x < from {
-        return false;
-    }
-    x <= upto
-}
-
+#[tactic(auto, unfolding(crate::specs::Stamps::proper_date, crate::specs::Stamps::within))]
 fn date_is_proper(year: u32, month: u32, day: u32) -> bool
     ensures { result ≡ proper_date year month day }
 {
-    if !is_within(2002, year, 2106) {
-        return false;
-    }
-    if !is_within(1, month, 12) {
-        return false;
-    }
-    let days = calendar::month_days(year, month);
-    if !is_within(1, day, days) {
-        return false;
-    }
-    calendar::day_number(year, month, day) <= 49673
+    (2002..=2106).contains(&year)
+        && (1..=12).contains(&month)
+        && (1..=calendar::month_days(year, month)).contains(&day)
+        && calendar::day_number(year, month, day) <= 49673
 }
 
+#[tactic(auto, unfolding(crate::specs::Stamps::proper))]
 fn is_proper(s: Stamp) -> bool
     ensures { result ≡ proper s }
 {
-    if !date_is_proper(s.year, s.month, s.day) {
-        return false;
-    }
-    if 24 <= s.hour {
-        return false;
-    }
-    if 60 <= s.minute {
-        return false;
-    }
-    s.mark < 3
+    date_is_proper(s.year, s.month, s.day) && s.hour < 24 && s.minute < 60 && s.mark < 3
 }
 
+#[tactic(auto, unfolding(crate::specs::Stamps::local))]
 fn local_minute(s: Stamp) -> u32
     requires { proper s ≡ true }
     ensures { result ≡ local s }
@@ -140,76 +133,71 @@ fn local_minute(s: Stamp) -> u32
 }
 
 // The readings of a local minute less the base offset.
+#[tactic(auto, unfolding(crate::specs::Stamps::as_summer))]
 fn as_summer(w: u32) -> Reading
     requires { 60 ≤ w }
     ensures { result ≡ as_summer w }
 {
     let t = w - 60;
-    if !covers(t) {
-        return Reading::Outside;
+    if covers(t) && is_summer(t) {
+        Ok(t)
+    } else {
+        Err(Refusal::Outside)
     }
-    if is_summer(t) {
-        return Reading::Minute(t);
-    }
-    Reading::Outside
 }
 
+#[tactic(auto, unfolding(crate::specs::Stamps::as_winter))]
 fn as_winter(w: u32) -> Reading
     ensures { result ≡ as_winter w }
 {
-    if !covers(w) {
-        return Reading::Outside;
+    if covers(w) && !is_summer(w) {
+        Ok(w)
+    } else {
+        Err(Refusal::Outside)
     }
-    if is_summer(w) {
-        return Reading::Outside;
-    }
-    Reading::Minute(w)
 }
 
 fn as_unmarked(w: u32) -> Reading
     ensures { result ≡ unmarked w }
 {
     if !covers(w) {
-        return Reading::Outside;
+        return Err(Refusal::Outside);
     }
     let s = switches_at(w);
     if w < s.spring {
-        return Reading::Minute(w);
+        Ok(w)
+    } else if w - s.spring < 60 {
+        Err(Refusal::Skipped)
+    } else if w < s.autumn {
+        Ok(w - 60)
+    } else if w - s.autumn < 60 {
+        Err(Refusal::Doubled)
+    } else {
+        Ok(w)
     }
-    if w - s.spring < 60 {
-        return Reading::Skipped;
-    }
-    if w < s.autumn {
-        return Reading::Minute(w - 60);
-    }
-    if w - s.autumn < 60 {
-        return Reading::Doubled;
-    }
-    Reading::Minute(w)
 }
 
+#[tactic(auto, unfolding(crate::specs::Stamps::settle))]
 fn settle_minute(mark: u32, w: u32) -> Reading
     requires { 60 ≤ w }
     ensures { result ≡ settle mark w }
 {
-    if mark == 1 {
-        return as_summer(w);
+    match mark {
+        1 => as_summer(w),
+        2 => as_winter(w),
+        _ => as_unmarked(w),
     }
-    if mark == 2 {
-        return as_winter(w);
-    }
-    as_unmarked(w)
 }
 
+#[tactic(auto, unfolding(crate::specs::Stamps::reading))]
 pub fn read(base: u32, s: Stamp) -> Reading
     requires { base ≤ 180 }
     ensures { result ≡ reading base s }
 {
     if !is_proper(s) {
-        return Reading::Outside;
+        return Err(Refusal::Outside);
     }
-    let l = local_minute(s);
-    settle_minute(s.mark, l - base)
+    settle_minute(s.mark, local_minute(s) - base)
 }
 
 // The number of a reading, as document 02 has it.
@@ -217,9 +205,7 @@ pub fn number_of(r: Reading) -> u32
     ensures { result ≡ number r }
 {
     match r {
-        Reading::Minute(t) => t,
-        Reading::Outside => 18,
-        Reading::Skipped => 19,
-        Reading::Doubled => 20,
+        Ok(t) => t,
+        Err(refusal) => refusal.number(),
     }
 }

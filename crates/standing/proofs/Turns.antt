@@ -48,12 +48,13 @@ module _ {whole : ℕ} {s : List ℕ} {m r key i : ℕ} where
   unfolding descend_from
   sink-past {more} g h ne e = (simp (ne_eqb i 0 ne, lt-leb i r e) at (ap (descend_from s m r key i) (sym (one_less more h)))) ∙ g.is
 
-  pub sink-more : {more : ℕ} {n : Node} {j : ℕ} → Sinking whole s m r key i more → 0 < more → (i ≡ 0 → ⊥) → i ≤ r → n ≡ node_at s m i → j ≡ son_on n key
-      → Sinking whole s m r key j (more - 1)
+  pub sink-more : {more more' : ℕ} {n : Node} {j : ℕ} → Sinking whole s m r key i more → 0 < more → (i ≡ 0 → ⊥) → i ≤ r → n ≡ node_at s m i → j ≡ son_on n key
+      → more' ≡ more - 1 → Sinking whole s m r key j more'
   unfolding descend_from
-  sink-more {more} {n} {j} g h ne e q z =
+  sink-more {more} {more'} {n} {j} g h ne e q z l =
       record {
-        is = ap (λ (x : ℕ). descend_from s m r key x (more - 1)) (z ∙ ap (λ (x : Node). son_on x key) q)
+        is = ap (descend_from s m r key j) l
+            ∙ ap (λ (x : ℕ). descend_from s m r key x (more - 1)) (z ∙ ap (λ (x : Node). son_on x key) q)
             ∙ ((simp (ne_eqb i 0 ne, le-leb i r e) at (ap (descend_from s m r key i) (sym (one_less more h)))) ∙ g.is);
       }
 

@@ -3,17 +3,18 @@
 // A party at a node has its latch (document 01's short lock) there, and the node is on the path to its key, at its level, and has room
 // for what its next step may do. An insert or remove past its start holds its entry. What a request pins (document 01: seizes) are
 // the descriptors of its keys; each pin is counted, so that the crate holdings can compare the counts. Each function's result, and the
-// counts it leaves, EQUAL a definition of specs/Standing. It rests on the crates words, nodes, groups, locks, sessions, marks and requests.
+// counts it leaves, EQUAL a definition of specs/Standing. It rests on the crates words, kinds, nodes, groups, locks, sessions, marks and requests.
 #![tactic(auto)]
 
 ghost use Rattle.std.specs.Prelude.{◌≡◌, ◌<◌, length};
 ghost use Rattle.sessions.specs.Sessions.{parties};
-ghost use Rattle.marks.specs.Marks.{HasRecords};
 ghost use Rattle.marks.specs.Trail.{Turned};
 ghost use Rattle.standing.specs.Standing.{son_on, descend_from, may_stand, descent_ok, latch_ok, is_stored, one_more_of, pins_in, change_stands, locate_stands, tidy_stands, stands_at, party_ok};
 
+use kinds::Record;
+use marks::{Mark, Records};
 use nodes::Node;
-use sessions::Session;
+use sessions::{Code, Session, Stage};
 
 // ---- descents and latches
 
@@ -28,27 +29,25 @@ fn son_on(n: Node, key: u32) -> usize
     if 8 < n.count {
         return 0;
     }
-    let k = nodes::find_son(n, key);
+    let k = n.find_son(key);
     sons[k] as usize
 }
 
-// The record so many levels below record i on the path to a key; 0 where a record on it is none of the store's.
-fn descend(store: &[u32], m: usize, r: usize, i: usize, levels: usize, key: u32) -> usize
-    requires { HasRecords store.now m r }
-    ensures { result ≡ descend_from store.now m r key i levels }
+// The record so many levels below record i on the path to a key; 0, by which a store names no record, where one on it is none of the store's.
+fn descend(records: Records, i: usize, levels: usize, key: u32) -> usize
+    ensures { result ≡ descend_from records.entry.store.now records.entry.m records.entry.r key i levels }
 {
+    let Records { store, m, r } = records;
     let mut at = i;
-    let mut more = levels;
-    while 0 < more {
+    for _level in 0..levels {
         if at == 0 {
             return 0;
         }
         if r < at {
             return 0;
         }
-        let n = nodes::load_node(store, m, at);
+        let n = Node::load(store, m, at);
         at = son_on(n, key);
-        more -= 1;
     }
     at
 }
@@ -74,10 +73,11 @@ fn may_stand(p: usize, n: Node, level: usize, height: usize) -> bool
 }
 
 // The party's node is on the path to its target, at its level, and has its latch.
-fn descent_ok(store: &[u32], m: usize, r: usize, p: usize, s: Session) -> bool
-    requires { HasRecords store.now m r × (p < parties) }
-    ensures { result ≡ descent_ok store.now m r p s }
+fn descent_ok(records: Records, p: usize, s: Session) -> bool
+    requires { p < parties }
+    ensures { result ≡ descent_ok records.entry.store.now records.entry.m records.entry.r p s }
 {
+    let Records { store, m, r } = records;
     let root = words::root(store) as usize;
     let height = words::height(store) as usize;
     let level = s.level as usize;
@@ -88,7 +88,7 @@ fn descent_ok(store: &[u32], m: usize, r: usize, p: usize, s: Session) -> bool
         return false;
     }
     let key = s.target;
-    let i = descend(store, m, r, root, height - level, key);
+    let i = descend(records, root, height - level, key);
     let at = s.at as usize;
     if i != at {
         return false;
@@ -99,7 +99,7 @@ fn descent_ok(store: &[u32], m: usize, r: usize, p: usize, s: Session) -> bool
     if r < i {
         return false;
     }
-    let n = nodes::load_node(store, m, i);
+    let n = Node::load(store, m, i);
     let latch = n.latch as usize;
     if latch != p + 1 {
         return false;
@@ -108,26 +108,26 @@ fn descent_ok(store: &[u32], m: usize, r: usize, p: usize, s: Session) -> bool
 }
 
 // A party at a node has its latch there; any other has none.
-fn latch_ok(store: &[u32], m: usize, r: usize, p: usize, s: Session) -> bool
-    requires { HasRecords store.now m r × (p < parties) }
-    ensures { result ≡ latch_ok store.now m r p s }
+fn latch_ok(records: Records, p: usize, s: Session) -> bool
+    requires { p < parties }
+    ensures { result ≡ latch_ok records.entry.store.now records.entry.m records.entry.r p s }
 {
-    if s.stage != 3 {
+    if s.stage != Stage::AtNode as u32 {
         return true;
     }
-    descent_ok(store, m, r, p, s)
+    descent_ok(records, p, s)
 }
 
 // ---- keys and pins
 
 // The key is stored: the path to it ends at its descriptor.
-fn is_stored(store: &[u32], m: usize, r: usize, key: u32) -> bool
-    requires { HasRecords store.now m r }
-    ensures { result ≡ is_stored store.now m r key }
+fn is_stored(records: Records, key: u32) -> bool
+    ensures { result ≡ is_stored records.entry.store.now records.entry.m records.entry.r key }
 {
+    let Records { store, m, r } = records;
     let root = words::root(store) as usize;
     let height = words::height(store) as usize;
-    let i = descend(store, m, r, root, height, key);
+    let i = descend(records, root, height, key);
     if i == 0 {
         return false;
     }
@@ -149,19 +149,12 @@ fn one_more(x: u8) -> u8
 }
 
 // Record i is the descriptor of the key; its pin is counted.
-fn count_pin(
-    store: &[u32],
-    seen: &[u8],
-    tally: &mut [u8],
-    m: usize,
-    r: usize,
-    i: usize,
-    key: u32,
-) -> bool
-    requires { HasRecords store.now m r × (r < length seen.now) × (r < length tally.old) }
-    ensures { Turned (pins_in store.now seen.now m r i key tally.old) result tally.new }
+fn count_pin(records: Records, seen: &[u8], tally: &mut [u8], i: usize, key: u32) -> bool
+    requires { (records.r < length seen.now) × (records.r < length tally.old) }
+    ensures { Turned (pins_in records.entry.store.now seen.now records.entry.m records.entry.r i key tally.old) result tally.new }
 {
-    if !marks::is_met(seen, r, i, marks::DESCRIPTOR) {
+    let Records { store, m, r } = records;
+    if !Mark::Descriptor.is_met(seen, r, i) {
         return false;
     }
     let found = groups::descriptor_key(store, m, i);
@@ -176,19 +169,12 @@ fn count_pin(
 // ---- requests
 
 // An insert or remove past its start has its entry's exclusive lock, and at its change has pinned its group.
-fn change_stands(
-    store: &[u32],
-    seen: &[u8],
-    tally: &mut [u8],
-    m: usize,
-    r: usize,
-    p: usize,
-    s: Session,
-) -> bool
-    requires { HasRecords store.now m r × (r < length seen.now) × (r < length tally.old) × (p < parties) }
-    ensures { Turned (change_stands store.now seen.now m r p s tally.old) result tally.new }
+fn change_stands(records: Records, seen: &[u8], tally: &mut [u8], p: usize, s: Session) -> bool
+    requires { (records.r < length seen.now) × (records.r < length tally.old) × (p < parties) }
+    ensures { Turned (change_stands records.entry.store.now seen.now records.entry.m records.entry.r p s tally.old) result tally.new }
 {
-    if s.stage == 1 {
+    let Records { store, m, .. } = records;
+    if s.stage == Stage::Start as u32 {
         return true;
     }
     if p == 0 {
@@ -204,35 +190,28 @@ fn change_stands(
     if !locks::holds_session(exclusive, session) {
         return false;
     }
-    if s.stage != 4 {
+    if s.stage != Stage::Change as u32 {
         return true;
     }
     let low = s.low as usize;
     let key = s.first;
-    count_pin(store, seen, tally, m, r, low, key)
+    count_pin(records, seen, tally, low, key)
 }
 
 // A locate that takes has pinned both ends, and on its second descent the first.
-fn locate_stands(
-    store: &[u32],
-    seen: &[u8],
-    tally: &mut [u8],
-    m: usize,
-    r: usize,
-    s: Session,
-) -> bool
-    requires { HasRecords store.now m r × (r < length seen.now) × (r < length tally.old) }
-    ensures { Turned (locate_stands store.now seen.now m r s tally.old) result tally.new }
+fn locate_stands(records: Records, seen: &[u8], tally: &mut [u8], s: Session) -> bool
+    requires { (records.r < length seen.now) × (records.r < length tally.old) }
+    ensures { Turned (locate_stands records.entry.store.now seen.now records.entry.m records.entry.r s tally.old) result tally.new }
 {
     let low = s.low as usize;
     let first = s.first;
-    if s.stage != 5 {
+    if s.stage != Stage::Take as u32 {
         if s.target == s.first {
             return true;
         }
-        return count_pin(store, seen, tally, m, r, low, first);
+        return count_pin(records, seen, tally, low, first);
     }
-    if !count_pin(store, seen, tally, m, r, low, first) {
+    if !count_pin(records, seen, tally, low, first) {
         return false;
     }
     if s.first == s.second {
@@ -240,67 +219,51 @@ fn locate_stands(
     }
     let high = s.high as usize;
     let second = s.second;
-    count_pin(store, seen, tally, m, r, high, second)
+    count_pin(records, seen, tally, high, second)
 }
 
 // A tidy on its way has a stored choice.
-fn tidy_stands(store: &[u32], m: usize, r: usize, s: Session) -> bool
-    requires { HasRecords store.now m r }
-    ensures { result ≡ tidy_stands store.now m r s }
+fn tidy_stands(records: Records, s: Session) -> bool
+    ensures { result ≡ tidy_stands records.entry.store.now records.entry.m records.entry.r s }
 {
-    if s.stage == 1 {
+    if s.stage == Stage::Start as u32 {
         return true;
     }
     let key = s.target;
-    is_stored(store, m, r, key)
+    is_stored(records, key)
 }
 
 // A request in hand stands where its own steps can bring it.
-fn stands(
-    store: &[u32],
-    seen: &[u8],
-    tally: &mut [u8],
-    m: usize,
-    r: usize,
-    p: usize,
-    s: Session,
-) -> bool
-    requires { HasRecords store.now m r × (r < length seen.now) × (r < length tally.old) × (p < parties) }
-    ensures { Turned (stands_at store.now seen.now m r p s tally.old) result tally.new }
+fn stands(records: Records, seen: &[u8], tally: &mut [u8], p: usize, s: Session) -> bool
+    requires { (records.r < length seen.now) × (records.r < length tally.old) × (p < parties) }
+    ensures { Turned (stands_at records.entry.store.now seen.now records.entry.m records.entry.r p s tally.old) result tally.new }
 {
-    if !latch_ok(store, m, r, p, s) {
+    if !latch_ok(records, p, s) {
         return false;
     }
-    if s.code <= 2 {
+    if s.code <= Code::Write as u32 {
         return true;
     }
-    if s.code <= 4 {
-        return change_stands(store, seen, tally, m, r, p, s);
+    if s.code <= Code::Remove as u32 {
+        return change_stands(records, seen, tally, p, s);
     }
-    if s.code == 5 {
-        return locate_stands(store, seen, tally, m, r, s);
+    if s.code == Code::Locate as u32 {
+        return locate_stands(records, seen, tally, s);
     }
-    tidy_stands(store, m, r, s)
+    tidy_stands(records, s)
 }
 
 // Party p: its request, if it has one, passes put's checks and stands where its steps can bring it.
-pub fn party_ok(
-    store: &[u32],
-    seen: &[u8],
-    tally: &mut [u8],
-    m: usize,
-    r: usize,
-    p: usize,
-    s: Session,
-) -> bool
-    requires { HasRecords store.now m r × (r < length seen.now) × (r < length tally.old) × (p < parties) }
-    ensures { Turned (party_ok store.now seen.now m r p s tally.old) result tally.new }
+pub fn party_ok(records: Records, seen: &[u8], tally: &mut [u8], p: usize, s: Session) -> bool
+    requires { (records.r < length seen.now) × (records.r < length tally.old) × (p < parties) }
+    ensures { Turned (party_ok records.entry.store.now seen.now records.entry.m records.entry.r p s tally.old) result tally.new }
 {
+    let Records { m, .. } = records;
     if !requests::request_ok(p, s, m) {
         return false;
     }
-    if s.stage == 0 {
+    if s.stage == Stage::Idle as u32 {
         return true;
     }
-    stands(store, seen, tally, m, r, p, s)
+    stands(records, seen, tally, p, s)
 }

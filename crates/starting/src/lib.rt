@@ -12,8 +12,8 @@ ghost use Rattle.std.specs.Prelude.{◌≡◌, ◌<◌};
 ghost use Rattle.outcomes.specs.Said.{moved};
 ghost use Rattle.starting.specs.Starting.{entry_blocker, shared_words, read_done_of, read_step, excluded_words, write_done_of, write_free, write_step_of, to_first, entry_done_of, entry_step, none_chosen, first_step_of, EntryReady, LogReady, WriteReady, FirstReady};
 
-use outcomes::{Answer, Moved};
-use sessions::Session;
+use outcomes::{Answer, Moved, Refusal};
+use sessions::{Session, Stage};
 
 // ---- what every first step shares
 
@@ -97,7 +97,7 @@ fn write_free(store: &mut [u32], m: usize, p: u32, x: Session) -> Moved
 {
     if words::free(store) == 0 {
         return Moved {
-            answer: Answer::Refused(11, 0),
+            answer: Answer::Refused(Refusal::Full as u32, 0),
             session: endings::idle_session(x),
         };
     }
@@ -125,7 +125,7 @@ pub fn write_step(store: &mut [u32], m: usize, p: u32, x: Session) -> Moved
 fn first_session(mut x: Session) -> Session
     ensures { result ≡ to_first x }
 {
-    x.stage = 2;
+    x.stage = Stage::EnterRoot as u32;
     x.target = x.first;
     x
 }

@@ -21,7 +21,7 @@ ghost use Rattle.members.specs.Members.{Holdable};
 ghost use Rattle.taking.specs.Taking.{over};
 
 use outcomes::{Answer, Moved, Served};
-use sessions::{PARTIES, Session};
+use sessions::{Code, PARTIES, Session, Stage};
 
 // At a node: the lowest, or one above it.
 fn node_step(store: &mut [u32], m: usize, r: usize, p: u32, x: Session) -> Moved
@@ -39,13 +39,13 @@ pub fn early_step(store: &mut [u32], m: usize, r: usize, p: u32, x: Session) -> 
     requires { EarlyReady store.old m r p x }
     ensures { Leaves store.new result (early_step store.old m r p x) }
 {
-    if x.stage == 1 {
+    if x.stage == Stage::Start as u32 {
         return starting::first_step(store, m, p, x);
     }
-    if x.stage == 2 {
+    if x.stage == Stage::EnterRoot as u32 {
         return root_entry::enter_step(store, m, p, x);
     }
-    if x.stage == 3 {
+    if x.stage == Stage::AtNode as u32 {
         return node_step(store, m, r, p, x);
     }
     changing::change_step(store, m, r, p, x)
@@ -56,7 +56,7 @@ fn stage_step(store: &mut [u32], list: &mut [u32], m: usize, r: usize, p: u32, x
     requires { StageReady store.old m r p x }
     ensures { LeavesBoth store.new result list.new (stage_step store.old m r (length list.old) p x) (over (stage_written store.old m r (length list.old) p x) list.old) }
 {
-    if x.stage == 5 {
+    if x.stage == Stage::Take as u32 {
         return taking::take_step(store, list, m, r, p, x);
     }
     early_step(store, m, r, p, x)
@@ -90,10 +90,10 @@ fn first_conflicts(store: &[u32], p: u32, x: Session) -> u32
     ensures { result ≡ first_conflicts store.now p x }
 {
     let e = x.entry as usize;
-    if x.code == 1 {
+    if x.code == Code::Read as u32 {
         return entry_conflicts(store, e, 0, p);
     }
-    if x.code <= 4 {
+    if x.code <= Code::Remove as u32 {
         return entry_conflicts(store, e, 1, p);
     }
     0
@@ -104,11 +104,11 @@ fn conflict_word(store: &[u32], m: usize, r: usize, p: u32, x: Session) -> u32
     requires { StageReady store.now m r p x × ¬ (x.stage ≡ 2) × ¬ (x.stage ≡ 3) }
     ensures { result ≡ conflict_word store.now m r p x }
 {
-    if x.stage == 5 {
+    if x.stage == Stage::Take as u32 {
         let d = taking::next_taken(store, m, r, x);
         return group_conflicts(store, m, d, 0, p);
     }
-    if x.stage == 1 {
+    if x.stage == Stage::Start as u32 {
         return first_conflicts(store, p, x);
     }
     let low = x.low as usize;
@@ -128,10 +128,10 @@ fn named_by(
     requires { StageReady store.now m r p x }
     ensures { result ≡ named_by store.now m r t p x q }
 {
-    if x.stage == 2 {
+    if x.stage == Stage::EnterRoot as u32 {
         return q;
     }
-    if x.stage == 3 {
+    if x.stage == Stage::AtNode as u32 {
         return q;
     }
     let word = conflict_word(store, m, r, p, x);

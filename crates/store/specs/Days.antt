@@ -1,6 +1,6 @@
 -- What a day call promises over a lent table: a table that is not of 17 records is refused, and nothing is changed; else what the day call by value promises,
 -- which changes no session record but its party's. And how far its places go.
-use Rattle.std.specs.Prelude.{◌≡◌, Bool, true, false, cond, List, [], ℕ, ◌≤◌, length, set}
+use Rattle.std.specs.Prelude.{◌≡◌, Bool, true, false, cond, List, [], ℕ, ◌≤◌, length}
 use Rattle.std.proofs.Common.{sym, ap, subst, arith}
 use Rattle.std.proofs.Math.Decide.{ℕ_discrete}
 use Rattle.sessions.specs.declared.Session.{Session}
@@ -16,9 +16,9 @@ use Rattle.promises.specs.Relations.{Others, Calls}
 use Rattle.promises.specs.Ways.{Serves}
 use Rattle.day_calls.specs.Calling.{Handed, handed, named, day_refusal, ordinary, Days}
 use Rattle.day_calls.specs.Places.{day-few-place}
-use Rattle.seats.specs.declared.DaySeat.{DaySeat}
+use Rattle.seats.specs.declared.Seat.{Seat}
 use Rattle.store.specs.declared.DayAsk.{DayAsk}
-use Rattle.store.specs.OneRecord.{Apart, one_set}
+use Rattle.store.specs.OneRecord.{seated, Apart, one_set}
 
 -- What a day call does: store and table as they were, the bytes, the argument, the answer, store and table as they are left.
 abbrev pub DayEffect : Type 1
@@ -36,10 +36,6 @@ abbrev pub DayOnTable : DayEffect → DayEffect
 DayOnTable E s t bytes k a s' t' = (length t ≡ parties → E s t bytes k a s' t') × (¬ (length t ≡ parties) → (a ≡ Refused 1 0) × (s' ≡ s) × (t' ≡ t))
 
 -- ---- one record
-
--- The table t with the one record that a day call leaves.
-abbrev pub day_seated : List Session → DaySeat → List Session
-day_seated t r = set t r.party r.session
 
 -- The ordinary call that it is: a call of its party.
 others_apart : (t u : List Session) (p : ℕ) (h : Handed) → Others (ordinary t p h) t u → Apart p t u
@@ -59,10 +55,10 @@ sound-apart p h s t a s' u d S = go (ℕ_discrete (day_refusal s t p h) 0)
         (subst (λ (v : List Session). Sound s' v) (sym R.table_same) (subst (λ (w : List ℕ). Sound w t) (sym R.store_same) S), λ q z. ap (λ (v : List Session). session_at v q) R.table_same)
 
 -- A day call keeps its promise where only its party's record is stored back.
-pub day-kept : (k : DayAsk) (s : List ℕ) (t : List Session) (bytes : List ℕ) (a : DayAnswer) (s' : List ℕ) (u : List Session) (r : DaySeat) → Table t
-    → r ≡ record { party = k.party; session = session_at u k.party; answer = a } → DayBy s t bytes k a s' u → DayBy s t bytes k r.answer s' (day_seated t r)
+pub day-kept : (k : DayAsk) (s : List ℕ) (t : List Session) (bytes : List ℕ) (a : DayAnswer) (s' : List ℕ) (u : List Session) (r : Seat DayAnswer) → Table t
+    → r ≡ record { party = k.party; session = session_at u k.party; answer = a } → DayBy s t bytes k a s' u → DayBy s t bytes k r.answer s' (seated t r)
 day-kept k s t bytes a s' u r T e d =
-    subst (λ (r : DaySeat). DayBy s t bytes k r.answer s' (day_seated t r)) (sym e)
+    subst (λ (r : Seat DayAnswer). DayBy s t bytes k r.answer s' (seated t r)) (sym e)
     (subst (λ (v : List Session). DayBy s t bytes k a s' v) (sym (one_set k.party s t s' u T (sound-apart k.party (handed_by bytes k) s t a s' u d) (λ n. (d.unsound n).table_same))) d)
 
 -- ---- how far places go

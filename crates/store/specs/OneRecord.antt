@@ -18,7 +18,7 @@ use Rattle.promises.specs.Relations.{Others, Calls}
 use Rattle.seats.specs.declared.Seat.{Seat}
 
 -- The table t with the one record that a call leaves.
-abbrev pub seated : List Session → Seat → List Session
+abbrev pub seated : {A : Type 0} → List Session → Seat A → List Session
 seated t r = set t r.party r.session
 
 -- Tables that agree but for party p's record.
@@ -59,6 +59,6 @@ module _ (c : C.Call) (p : ℕ) (s : List ℕ) (t : List Session) (a : C.Answer)
   one-record k = one_set p s t s' u T (λ S. let A = (k.answers S).0 in (A.sound, apart A.others)) (λ n. (k.refuses n).table_same)
 
 -- A call keeps its promise where only its party's record is stored back.
-pub seat-kept : (c : C.Call) (p : ℕ) (s : List ℕ) (t : List Session) (a : Answer) (l s' : List ℕ) (u : List Session) (r : Seat) → Table t → (Others c t u → Apart p t u) → r ≡ record { party = p; session = session_at u p; answer = a }
+pub seat-kept : (c : C.Call) (p : ℕ) (s : List ℕ) (t : List Session) (a : Answer) (l s' : List ℕ) (u : List Session) (r : Seat Answer) → Table t → (Others c t u → Apart p t u) → r ≡ record { party = p; session = session_at u p; answer = a }
     → Calls c s t (said a) l s' u → Calls c s t (said r.answer) l s' (seated t r)
-seat-kept c p s t a l s' u r T apart e k = subst (λ (r : Seat). Calls c s t (said r.answer) l s' (seated t r)) (sym e) (subst (Calls c s t (said a) l s') (sym (one-record c p s t (said a) l s' u T apart k)) k)
+seat-kept c p s t a l s' u r T apart e k = subst (λ (r : Seat Answer). Calls c s t (said r.answer) l s' (seated t r)) (sym e) (subst (Calls c s t (said a) l s') (sym (one-record c p s t (said a) l s' u T apart k)) k)

@@ -1,5 +1,5 @@
 -- A run and a request change no session record but their party's: to store that one record back leaves the table that they gave by value.
-use Rattle.std.specs.Prelude.{◌≡◌, refl, List, [], ◌∷◌, ◌++◌, ℕ, zero, suc, set, replicate}
+use Rattle.std.specs.Prelude.{◌≡◌, refl, List, [], ◌∷◌, ◌++◌, ℕ, zero, suc, replicate}
 use Rattle.std.proofs.Common.{sym, subst, ◌∙◌}
 use Rattle.sessions.specs.declared.Session.{Session}
 use Rattle.sessions.specs.Sessions.{session_at}
@@ -12,15 +12,12 @@ use Rattle.soundness.specs.Parts.{Table}
 use Rattle.promises.specs.Relations.{Others}
 use Rattle.promises.specs.Demands.{Lending}
 use Rattle.promises.specs.Runs.{lending, calling, step_turn, steps, asks}
-use Rattle.seats.specs.declared.Stint.{Stint}
+use Rattle.outcomes.specs.declared.Made.{Made}
+use Rattle.seats.specs.declared.Seat.{Seat}
 use Rattle.store.specs.declared.Go.{Go}
 use Rattle.store.specs.declared.Wish.{Wish}
 use Rattle.store.specs.Listed.{RanBy, AskedBy}
-use Rattle.store.specs.OneRecord.{Apart, one_set}
-
--- The table t with the one record that a run leaves.
-abbrev pub stinted : List Session → Stint → List Session
-stinted t r = set t r.party r.session
+use Rattle.store.specs.OneRecord.{seated, Apart, one_set}
 
 -- ---- a list of calls of one party
 
@@ -44,11 +41,11 @@ unsound-still n (next {x} {y} {z} d r) =
     (h.0 ∙ U.store_same, h.1 ∙ U.table_same)
 
 -- What is promised of the table by value is promised of the one with the one record stored back.
-stint-kept : (p : ℕ) (s : List ℕ) (t : List Session) (s' : List ℕ) (u : List Session) (a : Answer) (n : ℕ) (r : Stint) (ks : List Turn) → Table t → Of p ks
-    → r ≡ record { party = p; session = session_at u p; made = record { answer = a; steps = n } } → Run calling (lending s t) ks (lending s' u)
-    → (Q : Answer → ℕ → List Session → Type 0) → Q a n u → Q r.made.answer r.made.steps (stinted t r)
+stint-kept : (p : ℕ) (s : List ℕ) (t : List Session) (s' : List ℕ) (u : List Session) (a : Answer) (n : ℕ) (r : Seat Made) (ks : List Turn) → Table t → Of p ks
+    → r ≡ record { party = p; session = session_at u p; answer = record { answer = a; steps = n } } → Run calling (lending s t) ks (lending s' u)
+    → (Q : Answer → ℕ → List Session → Type 0) → Q a n u → Q r.answer.answer r.answer.steps (seated t r)
 stint-kept p s t s' u a n r ks T own e made Q q =
-    subst (λ (r : Stint). Q r.made.answer r.made.steps (stinted t r)) (sym e)
+    subst (λ (r : Seat Made). Q r.answer.answer r.answer.steps (seated t r)) (sym e)
     (subst (Q a n) (sym (one_set p s t s' u T (λ S. sound-apart p own S made) (λ z. (unsound-still z made).1))) q)
 
 -- ---- a run, and a request
@@ -65,15 +62,15 @@ asks_of : (n p c e f g : ℕ) (l : List ℕ) (a : C.Answer) (l' : List ℕ) → 
 asks_of zero p c e f g l a l' = ((λ t u o. o), tt)
 asks_of (suc k) p c e f g l a l' = ((λ t u o. o), mores-of k p l a l')
 
-pub ran-kept : (k : Go) (s : List ℕ) (t : List Session) (l : List ℕ) (a : Answer) (n : ℕ) (l' s' : List ℕ) (u : List Session) (r : Stint) → Table t
-    → r ≡ record { party = k.party; session = session_at u k.party; made = record { answer = a; steps = n } } → RanBy s t l k a n s' u l'
-    → RanBy s t l k r.made.answer r.made.steps s' (stinted t r) l'
+pub ran-kept : (k : Go) (s : List ℕ) (t : List Session) (l : List ℕ) (a : Answer) (n : ℕ) (l' s' : List ℕ) (u : List Session) (r : Seat Made) → Table t
+    → r ≡ record { party = k.party; session = session_at u k.party; answer = record { answer = a; steps = n } } → RanBy s t l k a n s' u l'
+    → RanBy s t l k r.answer.answer r.answer.steps s' (seated t r) l'
 ran-kept k s t l a n l' s' u r T e R =
     stint-kept k.party s t s' u a n r (steps n k.party l (said a) l') T (steps_of n k.party l (said a) l') e R.made (λ a n u. RanBy s t l k a n s' u l') R
 
-pub asked-kept : (k : Wish) (s : List ℕ) (t : List Session) (l : List ℕ) (a : Answer) (n : ℕ) (l' s' : List ℕ) (u : List Session) (r : Stint) → Table t
-    → r ≡ record { party = k.party; session = session_at u k.party; made = record { answer = a; steps = n } } → AskedBy s t l k a n s' u l'
-    → AskedBy s t l k r.made.answer r.made.steps s' (stinted t r) l'
+pub asked-kept : (k : Wish) (s : List ℕ) (t : List Session) (l : List ℕ) (a : Answer) (n : ℕ) (l' s' : List ℕ) (u : List Session) (r : Seat Made) → Table t
+    → r ≡ record { party = k.party; session = session_at u k.party; answer = record { answer = a; steps = n } } → AskedBy s t l k a n s' u l'
+    → AskedBy s t l k r.answer.answer r.answer.steps s' (seated t r) l'
 asked-kept k s t l a n l' s' u r T e R =
     stint-kept k.party s t s' u a n r (asks n k.party k.code k.entry k.first k.second l (said a) l') T
     (asks_of n k.party k.code k.entry k.first k.second l (said a) l') e R.made (λ a n u. AskedBy s t l k a n s' u l') R

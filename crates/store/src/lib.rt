@@ -10,16 +10,16 @@
 // rests on tables for the lent table, on calls for the calls by value, on seats for what is kept of them.
 #![tactic(auto)]
 
-ghost use Rattle.std.specs.Prelude.{◌≡◌};
+ghost use Rattle.std.specs.Prelude.{◌≡◌, length};
 ghost use Rattle.store.specs.Lent.{Formatted, Begun, Put, Stepped, Committed, Aborted, Asked, Recovered, OnTable, SteppedOnTable};
 ghost use Rattle.store.specs.Listed.{RanBy, AskedBy, ListedOnTable};
 ghost use Rattle.store.specs.Batched.{Batched, BatchedOnTable};
-ghost use Rattle.store.specs.Days.{DayBy, DayOnTable, day_seated};
+ghost use Rattle.store.specs.Days.{DayBy, DayOnTable};
 ghost use Rattle.store.specs.OneRecord.{seated};
-ghost use Rattle.store.specs.Stints.{stinted};
+ghost use Rattle.sessions.specs.Sessions.{parties};
 
 use outcomes::{Answer, DayAnswer, Made, Served};
-use seats::{DaySeat, Seat, Stint};
+use seats::Seat;
 use sessions::{PARTIES, Session};
 
 // The arguments of a put.
@@ -71,64 +71,93 @@ fn begin_by_value(store: &mut [u32], t: [Session; PARTIES], p: u32) -> Served
 
 // ---- the calls by value, of whose table only the record of the call's party is kept
 
-fn put_by_value(store: &mut [u32], t: [Session; PARTIES], k: PutArgs) -> Seat
+fn put_by_value(store: &mut [u32], t: [Session; PARTIES], k: PutArgs) -> Seat<Answer>
     ensures { Put store.old t k result.answer store.new (seated t result) }
 {
     let served = calls::put(store, t, k.party, k.code, k.entry, k.first, k.second);
-    seats::seat_of(served, k.party)
+    seats::seat_of(served.table, k.party, served.answer)
 }
 
-fn step_by_value(store: &mut [u32], list: &mut [u32], t: [Session; PARTIES], p: u32) -> Seat
+fn step_by_value(store: &mut [u32], list: &mut [u32], t: [Session; PARTIES], p: u32) -> Seat<Answer>
     ensures { Stepped store.old t list.old p result.answer store.new (seated t result) list.new }
 {
     let served = calls::step(store, list, t, p);
-    seats::seat_of(served, p)
+    seats::seat_of(served.table, p, served.answer)
 }
 
-fn commit_by_value(store: &mut [u32], t: [Session; PARTIES], p: u32) -> Seat
+fn commit_by_value(store: &mut [u32], t: [Session; PARTIES], p: u32) -> Seat<Answer>
     ensures { Committed store.old t p result.answer store.new (seated t result) }
 {
     let served = calls::commit(store, t, p);
-    seats::seat_of(served, p)
+    seats::seat_of(served.table, p, served.answer)
 }
 
-fn abort_by_value(store: &mut [u32], t: [Session; PARTIES], p: u32) -> Seat
+fn abort_by_value(store: &mut [u32], t: [Session; PARTIES], p: u32) -> Seat<Answer>
     ensures { Aborted store.old t p result.answer store.new (seated t result) }
 {
     let served = calls::abort(store, t, p);
-    seats::seat_of(served, p)
+    seats::seat_of(served.table, p, served.answer)
 }
 
-fn ask_by_value(store: &mut [u32], t: [Session; PARTIES], p: u32) -> Seat
+fn ask_by_value(store: &mut [u32], t: [Session; PARTIES], p: u32) -> Seat<Answer>
     ensures { Asked store.old t p result.answer store.new (seated t result) }
 {
     let served = calls::ask(store, t, p);
-    seats::seat_of(served, p)
+    seats::seat_of(served.table, p, served.answer)
 }
 
-fn run_by_value(store: &mut [u32], list: &mut [u32], t: [Session; PARTIES], k: Go) -> Stint
-    ensures { RanBy store.old t list.old k result.made.answer result.made.steps store.new (stinted t result) list.new }
+fn run_by_value(store: &mut [u32], list: &mut [u32], t: [Session; PARTIES], k: Go) -> Seat<Made>
+    ensures { RanBy store.old t list.old k result.answer.answer result.answer.steps store.new (seated t result) list.new }
 {
     let ran = calls::run(store, list, t, k.party, k.most);
-    seats::stint_of(ran, k.party)
+    let made = Made {
+        answer: ran.answer,
+        steps: ran.steps,
+    };
+    seats::seat_of(ran.table, k.party, made)
 }
 
-fn request_by_value(store: &mut [u32], list: &mut [u32], t: [Session; PARTIES], k: Wish) -> Stint
-    ensures { AskedBy store.old t list.old k result.made.answer result.made.steps store.new (stinted t result) list.new }
+fn request_by_value(
+    store: &mut [u32],
+    list: &mut [u32],
+    t: [Session; PARTIES],
+    k: Wish,
+) -> Seat<Made>
+    ensures { AskedBy store.old t list.old k result.answer.answer result.answer.steps store.new (seated t result) list.new }
 {
     let ran = calls::request(
         store, list, t, k.party, k.code, k.entry, k.first, k.second, k.most,
     );
-    seats::stint_of(ran, k.party)
+    let made = Made {
+        answer: ran.answer,
+        steps: ran.steps,
+    };
+    seats::seat_of(ran.table, k.party, made)
 }
 
-fn day_by_value(store: &mut [u32], bytes: &[u8], t: [Session; PARTIES], k: DayAsk) -> DaySeat
-    ensures { DayBy store.old t bytes.now k result.answer store.new (day_seated t result) }
+fn day_by_value(
+    store: &mut [u32],
+    bytes: &[u8],
+    t: [Session; PARTIES],
+    k: DayAsk,
+) -> Seat<DayAnswer>
+    ensures { DayBy store.old t bytes.now k result.answer store.new (seated t result) }
 {
     let served = calls::day(
         store, t, k.party, bytes, k.driver, k.start, k.entry, k.place,
     );
-    seats::day_seat_of(served, k.party)
+    seats::seat_of(served.table, k.party, served.answer)
+}
+
+// ---- what is kept
+
+// The one record that is kept of a call goes into the lent table.
+fn kept<A>(table: &mut [Session], seat: Seat<A>) -> A
+    requires { length table.old ≡ parties }
+    ensures { (table.new ≡ seated table.old seat) × (result ≡ seat.answer) }
+{
+    tables::store_session(table, seat.party, seat.session);
+    seat.answer
 }
 
 // ---- the eight calls
@@ -142,8 +171,7 @@ pub fn format(store: &mut [u32], table: &mut [Session], m: u32) -> Answer
     }
     let t = tables::load_all(table);
     let served = calls::format(store, t, m);
-    let after = served.table;
-    tables::save_all(table, after);
+    tables::save_all(table, served.table);
     served.answer
 }
 
@@ -156,8 +184,7 @@ pub fn begin(store: &mut [u32], table: &mut [Session], p: u32) -> Answer
     }
     let t = tables::load_all(table);
     let served = begin_by_value(store, t, p);
-    let after = served.table;
-    tables::save_all(table, after);
+    tables::save_all(table, served.table);
     served.answer
 }
 
@@ -169,10 +196,7 @@ pub fn put(store: &mut [u32], table: &mut [Session], k: PutArgs) -> Answer
         return seats::wrong_table();
     }
     let t = tables::load_all(table);
-    let seat = put_by_value(store, t, k);
-    let x = seat.session;
-    tables::store_session(table, seat.party, x);
-    seat.answer
+    kept(table, put_by_value(store, t, k))
 }
 
 // One step of the request that party p has in hand; a locate's last step writes the list.
@@ -183,10 +207,7 @@ pub fn step(store: &mut [u32], table: &mut [Session], list: &mut [u32], p: u32) 
         return seats::wrong_table();
     }
     let t = tables::load_all(table);
-    let seat = step_by_value(store, list, t, p);
-    let x = seat.session;
-    tables::store_session(table, seat.party, x);
-    seat.answer
+    kept(table, step_by_value(store, list, t, p))
 }
 
 // A session ends and keeps what it did.
@@ -197,10 +218,7 @@ pub fn commit(store: &mut [u32], table: &mut [Session], p: u32) -> Answer
         return seats::wrong_table();
     }
     let t = tables::load_all(table);
-    let seat = commit_by_value(store, t, p);
-    let x = seat.session;
-    tables::store_session(table, seat.party, x);
-    seat.answer
+    kept(table, commit_by_value(store, t, p))
 }
 
 // A session ends and what it did is undone.
@@ -211,10 +229,7 @@ pub fn abort(store: &mut [u32], table: &mut [Session], p: u32) -> Answer
         return seats::wrong_table();
     }
     let t = tables::load_all(table);
-    let seat = abort_by_value(store, t, p);
-    let x = seat.session;
-    tables::store_session(table, seat.party, x);
-    seat.answer
+    kept(table, abort_by_value(store, t, p))
 }
 
 // A session is asked: only commit and abort remain to it.
@@ -225,10 +240,7 @@ pub fn ask(store: &mut [u32], table: &mut [Session], p: u32) -> Answer
         return seats::wrong_table();
     }
     let t = tables::load_all(table);
-    let seat = ask_by_value(store, t, p);
-    let x = seat.session;
-    tables::store_session(table, seat.party, x);
-    seat.answer
+    kept(table, ask_by_value(store, t, p))
 }
 
 // Housekeeping ends, and every begun session that is not asked aborts.
@@ -240,8 +252,7 @@ pub fn recover(store: &mut [u32], table: &mut [Session]) -> Answer
     }
     let t = tables::load_all(table);
     let served = calls::recover(store, t);
-    let after = served.table;
-    tables::save_all(table, after);
+    tables::save_all(table, served.table);
     served.answer
 }
 
@@ -255,10 +266,7 @@ pub fn run(store: &mut [u32], table: &mut [Session], list: &mut [u32], k: Go) ->
         return seats::wrong_table_made();
     }
     let t = tables::load_all(table);
-    let stint = run_by_value(store, list, t, k);
-    let x = stint.session;
-    tables::store_session(table, stint.party, x);
-    stint.made
+    kept(table, run_by_value(store, list, t, k))
 }
 
 // A party's request, and if it is accepted a run.
@@ -269,10 +277,7 @@ pub fn request(store: &mut [u32], table: &mut [Session], list: &mut [u32], k: Wi
         return seats::wrong_table_made();
     }
     let t = tables::load_all(table);
-    let stint = request_by_value(store, list, t, k);
-    let x = stint.session;
-    tables::store_session(table, stint.party, x);
-    stint.made
+    kept(table, request_by_value(store, list, t, k))
 }
 
 // Asks, made one after another after one test; their answers go into the lent answers.
@@ -290,8 +295,7 @@ pub fn batch(
     }
     let t = tables::load_all(table);
     let served = calls::batch(store, list, t, asks, answers);
-    let after = served.table;
-    tables::save_all(table, after);
+    tables::save_all(table, served.table);
     served.answer
 }
 
@@ -305,8 +309,5 @@ pub fn day(store: &mut [u32], table: &mut [Session], bytes: &[u8], k: DayAsk) ->
         return seats::wrong_table_day();
     }
     let t = tables::load_all(table);
-    let seat = day_by_value(store, bytes, t, k);
-    let x = seat.session;
-    tables::store_session(table, seat.party, x);
-    seat.answer
+    kept(table, day_by_value(store, bytes, t, k))
 }

@@ -15,6 +15,7 @@ pub struct Switches {
 }
 
 // 01:00 UTC of the last Sunday of a month of 31 days.
+#[tactic(auto, unfolding(crate::specs::Switches::sunday_minute))]
 fn sunday_minute(year: u32, month: u32) -> u32
     requires { LongMonth year month }
     ensures { result ≡ sunday_minute year month }

@@ -19,7 +19,7 @@ ghost use Rattle.taking.specs.Place.{next_taken};
 ghost use Rattle.taking.specs.Pass.{took_key};
 ghost use Rattle.taking.specs.Taking.{in_way_of, pass_step, done_step, short_step, last_step, last_written, free_step, free_written, take_step_of, take_written, over, CanFind, DoneReady, LastReady, TakeReady};
 
-use outcomes::{Answer, Moved};
+use outcomes::{Answer, Moved, Refusal};
 use sessions::Session;
 
 // The record of the descriptor that is next.
@@ -76,7 +76,7 @@ fn short_step(store: &mut [u32], m: usize, x: Session, n: u32) -> Moved
 {
     let y = finishing::end_request(store, m, x);
     Moved {
-        answer: Answer::Refused(12, n),
+        answer: Answer::Refused(Refusal::List as u32, n),
         session: y,
     }
 }

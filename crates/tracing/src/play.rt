@@ -1,72 +1,76 @@
 // Play: the calls that a command makes.
 use outcomes::Served;
-use scripts::lines::{Line, NUMBERS, code_of};
+use scripts::lines::Command;
 use sessions::{PARTIES, Session};
 
 // More steps than any request of a store of 700 records takes: it goes down the tree twice at most, and takes each descriptor once.
 const STEPS: u32 = 4097;
 
-// Steps of party p until the answer is not more: a run.
-fn go(store: &mut [u32], list: &mut [u32], t: [Session; PARTIES], p: u32) -> Served {
-    let ran = calls::run(store, list, t, p, STEPS);
+// The codes of the requests, which a put takes as numbers.
+const READ: u32 = 1;
+
+const WRITE: u32 = 2;
+
+const INSERT: u32 = 3;
+
+const REMOVE: u32 = 4;
+
+const LOCATE: u32 = 5;
+
+const TIDY: u32 = 6;
+
+// Steps of a party until the answer is not more: a run.
+fn go(store: &mut [u32], list: &mut [u32], table: [Session; PARTIES], party: u32) -> Served {
+    let ran = calls::run(store, list, table, party, STEPS);
     let table = ran.table;
-    let answer = ran.answer;
     Served {
-        table: table,
-        answer: answer,
+        table,
+        answer: ran.answer,
     }
 }
 
-// The request of a line, put by party p. Its numbers after the party are entry and first; of a locate first and second; of a tidy first.
-fn put(store: &[u32], t: [Session; PARTIES], p: u32, code: u32, n: [u32; NUMBERS]) -> Served {
-    if code == 5 {
-        return calls::put(store, t, p, code, 0, n[1], n[2]);
-    }
-    if code == 6 {
-        return calls::put(store, t, p, code, 0, n[1], 0);
-    }
-    calls::put(store, t, p, code, n[1], n[2], 0)
-}
-
-// The call of a command. A letter that is none of the others is a request's. A recover has no party.
-pub fn served(store: &mut [u32], list: &mut [u32], t: [Session; PARTIES], x: Line) -> Served {
-    let n = x.numbers;
-    let p = n[0];
-    let letter = x.letter;
-    match letter {
-        b'b' => {
-            return calls::begin(store, t, p);
+// The call of a command. A recover has no party.
+pub fn served(
+    store: &mut [u32],
+    list: &mut [u32],
+    table: [Session; PARTIES],
+    command: Command,
+) -> Served {
+    match command {
+        Command::Begin { party } => calls::begin(store, table, party),
+        Command::Read { party, entry } => calls::put(store, table, party, READ, entry, 0, 0),
+        Command::Write {
+            party,
+            entry,
+            value,
+        } => calls::put(store, table, party, WRITE, entry, value, 0),
+        Command::Insert { party, entry, key } => {
+            calls::put(store, table, party, INSERT, entry, key, 0)
         }
-        b's' => {
-            return calls::step(store, list, t, p);
+        Command::Remove { party, entry, key } => {
+            calls::put(store, table, party, REMOVE, entry, key, 0)
         }
-        b'g' => {
-            return go(store, list, t, p);
-        }
-        b'c' => {
-            return calls::commit(store, t, p);
-        }
-        b'a' => {
-            return calls::abort(store, t, p);
-        }
-        b'k' => {
-            return calls::ask(store, t, p);
-        }
-        b'v' => {
-            return calls::recover(store, t);
-        }
-        _ => {
-            return put(store, t, p, code_of(letter), n);
-        }
+        Command::Locate {
+            party,
+            first,
+            second,
+        } => calls::put(store, table, party, LOCATE, 0, first, second),
+        Command::Tidy { party, first } => calls::put(store, table, party, TIDY, 0, first, 0),
+        Command::Step { party } => calls::step(store, list, table, party),
+        Command::Go { party } => go(store, list, table, party),
+        Command::Commit { party } => calls::commit(store, table, party),
+        Command::Abort { party } => calls::abort(store, table, party),
+        Command::Ask { party } => calls::ask(store, table, party),
+        Command::Recover => calls::recover(store, table),
     }
 }
 
-// The line's party has a locate in hand, if it has a request in hand; of a recover party 0's record is looked at, which has none.
-pub fn is_locate(t: [Session; PARTIES], x: Line) -> bool {
-    let p = x.numbers[0] as usize;
-    if p < PARTIES {
-        let s = t[p];
-        return s.code == 5;
+// The command moves a locate that its party has in hand: its answer may have pairs in the list.
+pub fn has_locate(table: &[Session; PARTIES], command: Command) -> bool {
+    match command {
+        Command::Step { party } | Command::Go { party } => table
+            .get(party as usize)
+            .is_some_and(|session| session.code == LOCATE),
+        _ => false,
     }
-    false
 }

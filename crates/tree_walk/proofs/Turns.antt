@@ -1,7 +1,7 @@
 -- The turns of the walk's loops, and the ways through its functions, each from the tests that lead to it.
 use mathlib.Core.Path.{◌≡◌, refl, sym, ap, subst, ◌∙◌}
 use mathlib.Core.List.{List}
-use mathlib.Core.Bool.{Bool, true, false, not, ◌&&◌}
+use mathlib.Core.Bool.{Bool, true, false, cond, not, ◌&&◌}
 use Prim.Native.Nat.{ℕ, zero, suc, ◌+◌, ◌-◌, ◌≤◌, ◌<◌}
 use native.Mathlib.Omega.{arith}
 use lib.Dec.{eqb, leb}
@@ -10,15 +10,56 @@ use borrow.Author.Tests.{eq-eqb, ne_eqb, le-leb, lt-leb, leb-true, le-ltb, lt-lt
 use Rattle.words.specs.Header.{header_word, root_place, height_place, first_place}
 use Rattle.nodes.specs.declared.Node.{Node}
 use Rattle.nodes.specs.Node.{node_at}
-use Rattle.marks.specs.declared.Chain.{Chain}
+use Rattle.std.specs.Prelude.{Option, Some, None}
+use Rattle.std.proofs.lemmas.Option.{none-some, cond_some}
 use Rattle.marks.specs.Marks.{Visit, start, meet, Met, node_mark, descriptor_mark}
 use Rattle.marks.specs.Steps.{both}
-use Rattle.marks.specs.Trail.{visit-as}
+use Rattle.marks.specs.Trail.{visit-as, visit-none}
 use Rattle.tree_walk.specs.declared.Walk.{Walk}
-use Rattle.tree_walk.specs.TreeWalk.{Tour, tour, Toured, then_tour, stop, top_of, least_of, leaf_words, met_walk, leaf_met, leaf_tour, leaves_from, raise, sons_from, count_latch, fanout_ok, inside, entered_as, enter_tour, Entered, into, tree_from, end_tour, start_walk, root_tour}
+use Rattle.tree_walk.specs.TreeWalk.{Stand, going, walk_if, Tour, tour, Toured, then_tour, stop, top_of, least_of, leaf_words, met_walk, leaf_met, leaf_tour, leaves_from, raise, sons_from, count_latch, fanout_ok, inside, entered_as, enter_tour, Entered, into, tree_from, end_tour, start_walk, root_tour}
 
-pub to-tour : {u v : Tour} {w : Walk} {seen order : List ℕ} → Toured u w seen order → v ≡ u → Toured v w seen order
-to-tour t e = record { is = t.is ∙ sym e }
+pub to-tour : {u v : Tour} {o : Option Walk} {seen order : List ℕ} → Toured u o seen order → v ≡ u → Toured v o seen order
+to-tour t e = rw e t
+
+-- what an answer tells of the walk
+some-walk : (x : Stand) {o : Option Walk} (w : Walk) → o ≡ walk_if x → o ≡ Some w → x ≡ going w
+some-walk x {o} w e h =
+    let c = cond_some x.ok (record { left = x.left; latches = x.latches; next = x.next; count = x.count; low = x.low }) w (sym e ∙ h) in
+    ap (λ (b : Bool). of b (record { left = x.left; latches = x.latches; next = x.next; count = x.count; low = x.low })) c.0 ∙ ap (of true) c.1
+  where
+    of : Bool → Walk → Stand
+    of b w = record { ok = b; left = w.left; latches = w.latches; next = w.next; count = w.count; low = w.low }
+
+none-walk : (x : Stand) {o : Option Walk} → o ≡ walk_if x → o ≡ None → x.ok ≡ false
+none-walk x {o} e h = at x.ok _ (sym h ∙ e)
+  where
+    at : (b : Bool) (w : Walk) → None ≡ cond b (Some w) None → b ≡ false
+    at true w q = absurd (none-some w q)
+    at false w q = refl
+
+pub toured-as : {v : Tour} {o : Option Walk} {seen order : List ℕ} (w : Walk) → Toured v o seen order → o ≡ Some w → v ≡ tour (going w) seen order
+toured-as {v} w t h =
+    ap (λ (x : Stand). tour x v.seen v.order) (some-walk v.walk w t.walk h)
+    ∙ ap (λ (x : List ℕ). tour (going w) x v.order) (sym t.marks) ∙ ap (tour (going w) _) (sym t.noted)
+
+pub toured-off : {v : Tour} {o : Option Walk} {seen order : List ℕ} → Toured v o seen order → o ≡ None → v.walk.ok ≡ false
+toured-off {v} t h = none-walk v.walk t.walk h
+
+as-none : {v : Tour} {o : Option Walk} {seen order : List ℕ} → Toured v o seen order → o ≡ None → Toured v None seen order
+as-none t h = record { walk = sym h ∙ t.walk; marks = t.marks; noted = t.noted }
+
+-- a walk that is so, and one that is stopped
+from-walk : {v : Tour} {o : Option Walk} {seen order : List ℕ} (x : Stand) → v ≡ tour x seen order → o ≡ walk_if x → Toured v o seen order
+from-walk x e h =
+    record {
+      walk = h ∙ ap (λ (t : Tour). walk_if t.walk) (sym e);
+      marks = ap (λ (t : Tour). t.seen) (sym e);
+      noted = ap (λ (t : Tour). t.order) (sym e);
+    }
+
+from-stop : {v : Tour} {seen order : List ℕ} (x : Stand) → v ≡ tour (stop x) seen order → Toured v None seen order
+unfolding stop
+from-stop x e = from-walk (stop x) e refl
 
 one_less : (k : ℕ) → 0 < k → k ≡ suc (k - 1)
 one_less k h = omega arith
@@ -44,94 +85,100 @@ least-as n k e = e
 pub record Touring (whole : Tour) (s : List ℕ) (m r : ℕ) (n : Node) (hi k rest : ℕ) (t : Tour) : Type 0 where
   pub is : leaves_from s m r n hi k rest t ≡ whole
 
-module _ {whole : Tour} {s : List ℕ} {m r : ℕ} {n : Node} {hi k : ℕ} {w : Walk} {seen order : List ℕ} where
-  turn-as : {rest i least top : ℕ} {v : Walk} {seen' order' : List ℕ} → Touring whole s m r n hi k rest (tour w seen order) → 0 < rest
-      → i ≡ get_or n.sons k 0 → least ≡ least_of n k → top ≡ top_of n k hi → Toured (leaf_tour s m r i least top (tour w seen order)) v seen' order'
-      → then_tour (tour v seen' order') (leaves_from s m r n hi (k + 1) (rest - 1)) ≡ whole
+module _ {whole : Tour} {s : List ℕ} {m r : ℕ} {n : Node} {hi k : ℕ} {t : Tour} where
+  turn-as : {rest i least top : ℕ} {u : Tour} → Touring whole s m r n hi k rest t → 0 < rest
+      → i ≡ get_or n.sons k 0 → least ≡ least_of n k → top ≡ top_of n k hi → leaf_tour s m r i least top t ≡ u
+      → then_tour u (leaves_from s m r n hi (k + 1) (rest - 1)) ≡ whole
   unfolding leaves_from
-  turn-as {rest} {i} {least} {top} {v} {seen'} {order'} g h ei el et q =
-      let e : tour v seen' order' ≡ leaf_tour s m r (get_or n.sons k 0) (least_of n k) (top_of n k hi) (tour w seen order) = rw (← ei, ← el, ← et) q.is in
+  turn-as {rest} {i} {least} {top} {u} g h ei el et q =
+      let e : u ≡ leaf_tour s m r (get_or n.sons k 0) (least_of n k) (top_of n k hi) t = rw (← ei, ← el, ← et) (sym q) in
       ap (λ (x : Tour). then_tour x (leaves_from s m r n hi (k + 1) (rest - 1))) e
-      ∙ ap (λ (j : ℕ). leaves_from s m r n hi k j (tour w seen order)) (sym (one_less rest h)) ∙ g.is
+      ∙ ap (λ (j : ℕ). leaves_from s m r n hi k j t) (sym (one_less rest h)) ∙ g.is
 
-  pub leaf-stop : {rest i least top : ℕ} {v : Walk} {seen' order' : List ℕ} → Touring whole s m r n hi k rest (tour w seen order) → 0 < rest
-      → i ≡ get_or n.sons k 0 → least ≡ least_of n k → top ≡ top_of n k hi → Toured (leaf_tour s m r i least top (tour w seen order)) v seen' order'
-      → v.ok ≡ false → Toured whole v seen' order'
-  leaf-stop {rest} {i} {least} {top} {v} {seen'} {order'} g h ei el et q o = record { is = (simp o at (turn-as g h ei el et q)) }
+  pub leaf-stop : {rest i least top : ℕ} {o : Option Walk} {seen' order' : List ℕ} → Touring whole s m r n hi k rest t → 0 < rest
+      → i ≡ get_or n.sons k 0 → least ≡ least_of n k → top ≡ top_of n k hi → Toured (leaf_tour s m r i least top t) o seen' order'
+      → o ≡ None → Toured whole None seen' order'
+  leaf-stop g h ei el et q o = to-tour (as-none q o) (sym (simp (toured-off q o) at (turn-as g h ei el et refl)))
 
-  pub leaf-more : {rest rest' i least top : ℕ} {v : Walk} {seen' order' : List ℕ} → Touring whole s m r n hi k rest (tour w seen order) → 0 < rest
-      → i ≡ get_or n.sons k 0 → least ≡ least_of n k → top ≡ top_of n k hi → Toured (leaf_tour s m r i least top (tour w seen order)) v seen' order'
-      → v.ok ≡ true → rest' ≡ rest - 1 → Touring whole s m r n hi (k + 1) rest' (tour v seen' order')
-  leaf-more {rest} {rest'} {i} {least} {top} {v} {seen'} {order'} g h ei el et q o z =
-      record { is = ap (λ (j : ℕ). leaves_from s m r n hi (k + 1) j (tour v seen' order')) z ∙ (simp o at (turn-as g h ei el et q)) }
+  pub leaf-more : {rest rest' i least top : ℕ} {o : Option Walk} {seen' order' : List ℕ} (v : Walk) → Touring whole s m r n hi k rest t → 0 < rest
+      → i ≡ get_or n.sons k 0 → least ≡ least_of n k → top ≡ top_of n k hi → Toured (leaf_tour s m r i least top t) o seen' order'
+      → o ≡ Some v → rest' ≡ rest - 1 → Touring whole s m r n hi (k + 1) rest' (tour (going v) seen' order')
+  leaf-more {rest} {rest'} {i} {least} {top} {o} {seen'} {order'} v g h ei el et q e z =
+      record { is = ap (λ (j : ℕ). leaves_from s m r n hi (k + 1) j (tour (going v) seen' order')) z ∙ turn-as g h ei el et (toured-as v q e) }
 
-  pub leaf-end : {rest : ℕ} → Touring whole s m r n hi k rest (tour w seen order) → rest ≡ 0 → Toured whole w seen order
+  pub leaf-end : {rest : ℕ} {w : Walk} {seen order : List ℕ} → Touring whole s m r n hi k rest t → t ≡ tour (going w) seen order → rest ≡ 0 → Toured whole (Some w) seen order
   unfolding leaves_from
-  leaf-end {rest} g e = record { is = ap (λ (j : ℕ). leaves_from s m r n hi k j (tour w seen order)) (sym e) ∙ g.is }
+  leaf-end {rest} {w} g q e = from-walk (going w) (sym g.is ∙ ap (λ (j : ℕ). leaves_from s m r n hi k j t) e ∙ q) refl
 
 pub record Sonning (whole : Tour) (f : ℕ → ℕ → Tour → Tour) (n : Node) (hi k rest : ℕ) (t : Tour) : Type 0 where
   pub is : sons_from f n hi k rest t ≡ whole
 
-module _ {whole : Tour} {f : ℕ → ℕ → Tour → Tour} {n : Node} {hi k : ℕ} {w : Walk} {seen order : List ℕ} where
-  son-as : {rest i top : ℕ} {v : Walk} {seen' order' : List ℕ} → Sonning whole f n hi k rest (tour w seen order) → 0 < rest
-      → i ≡ get_or n.sons k 0 → top ≡ top_of n k hi → Toured (f i top (tour w seen order)) v seen' order'
-      → then_tour (tour v seen' order') (λ u. sons_from f n hi (k + 1) (rest - 1) (tour (raise u.walk top) u.seen u.order)) ≡ whole
+module _ {whole : Tour} {f : ℕ → ℕ → Tour → Tour} {n : Node} {hi k : ℕ} {t : Tour} where
+  son-as : {rest i top : ℕ} {v : Tour} → Sonning whole f n hi k rest t → 0 < rest
+      → i ≡ get_or n.sons k 0 → top ≡ top_of n k hi → f i top t ≡ v
+      → then_tour v (λ u. sons_from f n hi (k + 1) (rest - 1) (tour (raise u.walk top) u.seen u.order)) ≡ whole
   unfolding sons_from
-  son-as {rest} {i} {top} {v} {seen'} {order'} g h ei et q =
-      let e : tour v seen' order' ≡ f (get_or n.sons k 0) top (tour w seen order) = rw (← ei) q.is in
+  son-as {rest} {i} {top} {v} g h ei et q =
+      let e : v ≡ f (get_or n.sons k 0) top t = rw (← ei) (sym q) in
       ap (λ (x : Tour). then_tour x (λ u. sons_from f n hi (k + 1) (rest - 1) (tour (raise u.walk top) u.seen u.order))) e
-      ∙ ap (λ (y : ℕ). then_tour (f (get_or n.sons k 0) y (tour w seen order)) (λ u. sons_from f n hi (k + 1) (rest - 1) (tour (raise u.walk y) u.seen u.order))) et
-      ∙ ap (λ (j : ℕ). sons_from f n hi k j (tour w seen order)) (sym (one_less rest h)) ∙ g.is
+      ∙ ap (λ (y : ℕ). then_tour (f (get_or n.sons k 0) y t) (λ u. sons_from f n hi (k + 1) (rest - 1) (tour (raise u.walk y) u.seen u.order))) et
+      ∙ ap (λ (j : ℕ). sons_from f n hi k j t) (sym (one_less rest h)) ∙ g.is
 
-  pub son-stop : {rest i top : ℕ} {v : Walk} {seen' order' : List ℕ} → Sonning whole f n hi k rest (tour w seen order) → 0 < rest
-      → i ≡ get_or n.sons k 0 → top ≡ top_of n k hi → Toured (f i top (tour w seen order)) v seen' order' → v.ok ≡ false → Toured whole v seen' order'
-  son-stop g h ei et q o = record { is = (simp o at (son-as g h ei et q)) }
+  pub son-stop : {rest i top : ℕ} {o : Option Walk} {seen' order' : List ℕ} → Sonning whole f n hi k rest t → 0 < rest
+      → i ≡ get_or n.sons k 0 → top ≡ top_of n k hi → Toured (f i top t) o seen' order' → o ≡ None → Toured whole None seen' order'
+  son-stop g h ei et q o = to-tour (as-none q o) (sym (simp (toured-off q o) at (son-as g h ei et refl)))
 
-  pub son-more : {rest rest' i top : ℕ} {v u : Walk} {seen' order' : List ℕ} → Sonning whole f n hi k rest (tour w seen order) → 0 < rest
-      → i ≡ get_or n.sons k 0 → top ≡ top_of n k hi → Toured (f i top (tour w seen order)) v seen' order' → v.ok ≡ true → rest' ≡ rest - 1 → u ≡ raise v top
-      → Sonning whole f n hi (k + 1) rest' (tour u seen' order')
-  son-more {rest} {rest'} {i} {top} {v} {u} {seen'} {order'} g h ei et q o z e =
+  pub son-more : {rest rest' i top : ℕ} {o : Option Walk} {u : Walk} {seen' order' : List ℕ} (v : Walk) → Sonning whole f n hi k rest t → 0 < rest
+      → i ≡ get_or n.sons k 0 → top ≡ top_of n k hi → Toured (f i top t) o seen' order' → o ≡ Some v → rest' ≡ rest - 1 → going u ≡ raise (going v) top
+      → Sonning whole f n hi (k + 1) rest' (tour (going u) seen' order')
+  son-more {rest} {rest'} {i} {top} {o} {u} {seen'} {order'} v g h ei et q y z e =
       record {
-        is = ap (λ (j : ℕ). sons_from f n hi (k + 1) j (tour u seen' order')) z
-            ∙ ap (λ (x : Walk). sons_from f n hi (k + 1) (rest - 1) (tour x seen' order')) e ∙ (simp o at (son-as g h ei et q));
+        is = ap (λ (j : ℕ). sons_from f n hi (k + 1) j (tour (going u) seen' order')) z
+            ∙ ap (λ (x : Stand). sons_from f n hi (k + 1) (rest - 1) (tour x seen' order')) e ∙ son-as g h ei et (toured-as v q y);
       }
 
-  pub son-end : {rest : ℕ} → Sonning whole f n hi k rest (tour w seen order) → rest ≡ 0 → Toured whole w seen order
+  pub son-end : {rest : ℕ} {w : Walk} {seen order : List ℕ} → Sonning whole f n hi k rest t → t ≡ tour (going w) seen order → rest ≡ 0 → Toured whole (Some w) seen order
   unfolding sons_from
-  son-end {rest} g e = record { is = ap (λ (j : ℕ). sons_from f n hi k j (tour w seen order)) (sym e) ∙ g.is }
+  son-end {rest} {w} g q e = from-walk (going w) (sym g.is ∙ ap (λ (j : ℕ). sons_from f n hi k j t) e ∙ q) refl
 
-pub entered : (r i : ℕ) (w : Walk) (seen : List ℕ) {c : Chain} {seen' : List ℕ} → Met r i w.left (meet r node_mark (start w.left seen) i) c seen'
-    → Entered r i (enter_tour r i w seen) (record { ok = c.ok; left = c.left; latches = w.latches; next = w.next; count = w.count; low = w.low }) seen'
-unfolding enter_tour entered_as
-entered r i w seen {c} {seen'} k =
-    record {
-      walk = ap (λ (v : Visit). mk v) (sym (visit-as k.says refl));
-      marks = k.says.marks;
-      inside = k.inside;
-    }
-  where
-    mk : Visit → Walk
-    mk v = record { ok = v.ok; left = v.left; latches = w.latches; next = w.next; count = w.count; low = w.low }
+module _ (r i : ℕ) (w : Walk) (seen : List ℕ) {c : Option ℕ} {seen' : List ℕ} (k : Met r i w.left (meet r node_mark (start w.left seen) i) c seen') where
+  pub entered-not : c ≡ None → Entered r i (enter_tour r i (going w) seen) None seen'
+  unfolding enter_tour entered_as
+  entered-not o = record {
+    walk = simp (ap (λ (v : Visit). v.ok) (visit-none k.says o));
+    marks = k.says.marks;
+    inside = λ v e. absurd (none-some v e);
+  }
+
+  pub entered : (n : ℕ) → c ≡ Some n
+      → Entered r i (enter_tour r i (going w) seen) (Some (record { left = n; latches = w.latches; next = w.next; count = w.count; low = w.low })) seen'
+  unfolding enter_tour entered_as
+  entered n o = record {
+    walk = ap (λ (v : Visit). walk_if (entered_as (going w) v)) (sym (visit-as k.says o));
+    marks = k.says.marks;
+    inside = λ v e. k.inside n o;
+  }
 
 module _ (s : List ℕ) (m r i least top : ℕ) (w : Walk) (seen order : List ℕ) where
-  pub leaf-off : (i ≡ w.next → ⊥) → {v : Walk} → v ≡ stop w → Toured (leaf_tour s m r i least top (tour w seen order)) v seen order
+  pub leaf-off : (i ≡ w.next → ⊥) → Toured (leaf_tour s m r i least top (tour (going w) seen order)) None seen order
   unfolding leaf_tour
-  leaf-off ne e = record { is = simp (ne_eqb i w.next ne, e) }
+  leaf-off ne = from-stop (going w) (simp (ne_eqb i w.next ne))
 
-  pub leaf-full : i ≡ w.next → 4096 < w.count → {v : Walk} → v ≡ stop w → Toured (leaf_tour s m r i least top (tour w seen order)) v seen order
+  pub leaf-full : i ≡ w.next → 4096 < w.count → Toured (leaf_tour s m r i least top (tour (going w) seen order)) None seen order
   unfolding leaf_tour
-  leaf-full q h e = record { is = simp (eq-eqb i w.next q, lt-leb w.count 4096 h, e) }
+  leaf-full q h = from-stop (going w) (simp (eq-eqb i w.next q, lt-leb w.count 4096 h))
 
-  pub leaf-twice : i ≡ w.next → w.count ≤ 4096 → {c : Chain} {seen' : List ℕ} → Met r i w.left (meet r descriptor_mark (start w.left seen) i) c seen' → c.ok ≡ false
-      → {v : Walk} → v ≡ stop w → Toured (leaf_tour s m r i least top (tour w seen order)) v seen' order
-  unfolding leaf_tour leaf_met
-  leaf-twice q h k o e = record { is = simp (eq-eqb i w.next q, le-leb w.count 4096 h, visit-as k.says o, e) }
+  module _ (q : i ≡ w.next) (h : w.count ≤ 4096) {c : Option ℕ} {seen' : List ℕ} (k : Met r i w.left (meet r descriptor_mark (start w.left seen) i) c seen') where
+    pub leaf-twice : c ≡ None → Toured (leaf_tour s m r i least top (tour (going w) seen order)) None seen' order
+    unfolding leaf_tour leaf_met
+    leaf-twice o = from-stop (going w) (simp (eq-eqb i w.next q, le-leb w.count 4096 h, visit-none k.says o))
 
-  pub leaf-met : i ≡ w.next → w.count ≤ 4096 → {c : Chain} {seen' : List ℕ} → Met r i w.left (meet r descriptor_mark (start w.left seen) i) c seen' → c.ok ≡ true
-      → {u v : Walk} → u ≡ met_walk w c.left → v ≡ leaf_words s m i least top u → Toured (leaf_tour s m r i least top (tour w seen order)) v seen' (set order w.count i)
-  unfolding leaf_tour leaf_met
-  leaf-met q h k o z e =
-      record { is = simp (eq-eqb i w.next q, le-leb w.count 4096 h, visit-as k.says o, e ∙ ap (leaf_words s m i least top) z) }
+    pub leaf-met : {n : ℕ} {u : Walk} {o : Option Walk} → c ≡ Some n → going u ≡ met_walk (going w) n → o ≡ walk_if (leaf_words s m i least top (going u))
+        → Toured (leaf_tour s m r i least top (tour (going w) seen order)) o seen' (set order w.count i)
+    unfolding leaf_tour leaf_met
+    leaf-met o z e =
+        from-walk (leaf_words s m i least top (met_walk (going w) _)) (simp (eq-eqb i w.next q, le-leb w.count 4096 h, visit-as k.says o))
+        (e ∙ ap (λ (x : Stand). walk_if (leaf_words s m i least top x)) z)
 
 pub leaf-start : {s : List ℕ} {m r : ℕ} {n : Node} {hi rest : ℕ} {t : Tour} → rest ≡ n.count → Touring (leaves_from s m r n hi 0 n.count t) s m r n hi 0 rest t
 leaf-start {s} {m} {r} {n} {hi} {rest} {t} e = record { is = ap (λ (j : ℕ). leaves_from s m r n hi 0 j t) e }
@@ -141,45 +188,50 @@ son-start {f} {n} {hi} {rest} {t} e = record { is = ap (λ (j : ℕ). sons_from 
 
 -- ---- a node that was met
 
-inside-bad : (n : Node) (least : ℕ) (v : Walk) (seen order : List ℕ) → fanout_ok n least ≡ false → {x : Walk} → x ≡ stop v → (g : Tour → Tour) → inside n least g (tour v seen order) ≡ tour x seen order
+inside-bad : (n : Node) (least : ℕ) (v : Stand) (seen order : List ℕ) → fanout_ok n least ≡ false → (g : Tour → Tour) → inside n least g (tour v seen order) ≡ tour (stop v) seen order
 unfolding inside
-inside-bad n least v seen order f e g = simp (f, e)
+inside-bad n least v seen order f g = simp f
 
-inside-good : (n : Node) (least : ℕ) (v : Walk) (seen order : List ℕ) → fanout_ok n least ≡ true → {u : Walk} → u ≡ count_latch n v → (g : Tour → Tour) → inside n least g (tour v seen order) ≡ g (tour u seen order)
+inside-good : (n : Node) (least : ℕ) (v : Stand) (seen order : List ℕ) → fanout_ok n least ≡ true → {u : Stand} → u ≡ count_latch n v → (g : Tour → Tour) → inside n least g (tour v seen order) ≡ g (tour u seen order)
 unfolding inside
 inside-good n least v seen order f e g = simp (f, e)
 
-module _ (s : List ℕ) (m r : ℕ) (least i hi : ℕ) (w : Walk) (seen order : List ℕ) {v : Walk} {seen₁ : List ℕ} where
-  enter-as : Entered r i (enter_tour r i w seen) v seen₁ → (g : Tour → Tour) → into (enter_tour r i w seen) order g ≡ then_tour (tour v seen₁ order) g
+module _ (s : List ℕ) (m r : ℕ) (least i hi : ℕ) (w : Stand) (seen order : List ℕ) {o : Option Walk} {seen₁ : List ℕ} (k : Entered r i (enter_tour r i w seen) o seen₁) where
+  enter-off : o ≡ None → (g : Tour → Tour) → Toured (into (enter_tour r i w seen) order g) None seen₁ order
   unfolding into
-  enter-as k g = rw (k.walk, k.marks) refl
+  enter-off h g =
+      to-tour {u = tour (enter_tour r i w seen).walk (enter_tour r i w seen).seen order} (record { walk = sym h ∙ k.walk; marks = k.marks; noted = refl })
+      (simp (none-walk (enter_tour r i w seen).walk k.walk h))
 
-  pub node-twice : (d : ℕ) → Entered r i (enter_tour r i w seen) v seen₁ → v.ok ≡ false → Toured (tree_from s m r d least i hi (tour w seen order)) v seen₁ order
+  pub node-twice : (d : ℕ) → o ≡ None → Toured (tree_from s m r d least i hi (tour w seen order)) None seen₁ order
   unfolding tree_from
-  node-twice zero k o = record { is = sym (enter-as k _ ∙ simp o) }
-  node-twice (suc d) k o = record { is = sym (enter-as k _ ∙ simp o) }
+  node-twice zero h = enter-off h _
+  node-twice (suc d) h = enter-off h _
 
-  pub node-fanout : (d : ℕ) → Entered r i (enter_tour r i w seen) v seen₁ → v.ok ≡ true → {n : Node} → n ≡ node_at s m i → fanout_ok n least ≡ false → {x : Walk} → x ≡ stop v
-      → Toured (tree_from s m r d least i hi (tour w seen order)) x seen₁ order
-  unfolding tree_from
-  node-fanout zero k o e f z = record { is = sym (enter-as k _ ∙ simp o (rw (← e) (inside-bad _ _ _ _ _ f z _))) }
-  node-fanout (suc d) k o e f z = record { is = sym (enter-as k _ ∙ simp o (rw (← e) (inside-bad _ _ _ _ _ f z _))) }
+  module _ (v : Walk) (h : o ≡ Some v) {n : Node} (e : n ≡ node_at s m i) where
+    enter-as : (g : Tour → Tour) → into (enter_tour r i w seen) order g ≡ g (tour (going v) seen₁ order)
+    unfolding into
+    enter-as g = rw (some-walk (enter_tour r i w seen).walk v k.walk h, ← k.marks) refl
 
-  pub node-lowest : {d : ℕ} → Entered r i (enter_tour r i w seen) v seen₁ → v.ok ≡ true → {n : Node} → n ≡ node_at s m i → fanout_ok n least ≡ true → {u : Walk} → u ≡ count_latch n v
-      → d ≡ 0 → {x : Walk} {seen₂ order₂ : List ℕ} → Toured (leaves_from s m r n hi 0 n.count (tour u seen₁ order)) x seen₂ order₂
-      → Toured (tree_from s m r d least i hi (tour w seen order)) x seen₂ order₂
-  unfolding tree_from
-  node-lowest {d} k o {n} e f {u} z dz {x} {seen₂} {order₂} q =
-      subst (λ (j : ℕ). Toured (tree_from s m r j least i hi (tour w seen order)) x seen₂ order₂) (sym dz)
-      (to-tour q (enter-as k _ ∙ simp o (rw (← e) (inside-good _ _ _ _ _ f z _))))
+    pub node-fanout : (d : ℕ) → fanout_ok n least ≡ false → Toured (tree_from s m r d least i hi (tour w seen order)) None seen₁ order
+    unfolding tree_from
+    node-fanout zero f = from-stop (going v) (enter-as _ ∙ rw (← e) (inside-bad _ _ _ _ _ f _))
+    node-fanout (suc d) f = from-stop (going v) (enter-as _ ∙ rw (← e) (inside-bad _ _ _ _ _ f _))
 
-  pub node-inner : {d : ℕ} → Entered r i (enter_tour r i w seen) v seen₁ → v.ok ≡ true → {n : Node} → n ≡ node_at s m i → fanout_ok n least ≡ true → {u : Walk} → u ≡ count_latch n v
-      → (d ≡ 0 → ⊥) → {x : Walk} {seen₂ order₂ : List ℕ} → Toured (sons_from (tree_from s m r (d - 1) 3) n hi 0 n.count (tour u seen₁ order)) x seen₂ order₂
-      → Toured (tree_from s m r d least i hi (tour w seen order)) x seen₂ order₂
-  unfolding tree_from
-  node-inner {d} k o {n} e f {u} z dz {x} {seen₂} {order₂} q =
-      subst (λ (j : ℕ). Toured (tree_from s m r j least i hi (tour w seen order)) x seen₂ order₂) (sym (one_less d (omega arith)))
-      (to-tour q (enter-as k _ ∙ simp o (rw (← e) (inside-good _ _ _ _ _ f z _))))
+    module _ (f : fanout_ok n least ≡ true) {u : Walk} (z : going u ≡ count_latch n (going v)) {d : ℕ} {x : Option Walk} {seen₂ order₂ : List ℕ} where
+      pub node-lowest : d ≡ 0 → Toured (leaves_from s m r n hi 0 n.count (tour (going u) seen₁ order)) x seen₂ order₂
+          → Toured (tree_from s m r d least i hi (tour w seen order)) x seen₂ order₂
+      unfolding tree_from
+      node-lowest dz q =
+          subst (λ (j : ℕ). Toured (tree_from s m r j least i hi (tour w seen order)) x seen₂ order₂) (sym dz)
+          (to-tour q (enter-as _ ∙ rw (← e) (inside-good _ _ _ _ _ f z _)))
+
+      pub node-inner : (d ≡ 0 → ⊥) → Toured (sons_from (tree_from s m r (d - 1) 3) n hi 0 n.count (tour (going u) seen₁ order)) x seen₂ order₂
+          → Toured (tree_from s m r d least i hi (tour w seen order)) x seen₂ order₂
+      unfolding tree_from
+      node-inner dz q =
+          subst (λ (j : ℕ). Toured (tree_from s m r j least i hi (tour w seen order)) x seen₂ order₂) (sym (one_less d (omega arith)))
+          (to-tour q (enter-as _ ∙ rw (← e) (inside-good _ _ _ _ _ f z _)))
 
 pub fan-count : (n : Node) (least : ℕ) → fanout_ok n least ≡ true → n.count ≤ 8
 unfolding fanout_ok
@@ -190,7 +242,7 @@ kept-lt h e = omega arith
 
 -- ---- the whole tree
 
-module _ (s : List ℕ) (m r : ℕ) (seen order : List ℕ) {root height first : ℕ} {w : Walk} (er : root ≡ header_word s root_place) (eh : height ≡ header_word s height_place) (ef : first ≡ header_word s first_place) (ew : w ≡ start_walk r first) where
+module _ (s : List ℕ) (m r : ℕ) (seen order : List ℕ) {root height first : ℕ} {w : Stand} (er : root ≡ header_word s root_place) (eh : height ≡ header_word s height_place) (ef : first ≡ header_word s first_place) (ew : w ≡ start_walk r first) where
   -- a tree of so many levels, which is none or too many, or walked to the end of the chain
   tall : Bool
   tall = not (eqb height 0) && leb height 8
@@ -203,23 +255,35 @@ module _ (s : List ℕ) (m r : ℕ) (seen order : List ℕ) {root height first :
   unfolding root_tour tall
   root-tall h = rw (← eh, h, ← ef, ← ew, ← er) refl
 
-  pub root_none : height ≡ 0 → {v : Walk} → v ≡ stop w → Toured (root_tour s m r seen order) v seen order
+  pub root_none : height ≡ 0 → Toured (root_tour s m r seen order) None seen order
   unfolding tall
-  root_none h e = record { is = ap (λ (x : Walk). tour x seen order) e ∙ sym (root-flat (simp (eq-eqb height 0 h))) }
+  root_none h = from-stop w (root-flat (simp (eq-eqb height 0 h)))
 
-  pub root-high : (height ≡ 0 → ⊥) → 8 < height → {v : Walk} → v ≡ stop w → Toured (root_tour s m r seen order) v seen order
+  pub root-high : (height ≡ 0 → ⊥) → 8 < height → Toured (root_tour s m r seen order) None seen order
   unfolding tall
-  root-high n h e = record { is = ap (λ (x : Walk). tour x seen order) e ∙ sym (root-flat (simp (ne_eqb height 0 n, lt-leb height 8 h))) }
+  root-high n h = from-stop w (root-flat (simp (ne_eqb height 0 n, lt-leb height 8 h)))
 
-  module _ (n : height ≡ 0 → ⊥) (h : height ≤ 8) {v : Walk} {seen' order' : List ℕ} (q : Toured (tree_from s m r (height - 1) 1 root 4294967294 (tour w seen order)) v seen' order') where
-    root-end : end_tour (tour v seen' order') ≡ root_tour s m r seen order
+  module _ (n : height ≡ 0 → ⊥) (h : height ≤ 8) {o : Option Walk} {seen' order' : List ℕ} (q : Toured (tree_from s m r (height - 1) 1 root 4294967294 (tour w seen order)) o seen' order') where
+    root-end : {v : Tour} → tree_from s m r (height - 1) 1 root 4294967294 (tour w seen order) ≡ v → root_tour s m r seen order ≡ end_tour v
     unfolding tall
-    root-end = ap end_tour q.is ∙ sym (root-tall (simp (ne_eqb height 0 n, le-leb height 8 h)))
+    root-end e = root-tall (simp (ne_eqb height 0 n, le-leb height 8 h)) ∙ ap end_tour e
 
-    pub root-open : (v.next ≡ 0 → ⊥) → {u : Walk} → u ≡ stop v → Toured (root_tour s m r seen order) u seen' order'
-    unfolding end_tour
-    root-open z e = record { is = ap (λ (x : Walk). tour x seen' order') e ∙ (simp (ne_eqb v.next 0 z) at root-end) }
+    -- a walk that is not in order has not ended in order
+    end-off : (v : Tour) → Toured v o seen' order' → o ≡ None → Toured (end_tour v) None seen' order'
+    unfolding end_tour stop
+    end-off v t e = at (eqb v.walk.next 0)
+      where
+        at : (b : Bool) → Toured (cond b v (tour (stop v.walk) v.seen v.order)) None seen' order'
+        at true = as-none t e
+        at false = record { walk = refl; marks = t.marks; noted = t.noted }
 
-    pub root-done : v.next ≡ 0 → Toured (root_tour s m r seen order) v seen' order'
+    pub root-broken : o ≡ None → Toured (root_tour s m r seen order) None seen' order'
+    root-broken e = to-tour (end-off _ q e) (root-end refl)
+
+    pub root-open : (v : Walk) → o ≡ Some v → (v.next ≡ 0 → ⊥) → Toured (root_tour s m r seen order) None seen' order'
     unfolding end_tour
-    root-done z = record { is = (simp (eq-eqb v.next 0 z) at root-end) }
+    root-open v e z = from-stop (going v) (root-end (toured-as v q e) ∙ simp (ne_eqb v.next 0 z))
+
+    pub root-done : (v : Walk) → o ≡ Some v → v.next ≡ 0 → Toured (root_tour s m r seen order) (Some v) seen' order'
+    unfolding end_tour
+    root-done v e z = from-walk (going v) (root-end (toured-as v q e) ∙ simp (eq-eqb v.next 0 z)) refl

@@ -1,6 +1,6 @@
 -- A walk of the tree that meets each node and descriptor once, checks fanout, boundaries, keys and the chain of descriptors, counts the
 -- latched nodes, and notes the descriptors in the order of their keys.
-use Rattle.std.specs.Prelude.{◌≡◌, List, Bool, true, false, cond, not, ◌&&◌, ℕ, zero, suc, ◌+◌, ◌-◌, ◌≤◌, eqb, ltb, leb, get_or, set}
+use Rattle.std.specs.Prelude.{◌≡◌, Option, Some, None, List, Bool, true, false, cond, not, ◌&&◌, ℕ, zero, suc, ◌+◌, ◌-◌, ◌≤◌, eqb, ltb, leb, get_or, set}
 use Rattle.words.specs.Header.{header_word, root_place, height_place, first_place}
 use Rattle.nodes.specs.Node.{node_at}
 use Rattle.nodes.specs.declared.Node.{Node}
@@ -8,25 +8,44 @@ use Rattle.groups.specs.Descriptor.{descriptor_at}
 use Rattle.marks.specs.Marks.{Visit, start, meet, node_mark, descriptor_mark}
 use Rattle.tree_walk.specs.declared.Walk.{Walk}
 
+-- how a walk stands: whether all is in order so far, how many records may still be met, how many nodes are latched, the record of the
+-- descriptor that the chain names next, how many descriptors were met, and the lowest key that the next may have
+pub record Stand : Type 0 where
+  pub ok : Bool
+  pub left : ℕ
+  pub latches : ℕ
+  pub next : ℕ
+  pub count : ℕ
+  pub low : ℕ
+
+-- a walk that is in order so far, and what a function answers: such a walk, if it is
+abbrev pub going : Walk → Stand
+going w = record { ok = true; left = w.left; latches = w.latches; next = w.next; count = w.count; low = w.low }
+
+abbrev pub walk_if : Stand → Option Walk
+walk_if w = cond w.ok (Some (record { left = w.left; latches = w.latches; next = w.next; count = w.count; low = w.low })) None
+
 -- a walk with its marks, and the records of the descriptors in order so far
 pub record Tour : Type 0 where
-  pub walk : Walk
+  pub walk : Stand
   pub seen : List ℕ
   pub order : List ℕ
 
-abbrev pub tour : Walk → List ℕ → List ℕ → Tour
+abbrev pub tour : Stand → List ℕ → List ℕ → Tour
 tour w seen order = record { walk = w; seen = seen; order = order }
 
 -- what a function answers and leaves is what the walk says
-pub record Toured (v : Tour) (w : Walk) (seen order : List ℕ) : Type 0 where
-  pub is : tour w seen order ≡ v
+pub record Toured (v : Tour) (w : Option Walk) (seen order : List ℕ) : Type 0 where
+  pub walk : w ≡ walk_if v.walk
+  pub marks : seen ≡ v.seen
+  pub noted : order ≡ v.order
 
 -- a walk, and the next one if it is in order
 abbrev pub then_tour : Tour → (Tour → Tour) → Tour
 then_tour v g = cond v.walk.ok (g v) v
 
 -- not in order
-unfoldable pub stop : Walk → Walk
+unfoldable pub stop : Stand → Stand
 stop w = record { ok = false; left = w.left; latches = w.latches; next = w.next; count = w.count; low = w.low }
 
 abbrev pub stop_tour : Tour → Tour
@@ -43,7 +62,7 @@ unfoldable pub least_of : Node → ℕ → ℕ
 least_of n k = cond (ltb (k + 1) n.count) (get_or n.bounds k 0) 0
 
 -- descriptor i's key is above the one before it, and from least to top; the chain goes on behind it
-unfoldable pub leaf_words : List ℕ → ℕ → ℕ → ℕ → ℕ → Walk → Walk
+unfoldable pub leaf_words : List ℕ → ℕ → ℕ → ℕ → ℕ → Stand → Stand
 leaf_words s m i least top w =
     cond (leb w.low (descriptor_at s m i).key && leb least (descriptor_at s m i).key && leb (descriptor_at s m i).key top)
     (record {
@@ -57,11 +76,11 @@ leaf_words s m i least top w =
     (stop w)
 
 -- with so many records left to be met
-unfoldable pub met_walk : Walk → ℕ → Walk
+unfoldable pub met_walk : Stand → ℕ → Stand
 met_walk w left = record { ok = true; left = left; latches = w.latches; next = w.next; count = w.count; low = w.low }
 
 -- after descriptor i was met: its place in the order, and its words
-unfoldable pub leaf_met : List ℕ → ℕ → ℕ → ℕ → ℕ → Walk → List ℕ → Visit → Tour
+unfoldable pub leaf_met : List ℕ → ℕ → ℕ → ℕ → ℕ → Stand → List ℕ → Visit → Tour
 leaf_met s m i least top w order v =
     cond v.ok
     (tour (leaf_words s m i least top (met_walk w v.left)) v.seen (set order w.count i))
@@ -83,7 +102,7 @@ leaves_from s m r n hi k (suc rest) t =
 -- ---- nodes
 
 -- the next key lies above top
-unfoldable pub raise : Walk → ℕ → Walk
+unfoldable pub raise : Stand → ℕ → Stand
 raise w top = record { ok = w.ok; left = w.left; latches = w.latches; next = w.next; count = w.count; low = top + 1 }
 
 -- the sons from k on, `rest` of them, by f
@@ -94,7 +113,7 @@ sons_from f n hi k (suc rest) t =
     (λ u. sons_from f n hi (k + 1) rest (tour (raise u.walk (top_of n k hi)) u.seen u.order))
 
 -- a node's latch, if it has one, is counted, to 4096
-unfoldable pub count_latch : Node → Walk → Walk
+unfoldable pub count_latch : Node → Stand → Stand
 count_latch n w =
     cond (not (eqb n.latch 0) && ltb w.latches 4096)
     (record { ok = w.ok; left = w.left; latches = w.latches + 1; next = w.next; count = w.count; low = w.low })
@@ -109,21 +128,21 @@ inside n least g t = cond (fanout_ok n least) (g (tour (count_latch n t.walk) t.
 
 -- a node that is met, before its words are looked at
 pub record Enter : Type 0 where
-  pub walk : Walk
+  pub walk : Stand
   pub seen : List ℕ
 
-unfoldable pub entered_as : Walk → Visit → Walk
+unfoldable pub entered_as : Stand → Visit → Stand
 entered_as w v = record { ok = v.ok; left = v.left; latches = w.latches; next = w.next; count = w.count; low = w.low }
 
-unfoldable pub enter_tour : ℕ → ℕ → Walk → List ℕ → Enter
+unfoldable pub enter_tour : ℕ → ℕ → Stand → List ℕ → Enter
 enter_tour r i w seen =
     record { walk = entered_as w (meet r node_mark (start w.left seen) i); seen = (meet r node_mark (start w.left seen) i).seen }
 
 -- what a function answers and leaves is what entering says, with what is known of a record that was met
-pub record Entered (r i : ℕ) (e : Enter) (w : Walk) (seen : List ℕ) : Type 0 where
-  pub walk : w ≡ e.walk
+pub record Entered (r i : ℕ) (e : Enter) (w : Option Walk) (seen : List ℕ) : Type 0 where
+  pub walk : w ≡ walk_if e.walk
   pub marks : seen ≡ e.seen
-  pub inside : w.ok ≡ true → (1 ≤ i) × (i ≤ r)
+  pub inside : (v : Walk) → w ≡ Some v → (1 ≤ i) × (i ≤ r)
 
 unfoldable pub into : Enter → List ℕ → (Tour → Tour) → Tour
 into e order g = then_tour (tour e.walk e.seen order) g
@@ -142,7 +161,7 @@ unfoldable pub end_tour : Tour → Tour
 end_tour v = cond (eqb v.walk.next 0) v (stop_tour v)
 
 -- before any record is met, with the chain of descriptors from record first
-unfoldable pub start_walk : ℕ → ℕ → Walk
+unfoldable pub start_walk : ℕ → ℕ → Stand
 start_walk r first = record { ok = true; left = r; latches = 0; next = first; count = 0; low = 0 }
 
 -- from the root, with 1 to 8 levels of nodes, the chain of descriptors from the header's first, and keys below the upper infinity

@@ -1,126 +1,83 @@
 // Answers: what the store and the model said, compared and counted, and which words a call may change.
-use books::book::{
-    ABORT, ANSWERED, BESIDE, BEYOND, CALL, COPIES_ABORTED, COPIES_RECOVERED, ENTRIES, LINES,
-    LISTED, MADE, NAMED, NUMBER, RECORDS, RECOVER, REFUSED, REFUSED_ASKED, TOUCHED, UNCHANGED,
-    WORD, differ, same,
-};
-use books::call;
-use books::call::Call;
-use books::seats::mark_place;
-use naive_steps::party::Said;
-use schedules::book::{Book, LISTS, count, get};
-use schedules::side::{
-    ENTRY_WORDS, HEADER_WORDS, RECORD_WORDS, Side, TABLE, are_asked_kept, is_kept, is_kept_but,
-};
-use schedules::words::wide;
-
-// Where refusals by this number are counted.
-fn refused_at(n: u32) -> usize {
-    if n == 21 {
-        REFUSED_ASKED
-    } else {
-        REFUSED + wide(n)
-    }
-}
-
-fn count_answer(b: &mut Book, kind: u32, word: u32, first: u32) {
-    count(b, LINES);
-    count(b, MADE + wide(kind));
-    count(b, ANSWERED + wide(word));
-    if word == call::REFUSED {
-        if 2 < first {
-            count(b, refused_at(first));
-        }
-    }
-}
+use books::book::{Book, Size};
+use books::call::{Call, Kind, Said};
+use books::counts::What;
+use schedules::side::{ENTRY_WORDS, HEADER_WORDS, RECORD_WORDS, Side};
 
 // What the number beside a word is.
-fn number_of(word: u32) -> u32 {
-    if word == call::WAIT { NAMED } else { NUMBER }
+fn number_of(said: Said) -> What {
+    match said {
+        Said::Wait(_) => What::Named,
+        _ => What::Number,
+    }
 }
 
 // In which bits some word of the two lists is not the same.
 fn lists(b: &Book) -> u32 {
-    let mut x = 0;
-    let mut i = LISTS;
-    while i < 1536 {
-        x = x | (get(b, i) ^ get(b, i + 1024));
-        i += 1;
-    }
-    x
+    b.round
+        .store_list
+        .iter()
+        .zip(b.round.model_list.iter())
+        .fold(0, |bits, (x, y)| bits | (x ^ y))
 }
 
 // The store's answer is the model's, and so is its list.
 fn see_answer(b: &mut Book, x: Said, y: Said) {
-    same(b, WORD, x.word, y.word);
-    same(b, number_of(x.word), x.first, y.first);
-    same(b, BESIDE, x.second, y.second);
-    let bits = lists(b);
-    same(b, LISTED, bits, 0);
+    b.same(What::Word, x.word(), y.word());
+    b.same(number_of(x), x.number(), y.number());
+    b.same(What::Beside, x.beside(), y.beside());
+    b.same(What::List, lists(b), 0);
 }
 
-// A wait changes no word, and neither does a refusal but 11 and 12.
-pub fn is_still(word: u32, first: u32) -> bool {
-    match word {
-        call::WAIT => true,
-        call::REFUSED => first != 11 && first != 12,
-        _ => false,
-    }
-}
-
-// Where the words behind the store begin.
-fn end(b: &Book) -> usize {
-    TABLE
-        + HEADER_WORDS
-        + ENTRY_WORDS * wide(get(b, ENTRIES))
-        + RECORD_WORDS * wide(get(b, RECORDS))
+// Where the words behind the store begin, those that no record has.
+fn end(size: &Size) -> usize {
+    HEADER_WORDS + ENTRY_WORDS * size.entries as usize + RECORD_WORDS * size.records as usize
 }
 
 // The call changed no word at all, or none behind the store.
-fn see_words(s: &Side, b: &mut Book, word: u32, first: u32) {
-    if is_still(word, first) {
-        count(b, UNCHANGED);
-        if !is_kept(s, 0) {
-            differ(b, TOUCHED, word, first);
+fn see_words(s: &Side, old: &Side, b: &mut Book, said: Said) {
+    if said.is_still() {
+        b.counts.unchanged.count();
+        if *s != *old {
+            b.differ(What::Touched, said.word(), said.number());
         }
-    } else if !is_kept(s, end(b)) {
-        differ(b, BEYOND, word, first);
+    } else if !s.is_kept_from(old, end(&b.round.size)) {
+        b.differ(What::Beyond, said.word(), said.number());
     }
 }
 
-// All that is seen after a call of a kind: the side has a copy from before it, and store and model said x and y.
-pub fn see_call(s: &Side, b: &mut Book, kind: u32, x: Said, y: Said) {
-    count(b, CALL);
-    count_answer(b, kind, x.word, x.first);
+// All that is seen after a call of a kind, before which the side was as the old one: store and model said x and y.
+pub fn see_call(s: &Side, old: &Side, b: &mut Book, kind: Kind, x: Said, y: Said) {
+    b.round.call = b.round.call.wrapping_add(1);
+    b.counts.count_call(kind, x);
     see_answer(b, x, y);
-    see_words(s, b, x.word, x.first);
+    see_words(s, old, b, x);
 }
 
 // Which words an accepted call kept: an ask changes its session's mark alone, a recover no record of a session that is asked.
-fn is_rest_kept(s: &Side, c: Call) -> bool {
-    let kind = c.kind;
-    match kind {
-        call::ASK => is_kept_but(s, mark_place(c.party)),
-        call::RECOVER => are_asked_kept(s),
+fn is_rest_kept(s: &Side, old: &Side, c: Call) -> bool {
+    match c {
+        Call::Ask(p) => s.is_kept_but_mark(old, p),
+        Call::Recover => s.are_asked_kept(old),
         _ => true,
     }
 }
 
-// The side has a copy from before a call that was answered by this word.
-pub fn see_rest(s: &Side, b: &mut Book, c: Call, word: u32) {
-    if word == call::OK && !is_rest_kept(s, c) {
-        differ(b, TOUCHED, c.kind, c.party);
+// The side was as the old one before a call that was answered by this.
+pub fn see_rest(s: &Side, old: &Side, b: &mut Book, c: Call, said: Said) {
+    if said == Said::Ok && !is_rest_kept(s, old, c) {
+        b.differ(What::Touched, c.kind() as u32, c.party());
     }
 }
 
 // The recover of a copy said x.
 pub fn see_recover(b: &mut Book, x: Said) {
-    count(b, COPIES_RECOVERED);
-    same(b, RECOVER, x.word, call::OK);
+    b.counts.copies_recovered.count();
+    b.same(What::Recover, x.word(), Said::Ok.word());
 }
 
 // The abort of a session on a copy said x.
 pub fn see_abort(b: &mut Book, x: Said) {
-    count(b, COPIES_ABORTED);
-    same(b, ABORT, x.word, call::OK);
+    b.counts.copies_aborted.count();
+    b.same(What::Abort, x.word(), Said::Ok.word());
 }

@@ -9,23 +9,24 @@
 
 ghost use Rattle.std.specs.Prelude.{◌≡◌, ◌≤◌, ◌<◌, length};
 ghost use Rattle.words.specs.Store.{HasRecord};
-ghost use Rattle.marks.specs.Marks.{HasRecords};
 ghost use Rattle.marks.specs.Trail.{Ends};
 ghost use Rattle.undo_chains.specs.UndoChains.{Filing, group_held, kind_ok, undo_ok, file_at, file_undo, undos_from};
 
-use marks::Chain;
+use marks::{Mark, Records};
 
-// The lists by group: place d has the last record of the list of descriptor d, FIRSTS + d the first, LINKS + i the one after record i.
+// The lists by group: place d has the last record of the list of descriptor d, FIRSTS + d the first, LINKS + i the one after record i. They
+// are one slice, so that a single place is lent in their stead where no session has an undo record.
 pub const FIRSTS: usize = 4097;
 
 pub const LINKS: usize = 8194;
 
 // Record d is the descriptor of a proper key, and session p has its update lock.
-fn group_held(store: &[u32], seen: &[u8], m: usize, r: usize, p: u32, d: usize) -> bool
-    requires { HasRecords store.now m r × (r < length seen.now) × (1 ≤ p) × (p ≤ 32) }
-    ensures { result ≡ group_held store.now seen.now m r p d }
+fn group_held(records: Records, seen: &[u8], p: u32, d: usize) -> bool
+    requires { (records.r < length seen.now) × (1 ≤ p) × (p ≤ 32) }
+    ensures { result ≡ group_held records.entry.store.now seen.now records.entry.m records.entry.r p d }
 {
-    if !marks::is_met(seen, r, d, marks::DESCRIPTOR) {
+    let Records { store, m, r } = records;
+    if !Mark::Descriptor.is_met(seen, r, d) {
         return false;
     }
     if groups::descriptor_key(store, m, d) == 0 {
@@ -45,10 +46,11 @@ fn kind_ok(kind: u32) -> bool
 }
 
 // What session p's undo record i needs.
-fn undo_ok(store: &[u32], seen: &[u8], m: usize, r: usize, p: u32, i: usize) -> bool
-    requires { HasRecords store.now m r × (r < length seen.now) × (1 ≤ p) × (p ≤ 32) × (1 ≤ i) × (i ≤ r) }
-    ensures { result ≡ undo_ok store.now seen.now m r p i }
+fn undo_ok(records: Records, seen: &[u8], p: u32, i: usize) -> bool
+    requires { (records.r < length seen.now) × (1 ≤ p) × (p ≤ 32) × (1 ≤ i) × (i ≤ records.r) }
+    ensures { result ≡ undo_ok records.entry.store.now seen.now records.entry.m records.entry.r p i }
 {
+    let Records { store, m, .. } = records;
     let entry = undos::undo_entry(store, m, i);
     if !marks::entry_ok(entry, m) {
         return false;
@@ -66,7 +68,7 @@ fn undo_ok(store: &[u32], seen: &[u8], m: usize, r: usize, p: u32, i: usize) -> 
         return true;
     }
     let d = undos::undo_descriptor(store, m, i) as usize;
-    group_held(store, seen, m, r, p, d)
+    group_held(records, seen, p, d)
 }
 
 // Record i at the end of the list of descriptor d.
@@ -104,39 +106,28 @@ fn file_undo(store: &[u32], files: &mut [u16], m: usize, i: usize)
     append(files, d, i);
 }
 
-// Session p's chain, from record first on.
+// Session p's chain, from record first on: how many records may still be met, or None where the chain is not in order.
 pub fn walk_undos(
-    store: &[u32],
+    records: Records,
     seen: &mut [u8],
     files: &mut [u16],
-    m: usize,
-    r: usize,
     p: u32,
     first: usize,
     left: usize,
-) -> Chain
-    requires { HasRecords store.now m r × (r < length seen.old) × (1 ≤ p) × (p ≤ 32) × Filing files.old }
-    ensures { Ends _ (undos_from store.now m r p seen.old files.old first left) result seen.new files.new }
+) -> Option<usize>
+    requires { (records.r < length seen.old) × (1 ≤ p) × (p ≤ 32) × Filing files.old }
+    ensures { Ends _ (undos_from records.entry.store.now records.entry.m records.entry.r p seen.old files.old first left) result seen.new files.new }
 {
+    let Records { store, m, r } = records;
     let mut i = first;
     let mut more = left;
     while i != 0 {
-        let v = marks::meet(seen, r, i, more, marks::UNDO);
-        if !v.ok {
-            return v;
-        }
-        if !undo_ok(store, seen, m, r, p, i) {
-            return Chain {
-                ok: false,
-                left: v.left,
-            };
+        more = Mark::Undo.meet(seen, r, i, more)?;
+        if !undo_ok(records, seen, p, i) {
+            return None;
         }
         file_undo(store, files, m, i);
         i = undos::undo_next(store, m, i) as usize;
-        more = v.left;
     }
-    Chain {
-        ok: true,
-        left: more,
-    }
+    Some(more)
 }

@@ -13,6 +13,9 @@ ghost use Rattle.chain.specs.Walk.{Walk};
 ghost use Rattle.undo_log.specs.Undoing.{Loggable, ValueBack, AddedBack, TakenBack, Undoing, Undoings, log_value, log_added, log_taken, value_back, added_back, taken_back, undo_one, undo_all};
 ghost use Rattle.undo_log.specs.Freeing.{free_chain};
 
+use kinds::Record;
+use undos::Undo;
+
 // ---- logging a change
 
 // The entry had this value: the first free record becomes the undo record, before head. Answers the record.
@@ -21,7 +24,7 @@ pub fn log_value(store: &mut [u32], m: usize, e: u32, v: u32, head: u32) -> usiz
     ensures { (result ≡ header_word store.old free_place) × (store.new ≡ log_value store.old m e v head) }
 {
     let a = chain::pop_free(store, m);
-    undos::write_undo(store, m, a, undos::value_undo(head, e, v));
+    Undo::value(head, e, v).write(store, m, a);
     a
 }
 
@@ -31,7 +34,7 @@ pub fn log_added(store: &mut [u32], m: usize, e: u32, i: u32, d: u32, head: u32)
     ensures { (result ≡ header_word store.old free_place) × (store.new ≡ log_added store.old m e i d head) }
 {
     let a = chain::pop_free(store, m);
-    undos::write_undo(store, m, a, undos::added_undo(head, e, i, d));
+    Undo::added(head, e, i, d).write(store, m, a);
     a
 }
 
@@ -40,7 +43,7 @@ pub fn log_taken(store: &mut [u32], m: usize, i: usize, e: u32, d: u32, head: u3
     requires { HasRecord store.old m i }
     ensures { store.new ≡ log_taken store.old m i e d head }
 {
-    undos::write_undo(store, m, i, undos::taken_undo(head, e, d));
+    Undo::taken(head, e, d).write(store, m, i);
 }
 
 // ---- undoing, one kind each
@@ -50,7 +53,7 @@ fn undo_value(store: &mut [u32], m: usize, i: usize)
     requires { ValueBack store.old m i }
     ensures { store.new ≡ value_back store.old m i }
 {
-    let u = undos::load_undo(store, m, i);
+    let u = Undo::load(store, m, i);
     let e = u.entry as usize;
     words::set_entry_word(store, e, 0, u.saved);
     chain::push_free(store, m, i);
@@ -61,7 +64,7 @@ fn undo_added(store: &mut [u32], m: usize, i: usize)
     requires { AddedBack store.old m i }
     ensures { store.new ≡ added_back store.old m i }
 {
-    let u = undos::load_undo(store, m, i);
+    let u = Undo::load(store, m, i);
     let d = u.descriptor as usize;
     let member = u.saved as usize;
     members::take_member(store, m, d, member);
@@ -74,7 +77,7 @@ fn undo_taken(store: &mut [u32], m: usize, i: usize)
     requires { TakenBack store.old m i }
     ensures { store.new ≡ taken_back store.old m i }
 {
-    let u = undos::load_undo(store, m, i);
+    let u = Undo::load(store, m, i);
     let d = u.descriptor as usize;
     members::put_member(store, m, d, i, u.entry);
 }
@@ -84,16 +87,11 @@ pub fn undo_one(store: &mut [u32], m: usize, i: usize)
     requires { Undoing store.old m i }
     ensures { store.new ≡ undo_one store.old m i }
 {
-    let kind = undos::undo_kind(store, m, i);
-    if kind == undos::VALUE {
-        undo_value(store, m, i);
-        return;
+    match undos::undo_kind(store, m, i) {
+        undos::VALUE => undo_value(store, m, i),
+        undos::ADDED => undo_added(store, m, i),
+        _ => undo_taken(store, m, i),
     }
-    if kind == undos::ADDED {
-        undo_added(store, m, i);
-        return;
-    }
-    undo_taken(store, m, i);
 }
 
 // Undoes at most r records from record i on, the next of each read before it is undone.
@@ -102,19 +100,18 @@ pub fn undo_all(store: &mut [u32], m: usize, r: usize, i: usize)
     ensures { store.new ≡ undo_all store.old m r i }
 {
     let mut at = i;
-    let mut left = r;
-    while left != 0 {
+    for _turn in 0..r {
         if at == 0 {
             return;
         }
         let next = words::word(store, m, at, 0) as usize;
         undo_one(store, m, at);
         at = next;
-        left -= 1;
     }
 }
 
-// ---- a chain given back
+// ---- a chain given back: the loop of undo_all with another step, which one loop over a closure would not say more plainly, since the step's
+// writes, and what each needs of the words, would stand in its clauses
 
 // Frees at most r records from record i on, the next of each read before it is freed.
 pub fn free_chain(store: &mut [u32], m: usize, r: usize, i: usize)
@@ -122,14 +119,12 @@ pub fn free_chain(store: &mut [u32], m: usize, r: usize, i: usize)
     ensures { store.new ≡ free_chain store.old m r i }
 {
     let mut at = i;
-    let mut left = r;
-    while left != 0 {
+    for _turn in 0..r {
         if at == 0 {
             return;
         }
         let next = words::word(store, m, at, 0) as usize;
         chain::push_free(store, m, at);
         at = next;
-        left -= 1;
     }
 }

@@ -25,6 +25,10 @@ undo_at s m i = read_at undo_kind s m i
 abbrev pub put_undo : List ℕ → ℕ → ℕ → Undo → List ℕ
 put_undo s m i u = write_at undo_kind s m i u
 
+pub decode-encode : (u : Undo) → decode_undo (encode_undo u) ≡ u
+unfolding decode_undo encode_undo
+decode-encode u = refl
+
 -- ---- the three kinds, each before the older ones of its session
 
 -- the entry had this value

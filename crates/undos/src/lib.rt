@@ -7,12 +7,15 @@
 //
 // Each function promises that its result, or the store it leaves, EQUALS a definition of specs/Undo.antt (the record's words, and
 // one record for each kind). Nothing here undoes anything. It rests on the crates words and kinds.
-#![tactic(auto)]
+#![tactic(auto, unfolding(crate::specs::Undo::encode_undo, crate::specs::Undo::decode_undo, crate::specs::Undo::undo_value, crate::specs::Undo::undo_added, crate::specs::Undo::undo_taken))]
 
 ghost use Rattle.std.specs.Prelude.{◌≡◌, length};
 ghost use Rattle.words.specs.Store.{HasRecord};
-ghost use Rattle.undos.specs.Undo.{encode_undo, decode_undo, undo_at, put_undo, undo_value, undo_added, undo_taken};
+ghost use Rattle.undos.specs.Undo.{undo_kind, decode-encode, undo_at, undo_value, undo_added, undo_taken};
 
+use kinds::Record;
+
+// The kinds. They are words and no enum: the record of a damaged store may have any number here, and loading says each of them.
 pub const VALUE: u32 = 1;
 
 pub const ADDED: u32 = 2;
@@ -32,77 +35,36 @@ pub struct Undo {
 
 // ---- the record
 
-// An undo record as words; the unused ones are 0.
-pub fn undo_words(u: Undo) -> [u32; 20]
-    ensures { result ≡ encode_undo u }
-{
-    [
-        u.next,
-        u.kind,
-        u.entry,
-        u.saved,
-        u.descriptor,
-        0,
-        0,
-        0,
-        0,
-        0,
-        0,
-        0,
-        0,
-        0,
-        0,
-        0,
-        0,
-        0,
-        0,
-        0,
-    ]
-}
+impl Record for Undo {
+    ghost kind = { undo_kind };
 
-// The undo record that 20 words say, each word read where it lies.
-pub fn words_undo(part: &[u32]) -> Undo
-    requires { length part.now ≡ 20 }
-    ensures { result ≡ decode_undo part.now }
-{
-    Undo {
-        next: part[0],
-        kind: part[1],
-        entry: part[2],
-        saved: part[3],
-        descriptor: part[4],
+    ghost is_said = { λ _. Unit {0} };
+
+    ghost reads_back = { λ u _. decode-encode u };
+
+    fn to_words(self) -> [u32; 20] {
+        let mut w = [0; 20];
+        w[0] = self.next;
+        w[1] = self.kind;
+        w[2] = self.entry;
+        w[3] = self.saved;
+        w[4] = self.descriptor;
+        w
+    }
+
+    fn from_words(part: &[u32]) -> Undo {
+        Undo {
+            next: part[0],
+            kind: part[1],
+            entry: part[2],
+            saved: part[3],
+            descriptor: part[4],
+        }
     }
 }
 
-// Writes an undo record over the record's 20 words that are lent.
-pub fn save_undo(part: &mut [u32], u: Undo)
-    requires { length part.old ≡ 20 }
-    ensures { part.new ≡ encode_undo u }
-{
-    words::save_words(part, undo_words(u));
-}
-
-// Record i as an undo record.
-pub fn load_undo(store: &[u32], m: usize, i: usize) -> Undo
-    requires { HasRecord store.now m i }
-    ensures { result ≡ undo_at store.now m i }
-{
-    let at = words::base(m, i);
-    let end = at + 20;
-    words_undo(&store[at..end])
-}
-
-// Record i becomes the undo record.
-pub fn write_undo(store: &mut [u32], m: usize, i: usize, u: Undo)
-    requires { HasRecord store.old m i }
-    ensures { store.new ≡ put_undo store.old m i u }
-{
-    let at = words::base(m, i);
-    let end = at + 20;
-    save_undo(&mut store[at..end], u);
-}
-
-// One word of the undo record at record i, with the rest unread.
+// One word of the undo record at record i, with the rest unread: each says its field in its name and in its contract, so that one function
+// over the words' numbers would be no plainer.
 pub fn undo_next(store: &[u32], m: usize, i: usize) -> u32
     requires { HasRecord store.now m i }
     ensures { result ≡ (undo_at store.now m i).next }
@@ -140,41 +102,43 @@ pub fn undo_descriptor(store: &[u32], m: usize, i: usize) -> u32
 
 // ---- by value
 
-// The entry had this value before a write.
-pub fn value_undo(next: u32, entry: u32, value: u32) -> Undo
-    ensures { result ≡ undo_value next entry value }
-{
-    Undo {
-        next: next,
-        kind: VALUE,
-        entry: entry,
-        saved: value,
-        descriptor: 0,
+impl Undo {
+    // The entry had this value before a write.
+    pub fn value(next: u32, entry: u32, value: u32) -> Undo
+        ensures { result ≡ undo_value next entry value }
+    {
+        Undo {
+            next,
+            kind: VALUE,
+            entry,
+            saved: value,
+            descriptor: 0,
+        }
     }
-}
 
-// The entry was added to the descriptor's group, by this membership's record.
-pub fn added_undo(next: u32, entry: u32, membership: u32, descriptor: u32) -> Undo
-    ensures { result ≡ undo_added next entry membership descriptor }
-{
-    Undo {
-        next: next,
-        kind: ADDED,
-        entry: entry,
-        saved: membership,
-        descriptor: descriptor,
+    // The entry was added to the descriptor's group, by this membership's record.
+    pub fn added(next: u32, entry: u32, membership: u32, descriptor: u32) -> Undo
+        ensures { result ≡ undo_added next entry membership descriptor }
+    {
+        Undo {
+            next,
+            kind: ADDED,
+            entry,
+            saved: membership,
+            descriptor,
+        }
     }
-}
 
-// The entry was taken out of the descriptor's group.
-pub fn taken_undo(next: u32, entry: u32, descriptor: u32) -> Undo
-    ensures { result ≡ undo_taken next entry descriptor }
-{
-    Undo {
-        next: next,
-        kind: TAKEN,
-        entry: entry,
-        saved: 0,
-        descriptor: descriptor,
+    // The entry was taken out of the descriptor's group.
+    pub fn taken(next: u32, entry: u32, descriptor: u32) -> Undo
+        ensures { result ≡ undo_taken next entry descriptor }
+    {
+        Undo {
+            next,
+            kind: TAKEN,
+            entry,
+            saved: 0,
+            descriptor,
+        }
     }
 }

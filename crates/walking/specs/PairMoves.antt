@@ -35,7 +35,7 @@ use Rattle.descents.specs.Descents.{first_in_way}
 use Rattle.joins.specs.Joins.{pair_place, down_bound, join_sons, move_right, move_left}
 use Rattle.walking.specs.Hands.{nd}
 use Rattle.walking.specs.Levels.{length-map_e}
-use Rattle.walking.specs.Pairs.{down, down_num, AtPair, pair-pick, A-count, B-count, A-latch, B-latch, left_son, right_son, pair-place-is, first-is, down_is, join_is, join-becomes, right-words-is, right-becomes, left-words-is, left-becomes}
+use Rattle.walking.specs.Pairs.{down_num, AtPair, pair-pick, A-count, B-count, A-latch, B-latch, left_son, right_son, pair-place-is, first-is, down_is, join_is, join-becomes, right-words-is, right-becomes, left-words-is, left-becomes}
 use Rattle.walking.specs.Sites.{Site, site-of}
 use Rattle.walking.specs.Ways.{Way, clear, shut, way-two}
 use Rattle.walking.specs.AloneMoves.{Steps, guard_shut, guard-open, site_son, picked, step-level, count_is, many_is, alone-moves}

@@ -27,7 +27,7 @@ use Rattle.sessions.specs.Sessions.{session_at}
 use Rattle.machine.specs.Logic.{leb_yes, leb_no}
 use Rattle.machine.specs.Tree.{map_e, map_e-append, flat, flat_append, leaves, Below}
 use Rattle.machine.specs.Holders.{width, latch_word}
-use Rattle.machine.specs.State.{Tree, top, at, with_free, on_tree}
+use Rattle.machine.specs.State.{top, at, with_free, on_tree}
 use Rattle.machine.specs.Descent.{Sons, node, down_to, on_last, last_of, but_last, bound_of, joined, moved_right, moved_left, on_pair, pick_pair, joins, mended, on_latch}
 use Rattle.machine.specs.Steps.{small, fills, son-at, stepped, descended, level_state, goes_on}
 use Rattle.machine.specs.Context.{Focus}

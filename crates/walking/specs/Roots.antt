@@ -24,8 +24,8 @@ use Rattle.sessions.specs.declared.Session.{Session}
 use Rattle.sessions.specs.Sessions.{session_at}
 use Rattle.machine.specs.Tree.{map_e, flat, leaves}
 use Rattle.machine.specs.Holders.{width, latch_word}
-use Rattle.machine.specs.State.{top, at}
-use Rattle.machine.specs.Descent.{Sons, node, halves, lone, entered}
+use Rattle.machine.specs.State.{top}
+use Rattle.machine.specs.Descent.{Sons, node, halves}
 use Rattle.machine.specs.InTheWay.{Free}
 use Rattle.machine.specs.Parts.{free_other}
 use Rattle.machine.specs.Sound.{times}

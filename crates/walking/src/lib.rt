@@ -20,9 +20,10 @@ ghost use Rattle.walking.specs.Hands.{standing_at};
 ghost use Rattle.walking.specs.Walking.{waits_for, refused_full, plain_step, halved_step, split_step, down_step, alone_step, join_step, left_step, right_step, other_count, mend_by, mend_step, pair_step, level_step};
 ghost use Rattle.walking.specs.Ready.{Walker, SplitReady, AloneReady, Mendable, PairReady, LevelReady};
 
+use kinds::Record;
 use nodes::Node;
-use outcomes::{Answer, Moved};
-use sessions::Session;
+use outcomes::{Answer, Moved, Refusal};
+use sessions::{Session, Stage};
 
 // ---- what a step hands back
 
@@ -30,7 +31,7 @@ use sessions::Session;
 fn stand(mut x: Session, i: u32, l: u32) -> Session
     ensures { result ≡ standing_at x i l }
 {
-    x.stage = 3;
+    x.stage = Stage::AtNode as u32;
     x.at = i;
     x.level = l;
     x
@@ -65,7 +66,7 @@ fn full_step(store: &mut [u32], m: usize, x: Session) -> Moved
     ensures { (store.new ≡ (refused_full store.old m x).words) × (result ≡ moved (refused_full store.old m x)) }
 {
     Moved {
-        answer: Answer::Refused(11, 0),
+        answer: Answer::Refused(Refusal::Full as u32, 0),
         session: finishing::end_request(store, m, x),
     }
 }
@@ -76,21 +77,16 @@ fn full_step(store: &mut [u32], m: usize, x: Session) -> Moved
 fn splits(p: u32, count: u32) -> bool
     ensures { result ≡ (not (eqb p 0) && eqb count 8) }
 {
-    if p == 0 {
-        return false;
-    }
-    count == 8
+    p != 0 && count == 8
 }
 
 fn mends(p: u32, count: u32) -> bool
     ensures { result ≡ (eqb p 0 && eqb count 3) }
 {
-    if p != 0 {
-        return false;
-    }
-    count == 3
+    p == 0 && count == 3
 }
 
+// The steps to a son (plain, halved, join, left, right) are written out: each has its own write, and its clauses say which record that needs.
 fn plain_step(store: &mut [u32], m: usize, p: u32, x: Session) -> Moved
     requires { Walker store.old m p x }
     ensures { (store.new ≡ (plain_step store.old m p x).words) × (result ≡ moved (plain_step store.old m p x)) }
@@ -179,17 +175,13 @@ fn is_first(n: Node, key: u32) -> bool
     requires { (1 ≤ n.count) × (n.count ≤ 8) }
     ensures { result ≡ eqb (son_for n key) 0 }
 {
-    let i = nodes::find_son(n, key);
-    i == 0
+    n.find_son(key) == 0
 }
 
 fn either(first: bool, a: u32, b: u32) -> u32
     ensures { result ≡ cond first a b }
 {
-    if first {
-        return a;
-    }
-    b
+    if first { a } else { b }
 }
 
 // Joined where the neighbour has at most 5 sons, else a son comes from it.
@@ -220,7 +212,7 @@ fn mend_step(store: &mut [u32], m: usize, p: u32, x: Session) -> Moved
     ensures { (store.new ≡ (mend_step store.old m p x).words) × (result ≡ moved (mend_step store.old m p x)) }
 {
     let at = x.at as usize;
-    let n = nodes::load_node(store, m, at);
+    let n = Node::load(store, m, at);
     let i = joins::pair_place(n, x.target);
     let first = is_first(n, x.target);
     let l = nodes::node_son(store, m, at, i) as usize;
@@ -237,7 +229,7 @@ fn pair_step(store: &mut [u32], m: usize, p: u32, x: Session) -> Moved
     ensures { (store.new ≡ (pair_step store.old m p x).words) × (result ≡ moved (pair_step store.old m p x)) }
 {
     let at = x.at as usize;
-    let n = nodes::load_node(store, m, at);
+    let n = Node::load(store, m, at);
     let i = joins::pair_place(n, x.target);
     let l = nodes::node_son(store, m, at, i) as usize;
     let q = nodes::node_son(store, m, at, i + 1) as usize;

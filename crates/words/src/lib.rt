@@ -5,11 +5,14 @@
 // definition of specs/: Sizes (how many records there are), Window (a run of words of a list, read and replaced), Store (the
 // records), Header, Entries. Frames says what a write of one part leaves of every other part. Nothing here says what the words
 // mean. It rests on no other crate.
+//
+// The words of a store and m, its number of entries, are two parameters here and above, and no struct: what C lends is a slice, each
+// function lends it on, and the contracts are equations of lists of words, which a struct would only wrap.
 #![tactic(auto)]
 
 ghost use Rattle.std.specs.Prelude.{◌≡◌, ◌≤◌, ◌<◌, length};
 ghost use Rattle.words.specs.Sizes.{records_for};
-ghost use Rattle.words.specs.Store.{entry_words, base_of, HasRecord, word_of};
+ghost use Rattle.words.specs.Store.{entry_words, base_of, HasRecord, record_at, put_record, word_of, put_word_of};
 ghost use Rattle.words.specs.Header.{header_word, put_header_word, entries_place, records_place, root_place, height_place, first_place, free_place};
 ghost use Rattle.words.specs.Entries.{HasEntry, entry_place, entry_word, put_entry_word};
 
@@ -22,26 +25,7 @@ pub fn records_for(m: usize, words: usize) -> usize
     ensures { result ≡ records_for m words }
 {
     let used = 16 + ENTRY_WORDS * m;
-    if words < used {
-        return 0;
-    }
-    let r = (words - used) / 20;
-    if 4096 < r {
-        return 4096;
-    }
-    r
-}
-
-// Writes 20 words over a lent part.
-pub fn save_words(part: &mut [u32], w: [u32; 20])
-    requires { length part.old ≡ 20 }
-    ensures { part.new ≡ w }
-{
-    let mut i = 0;
-    while i < 20 {
-        part[i] = w[i];
-        i += 1;
-    }
+    (words.saturating_sub(used) / 20).min(4096)
 }
 
 // Where record i starts in a store of m entries.
@@ -52,7 +36,7 @@ pub fn base(m: usize, i: usize) -> usize
     16 + ENTRY_WORDS * m + 20 * (i - 1)
 }
 
-// Word k of record i, read where it lies.
+// Word k of record i, read and written where it lies.
 pub fn word(store: &[u32], m: usize, i: usize, k: usize) -> u32
     requires { HasRecord store.now m i × (k < 20) }
     ensures { result ≡ word_of store.now m i k }
@@ -61,7 +45,34 @@ pub fn word(store: &[u32], m: usize, i: usize, k: usize) -> u32
     store[at]
 }
 
-// Header word k, read and written.
+pub fn set_word(store: &mut [u32], m: usize, i: usize, k: usize, w: u32)
+    requires { HasRecord store.old m i × (k < 20) }
+    ensures { store.new ≡ put_word_of store.old m i k w }
+{
+    let at = base(m, i);
+    let part = &mut store[at..at + 20];
+    part[k] = w;
+}
+
+// The 20 words of record i, read and written where they lie.
+pub fn record_words(store: &[u32], m: usize, i: usize) -> &[u32]
+    requires { HasRecord store.now m i }
+    ensures { result.now ≡ record_at store.now m i }
+{
+    let at = base(m, i);
+    &store[at..at + 20]
+}
+
+pub fn set_record_words(store: &mut [u32], m: usize, i: usize, w: [u32; 20])
+    requires { HasRecord store.old m i }
+    ensures { store.new ≡ put_record store.old m i w }
+{
+    let at = base(m, i);
+    store[at..at + 20].copy_from_slice(&w);
+}
+
+// Header word k, read and written. The six that have names are read and written by them below: each says its word in its name and in
+// its contract, so that callers with numbers would be no plainer.
 pub fn header(store: &[u32], k: usize) -> u32
     requires { (16 ≤ length store.now) × (k < 16) }
     ensures { result ≡ header_word store.now k }

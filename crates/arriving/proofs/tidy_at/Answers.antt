@@ -5,10 +5,10 @@ use borrow.Author.Rules.{rules}
 use Rattle.arriving.proofs.tidy_at.Goals as goal
 
 pub remove_leaf-requires : goal.remove_leaf-requires
-remove_leaf-requires c = remove-able _ _ _ _ _ c.requires c.load_descriptor-before.ensures c.descriptor_next-next.ensures c.with_next_descriptor.ensures c.write_descriptor.ensures
+remove_leaf-requires c = remove-able _ _ _ _ _ c.requires c.load-before.ensures c.descriptor_next-next.ensures c.with_next_descriptor.ensures c.write.ensures
 
 pub push_free-requires : goal.push_free-requires
 push_free-requires c = has_kept c.requires.choice (omega arith)
 
 pub returns : goal.returns
-returns c = tidy-run _ _ _ _ _ _ c.load_descriptor-before.ensures c.descriptor_next-next.ensures c.with_next_descriptor.ensures c.write_descriptor.ensures c.remove_leaf.ensures c.push_free.ensures
+returns c = tidy-run _ _ _ _ _ _ c.load-before.ensures c.descriptor_next-next.ensures c.with_next_descriptor.ensures c.write.ensures c.remove_leaf.ensures c.push_free.ensures

@@ -1,6 +1,6 @@
 use Rattle.calendar.specs.declared.Place.{Place}
 use mathlib.Core.Path.{ap}
-use Rattle.calendar.specs.Calendar.{date_of, year_of}
+use Rattle.calendar.specs.Calendar.{year_of}
 use native.Mathlib.Omega.{arith}
 use Rattle.calendar.specs.Dates.{year-most, year-found}
 use borrow.Author.Rules.{rules}
@@ -9,7 +9,3 @@ use Rattle.calendar.proofs.date_of.Goals as goal
 pub date_in-requires : goal.date_in-requires
 date_in-requires c =
     let n = c.args.n in let f = year-found n (search rules) in omega (arith, f.short, year-most (year_of n).at, ap (λ (p : Place). p.rest) c.year_of-p.ensures)
-
-pub returns : goal.returns
-unfolding date_of
-returns c = cc

@@ -1,7 +1,6 @@
 use Rattle.calendar.specs.Calendar.{day_number}
 use native.Mathlib.Omega.{arith}
 use Rattle.calendar.specs.Dates.{month-most}
-use borrow.Author.Rules.{rules}
 use Rattle.calendar.proofs.day_number.Goals as goal
 
 pub overflow_add-result-2 : goal.overflow_add-result-2

@@ -1,15 +1,12 @@
+use Rattle.std.proofs.Common.{zero-add, arith}
+use Rattle.calendar.specs.Calendar.{days_before}
 use Rattle.calendar.specs.Dates.{month-most}
-use native.Mathlib.Nat.{zero-add}
-use native.Mathlib.Omega.{arith}
-use Prim.Native.Nat.{◌≤◌, ◌-◌, ◌*◌}
-use Rattle.calendar.specs.Calendar.{month_days, days_before}
-use Rattle.calendar.proofs.Loops.{Summing, sum_more, sum-all}
-use borrow.Author.Rules.{rules}
+use Rattle.calendar.proofs.Loops.{sum_more, sum-all}
 use Rattle.calendar.proofs.days_before.Goals as goal
 
 pub loop-m-init : goal.loop-m-init
 unfolding days_before
-loop-m-init c = (omega arith, omega arith, omega arith, record { sums = zero-add _ })
+loop-m-init c = (omega arith, record { sums = zero-add _ })
 
 pub overflow_add-n : goal.overflow_add-n
 overflow_add-n c = omega (arith, month-most c.args.year c.loop-m.m)
@@ -17,7 +14,7 @@ overflow_add-n c = omega (arith, month-most c.args.year c.loop-m.m)
 pub loop-m-preserved : goal.loop-m-preserved
 loop-m-preserved c =
     let y = c.args.year in let m = c.loop-m.m in
-    (omega arith, omega arith, omega (arith, month-most y m), sum_more c.loop-m.invariant.3 (omega arith) c.month_days-n.ensures)
+    (omega (arith, month-most y m), sum_more c.loop-m.invariant.1 (omega arith) c.month_days-n.ensures)
 
 pub returns : goal.returns
-returns c = (sum-all c.loop-m.invariant.3 (omega arith), omega arith)
+returns c = (sum-all c.loop-m.invariant.1 (omega arith), omega arith)

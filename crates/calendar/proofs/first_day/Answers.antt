@@ -1,6 +1,5 @@
 use native.Mathlib.Omega.{arith}
 use Rattle.calendar.proofs.Starts.{starts_first}
-use borrow.Author.Rules.{rules}
 use Rattle.calendar.proofs.first_day.Goals as goal
 
 pub returns : goal.returns

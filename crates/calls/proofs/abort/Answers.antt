@@ -1,13 +1,15 @@
-use Rattle.promises.specs.Ways.{way-sound, way-unsound}
+use Rattle.std.proofs.Common.{rules}
+use Rattle.serial.specs.Calls as C
 use Rattle.promises.specs.Seats.{table_of}
-use borrow.Author.Rules.{rules}
+use Rattle.promises.specs.Ways.{way-sound}
+use Rattle.calls.proofs.Refused.{unsound-refused}
 use Rattle.calls.proofs.abort.Goals as goal
 
-pub abort-requires : goal.abort-requires
-abort-requires c = (c.is_sound-good.ensures (table_of _ _ c.well_formed.1.0)).0 c.if-good.true
+pub returns-then-not-is_sound : goal.returns-then-not-is_sound
+returns-then-not-is_sound c = unsound-refused (C.abort c.args.p) (c.is_sound.ensures (table_of _ _ c.well_formed.1.0)) c.if-not-is_sound.true c.refused.ensures
 
-pub returns-then-good : goal.returns-then-good
-returns-then-good c = way-sound _ _ _ _ _ _ _ _ (c.is_sound-good.ensures (table_of _ _ c.well_formed.1.0)) c.if-good.true (λ A. c.abort.ensures)
+pub abort-requires : goal.abort-requires
+abort-requires c = (c.is_sound.ensures (table_of _ _ c.well_formed.1.0)).0 c.if-not-is_sound.false
 
 pub returns : goal.returns
-returns c = way-unsound _ _ _ _ (c.is_sound-good.ensures (table_of _ _ c.well_formed.1.0)) c.if-good.false
+returns c = way-sound _ _ _ _ _ _ _ _ (c.is_sound.ensures (table_of _ _ c.well_formed.1.0)) c.if-not-is_sound.false (λ A. c.abort.ensures)

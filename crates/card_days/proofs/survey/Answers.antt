@@ -1,17 +1,15 @@
+use Rattle.std.proofs.Common.{subst, arith, rules}
 use Rattle.card_days.specs.Loops.{Walking, survey-short, survey-start, survey-more, survey-end}
-use lib.ListN.{length}
-use Prim.Native.Nat.{◌≤◌, ◌-◌}
-use borrow.Author.Rules.{rules}
 use Rattle.card_days.proofs.survey.Goals as goal
 
 pub returns-then-bytes-lt2 : goal.returns-then-bytes-lt2
-returns-then-bytes-lt2 c = survey-short _ _ _ (search rules) c.none-nothing.ensures
+returns-then-bytes-lt2 c = survey-short _ _ _ (search rules) (search rules)
 
-pub loop-at-init : goal.loop-at-init
-loop-at-init c = (search rules, survey-start _ _ _ _ (search rules) c.word_at.ensures c.first-x.ensures)
+pub loop-i-init : goal.loop-i-init
+loop-i-init c = survey-start _ _ _ _ (search rules) c.word_at.ensures c.start-walk.ensures
 
-pub loop-at-preserved : goal.loop-at-preserved
-loop-at-preserved c = (search rules, survey-more _ _ _ _ _ _ (search rules) c.word_at-in-loop-at.ensures c.loop-at.invariant.1 c.pass-x.ensures)
+pub loop-i-preserved : goal.loop-i-preserved
+loop-i-preserved c = subst (Walking _ _ _) (omega arith) (survey-more _ _ _ _ _ _ (omega arith) c.word_at-in-loop-i.ensures c.loop-i.invariant c.pass-walk.ensures)
 
 pub returns : goal.returns
-returns c = survey-end _ _ _ _ _ (search rules) c.loop-at.invariant.1 c.end_stretch.ensures
+returns c = survey-end _ _ _ _ _ (omega arith) c.loop-i.invariant c.end_stretch.ensures

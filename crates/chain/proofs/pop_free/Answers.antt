@@ -1,6 +1,5 @@
 use lib.Dec.{lit<}
 use Rattle.chain.specs.Free.{first-has, none-run, pop-run}
-use borrow.Author.Rules.{rules}
 use Rattle.chain.proofs.pop_free.Goals as goal
 
 pub returns-then-head-eq0 : goal.returns-then-head-eq0

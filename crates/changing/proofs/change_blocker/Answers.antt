@@ -3,4 +3,4 @@ use borrow.Author.Rules.{rules}
 use Rattle.changing.proofs.change_blocker.Goals as goal
 
 pub returns : goal.returns
-returns c = blocker-run _ _ _ _ c.load_descriptor-v.ensures c.lowest_blocker.ensures
+returns c = blocker-run _ _ _ _ c.load-v.ensures c.lowest_blocker.ensures

@@ -2,8 +2,8 @@ use Rattle.day_calls.specs.Ways.{hand-none, hand-code, hand-entry, hand_first, h
 use borrow.Author.Rules.{rules}
 use Rattle.day_calls.proofs.other_in_hand.Goals as goal
 
-pub returns-then-x-eq0 : goal.returns-then-x-eq0
-returns-then-x-eq0 c = hand-none _ _ (search rules)
+pub returns-then-x : goal.returns-then-x
+returns-then-x c = hand-none _ _ (search rules)
 
 pub returns-then-x-r : goal.returns-then-x-r
 returns-then-x-r c = hand-code _ _ (search rules) (search rules)

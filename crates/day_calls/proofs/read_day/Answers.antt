@@ -3,4 +3,4 @@ use borrow.Author.Rules.{rules}
 use Rattle.day_calls.proofs.read_day.Goals as goal
 
 pub returns : goal.returns
-returns c = reads-day _ _ _ _ _ _ _ _ _ c.survey-s.ensures.0 c.survey-s.ensures.1 c.survey-s.ensures.2 c.request_from-r.ensures
+returns c = reads-day _ _ _ _ _ _ _ _ _ c.survey-s.ensures.0 c.survey-s.ensures.1 c.survey-s.ensures.2 c.request_from.ensures

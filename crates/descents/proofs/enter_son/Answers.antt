@@ -1,5 +1,4 @@
 use native.Mathlib.Omega.{arith}
-use borrow.Author.Rules.{rules}
 use Rattle.nodes.specs.Paths.{has-at}
 use Rattle.descents.specs.Runs.{enter-run}
 use Rattle.descents.proofs.enter_son.Goals as goal

@@ -1,5 +1,4 @@
 use mathlib.Core.Path.{sym}
-use borrow.Author.Rules.{rules}
 use borrow.Author.Tests.{eq-eqb, ne_eqb}
 use Rattle.descents.specs.Descents.{first_in_way}
 use Rattle.descents.proofs.first_in_way.Goals as goal
@@ -8,6 +7,6 @@ pub returns-then-first-eq0 : goal.returns-then-first-eq0
 unfolding first_in_way
 returns-then-first-eq0 c = simp (eq-eqb _ _ c.if-first-eq0.true, sym c.in_way.ensures, sym c.in_way-first.ensures)
 
-pub returns : goal.returns
+pub returns-else-first-eq0 : goal.returns-else-first-eq0
 unfolding first_in_way
-returns c = simp (ne_eqb _ _ c.if-first-eq0.false, sym c.in_way-first.ensures)
+returns-else-first-eq0 c = simp (ne_eqb _ _ c.if-first-eq0.false, sym c.in_way-first.ensures)

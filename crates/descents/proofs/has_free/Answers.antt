@@ -1,6 +1,5 @@
 use mathlib.Core.Path.{sym}
 use lib.Dec.{lit<}
-use borrow.Author.Rules.{rules}
 use borrow.Author.Tests.{eq-eqb, ne_eqb}
 use Rattle.chain.specs.Free.{first-has}
 use Rattle.descents.specs.Descents.{has_free}

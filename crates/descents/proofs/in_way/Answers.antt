@@ -1,17 +1,21 @@
-use borrow.Author.Rules.{rules}
+use Rattle.std.proofs.Common.{sym, ◌∙◌, true≢false}
 use borrow.Author.Tests.{eq-eqb, ne_eqb}
 use Rattle.descents.specs.Descents.{in_way}
 use Rattle.descents.proofs.in_way.Goals as goal
-
--- The proof of `in_way`.
-pub returns-then-w-eq0 : goal.returns-then-w-eq0
-unfolding in_way
-returns-then-w-eq0 c = simp (eq-eqb _ _ c.if-w-eq0.true)
+use Rattle.descents.proofs.in_way.Goals.{then-w-eq0, else-w-eq0}
 
 pub returns-then-w-p : goal.returns-then-w-p
 unfolding in_way
-returns-then-w-p c = simp (ne_eqb _ _ c.if-w-eq0.false, eq-eqb _ _ c.if-w-p.true)
+returns-then-w-p c =
+    elim c.if-w-eq0.branch [
+      | then-w-eq0 w ↦ simp (eq-eqb _ _ w.if-w-eq0.true)
+      | else-w-eq0 w ↦ simp (ne_eqb _ _ w.if-w-eq0.false, sym w.value-is ∙ c.if-w-p.true)
+    ]
 
-pub returns : goal.returns
+pub returns-else-w-p : goal.returns-else-w-p
 unfolding in_way
-returns c = simp (ne_eqb _ _ c.if-w-eq0.false, ne_eqb _ _ c.if-w-p.false)
+returns-else-w-p c =
+    elim c.if-w-eq0.branch [
+      | then-w-eq0 w ↦ absurd (true≢false (sym (eq-eqb _ _ w.if-w-eq0.true) ∙ sym w.value-is ∙ c.if-w-p.false))
+      | else-w-eq0 w ↦ simp (ne_eqb _ _ w.if-w-eq0.false, sym w.value-is ∙ c.if-w-p.false)
+    ]

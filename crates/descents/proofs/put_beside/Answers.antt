@@ -1,5 +1,4 @@
 use mathlib.Core.Path.{sym}
-use borrow.Author.Rules.{rules}
 use borrow.Author.Tests.{le-leb, lt-leb}
 use Rattle.descents.specs.Descents.{beside}
 use Rattle.descents.proofs.put_beside.Goals as goal
@@ -8,6 +7,6 @@ pub returns-then-key-k : goal.returns-then-key-k
 unfolding beside
 returns-then-key-k c = simp (le-leb _ _ c.if-key-k.true, sym c.insert_before.ensures)
 
-pub returns : goal.returns
+pub returns-else-key-k : goal.returns-else-key-k
 unfolding beside
-returns c = simp (lt-leb _ _ c.if-key-k.false, sym c.insert_behind.ensures)
+returns-else-key-k c = simp (lt-leb _ _ c.if-key-k.false, sym c.insert_behind.ensures)

@@ -1,6 +1,5 @@
 use Rattle.endings.specs.Table.{asked_now}
 use mathlib.Core.Path.{refl}
-use borrow.Author.Rules.{rules}
 use Rattle.endings.proofs.asked_session.Goals as goal
 
 -- The proof of `asked_session`.

@@ -1,6 +1,5 @@
 use Rattle.endings.specs.Table.{newly_begun}
 use mathlib.Core.Path.{refl}
-use borrow.Author.Rules.{rules}
 use Rattle.endings.proofs.begun_session.Goals as goal
 
 -- The proof of `begun_session`.

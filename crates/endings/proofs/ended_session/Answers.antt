@@ -1,6 +1,5 @@
 use Rattle.endings.specs.Table.{unbegun}
 use mathlib.Core.Path.{refl}
-use borrow.Author.Rules.{rules}
 use Rattle.endings.proofs.ended_session.Goals as goal
 
 -- The proof of `ended_session`.

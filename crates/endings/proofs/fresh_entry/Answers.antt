@@ -1,5 +1,4 @@
 use Rattle.endings.proofs.Runs.{entry-run}
-use borrow.Author.Rules.{rules}
 use Rattle.endings.proofs.fresh_entry.Goals as goal
 
 pub returns : goal.returns

@@ -1,5 +1,4 @@
 use Rattle.endings.proofs.Runs.{header-run}
-use borrow.Author.Rules.{rules}
 use Rattle.endings.proofs.fresh_header.Goals as goal
 
 pub returns : goal.returns

@@ -1,6 +1,5 @@
 use Rattle.endings.specs.Table.{idled}
 use mathlib.Core.Path.{refl}
-use borrow.Author.Rules.{rules}
 use Rattle.endings.proofs.idle_session.Goals as goal
 
 -- The proof of `idle_session`.

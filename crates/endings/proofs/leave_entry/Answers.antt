@@ -1,5 +1,4 @@
 use Rattle.endings.proofs.Runs.{leave-run}
-use borrow.Author.Rules.{rules}
 use Rattle.endings.proofs.leave_entry.Goals as goal
 
 pub returns : goal.returns

@@ -1,29 +1,22 @@
-use Rattle.endings.proofs.Turns.{Leaving, leaving-has, leaving-more, leaving-end}
-use Rattle.endings.specs.Leave.{leave_groups}
 use native.Mathlib.Omega.{arith}
-use lib.ListN.{length}
-use mathlib.Core.Path.{◌≡◌, refl}
-use Prim.Native.Nat.{◌-◌, ◌≤◌}
 use borrow.Author.Rules.{rules}
+use Rattle.endings.proofs.Turns.{leaving-start, leaving-has, leaving-more, leaving-end, leaving-over}
 use Rattle.endings.proofs.leave_groups.Goals as goal
 
-pub loop-d-init : goal.loop-d-init
-loop-d-init c = (refl, record { is = refl; walk = c.requires.0 })
+pub loop-turn-init : goal.loop-turn-init
+loop-turn-init c = leaving-start c.requires.0 (omega arith)
+
+pub returns-then-d-eq0 : goal.returns-then-d-eq0
+returns-then-d-eq0 c = leaving-end c.loop-turn.invariant c.if-d-eq0.true
 
 pub word-next-requires : goal.word-next-requires
-word-next-requires c = ((leaving-has c.loop-d.invariant.1 c.loop-d-test.true).0, search rules)
+word-next-requires c = ((leaving-has c.loop-turn.invariant c.if-d-eq0.false).0, search rules)
 
 pub leave_group-requires : goal.leave_group-requires
-leave_group-requires c = ((leaving-has c.loop-d.invariant.1 c.loop-d-test.true).0, c.requires.1)
+leave_group-requires c = ((leaving-has c.loop-turn.invariant c.if-d-eq0.false).0, c.requires.1)
 
-pub overflow_sub-left : goal.overflow_sub-left
-overflow_sub-left c = omega (arith, (leaving-has c.loop-d.invariant.1 c.loop-d-test.true).1)
-
-pub loop-d-smaller : goal.loop-d-smaller
-loop-d-smaller c = omega (arith, (leaving-has c.loop-d.invariant.1 c.loop-d-test.true).1)
-
-pub loop-d-preserved : goal.loop-d-preserved
-loop-d-preserved c = (search rules, leaving-more c.loop-d.invariant.1 c.loop-d-test.true c.word-next.ensures c.leave_group.ensures)
+pub loop-turn-preserved : goal.loop-turn-preserved
+loop-turn-preserved c = leaving-more c.loop-turn.invariant c.if-d-eq0.false c.word-next.ensures c.leave_group.ensures (omega arith)
 
 pub returns : goal.returns
-returns c = leaving-end c.loop-d.invariant.1 c.loop-d-test.false
+returns c = leaving-over c.loop-turn.invariant (omega arith)

@@ -1,5 +1,4 @@
 use Rattle.endings.proofs.Runs.{left-run}
-use borrow.Author.Rules.{rules}
 use Rattle.endings.proofs.left_descriptor.Goals as goal
 
 pub returns : goal.returns

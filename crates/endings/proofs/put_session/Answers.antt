@@ -1,6 +1,5 @@
 use Rattle.endings.specs.Table.{requested}
 use mathlib.Core.Path.{refl}
-use borrow.Author.Rules.{rules}
 use Rattle.endings.proofs.put_session.Goals as goal
 
 -- The proof of `put_session`.

@@ -1,6 +1,5 @@
 use Rattle.endings.specs.Fresh.{zero_descriptor}
 use mathlib.Core.Path.{refl}
-use borrow.Author.Rules.{rules}
 use Rattle.endings.proofs.zero_descriptor.Goals as goal
 
 -- The proof of `zero_descriptor`.

@@ -9,10 +9,10 @@ use Rattle.holders.proofs.begun_mask.Goals as goal
 
 pub loop-p-init : goal.loop-p-init
 unfolding begun_mask sessions_with
-loop-p-init c = (search rules, search rules, record { is = refl })
+loop-p-init c = record { is = refl }
 
 pub loop-p-preserved : goal.loop-p-preserved
-loop-p-preserved c = (omega arith, omega arith, mask-more c.loop-p.invariant.2 (omega arith) c.is_begun.ensures c.with_if-mask.ensures (omega arith))
+loop-p-preserved c = mask-more c.loop-p.invariant (omega arith) c.is_begun.ensures c.with_if-mask.ensures (omega arith)
 
 pub returns : goal.returns
-returns c = mask_end c.loop-p.invariant.2 (omega arith)
+returns c = mask_end c.loop-p.invariant (omega arith)

@@ -8,7 +8,4 @@ use Rattle.holders.proofs.Turns.{Masking, mask-more, mask_end}
 use Rattle.holders.proofs.begun_mask.Given as goal
 
 abbrev pub invariant-loop-p : goal.invariant-loop-p
-invariant-loop-p l = (1 ≤ l.p) × (l.p ≤ parties) × Masking (begun_mask l.t) is_begun l.t l.mask l.p (parties - l.p)
-
-abbrev pub decreases-loop-p : goal.decreases-loop-p
-decreases-loop-p l = parties - l.p
+invariant-loop-p l = Masking (begun_mask l.t) is_begun l.t l.mask l.p (parties - l.p)

@@ -8,19 +8,19 @@ use Rattle.holders.proofs.Turns.{Entering, entry-start, entry-bad, entry_more, e
 use Rattle.holders.proofs.entries_ok.Goals as goal
 
 pub loop-e-init : goal.loop-e-init
-loop-e-init c = (search rules, omega arith, entry-start (omega arith))
+loop-e-init c = entry-start (omega arith)
 
 pub entry_word-share-requires : goal.entry_word-share-requires
-entry_word-share-requires c = (has-entry c.requires (c.loop-e.invariant.0, c.loop-e-test.true), search rules)
+entry_word-share-requires c = (has-entry c.args.records.inside (c.loop-e.auto.e, omega arith), search rules)
 
 pub entry_word-exclusive-requires : goal.entry_word-exclusive-requires
-entry_word-exclusive-requires c = (has-entry c.requires (c.loop-e.invariant.0, c.loop-e-test.true), search rules)
+entry_word-exclusive-requires c = (has-entry c.args.records.inside (c.loop-e.auto.e, omega arith), search rules)
 
 pub returns-then-not-holders_ok : goal.returns-then-not-holders_ok
-returns-then-not-holders_ok c = entry-bad c.loop-e.invariant.2 (omega arith) c.entry_word-share.ensures c.entry_word-exclusive.ensures c.holders_ok.ensures c.if-not-holders_ok.true
+returns-then-not-holders_ok c = entry-bad c.loop-e.invariant (omega arith) c.entry_word-share.ensures c.entry_word-exclusive.ensures c.holders_ok.ensures c.if-not-holders_ok.true
 
 pub loop-e-preserved : goal.loop-e-preserved
-loop-e-preserved c = (omega arith, omega arith, entry_more c.loop-e.invariant.2 (omega arith) c.entry_word-share.ensures c.entry_word-exclusive.ensures c.holders_ok.ensures c.if-not-holders_ok.false (omega arith))
+loop-e-preserved c = entry_more c.loop-e.invariant (omega arith) c.entry_word-share.ensures c.entry_word-exclusive.ensures c.holders_ok.ensures c.if-not-holders_ok.false (omega arith)
 
 pub returns : goal.returns
-returns c = entry-end c.loop-e.invariant.2 (omega arith)
+returns c = entry-end c.loop-e.invariant (omega arith)

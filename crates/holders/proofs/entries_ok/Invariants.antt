@@ -8,7 +8,4 @@ use Rattle.holders.proofs.Turns.{Entering, entry-start, entry-bad, entry_more, e
 use Rattle.holders.proofs.entries_ok.Given as goal
 
 abbrev pub invariant-loop-e : goal.invariant-loop-e
-invariant-loop-e l = (1 ≤ l.e) × (l.e ≤ l.m + 1) × Entering (entries_from l.store l.begun 1 l.m) l.store l.begun l.e (l.m + 1 - l.e)
-
-abbrev pub decreases-loop-e : goal.decreases-loop-e
-decreases-loop-e l = l.m + 1 - l.e
+invariant-loop-e l = Entering (entries_from l.records.store.now l.begun 1 l.records.m) l.records.store.now l.begun l.e (l.records.m + 1 - l.e)

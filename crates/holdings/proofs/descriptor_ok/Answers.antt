@@ -15,4 +15,4 @@ returns-then-r-d c = simp (ne_eqb _ _ c.if-d-eq0.false, lt-leb _ _ c.if-r-d.true
 
 pub returns : goal.returns
 unfolding descriptor_ok
-returns c = simp (ne_eqb _ _ c.if-d-eq0.false, le-leb _ _ c.if-r-d.false, sym c.group_ok.ensures, sym c.load_descriptor-words.ensures)
+returns c = simp (ne_eqb _ _ c.if-d-eq0.false, le-leb _ _ c.if-r-d.false, sym c.group_ok.ensures, sym c.load-words.ensures)

@@ -9,10 +9,10 @@ use Rattle.holdings.proofs.group_one.Goals as goal
 
 pub returns-then-not-descriptor_ok : goal.returns-then-not-descriptor_ok
 unfolding group_one
-returns-then-not-descriptor_ok c = ended-as {b = false} (simp (sym c.descriptor_ok.ensures ∙ c.if-not-descriptor_ok.true)) refl
+returns-then-not-descriptor_ok c = ended-as {b = false} {n = c.args.left} (simp (sym c.descriptor_ok.ensures ∙ c.if-not-descriptor_ok.true))
 
 pub walk_lists-requires : goal.walk_lists-requires
-walk_lists-requires c = let k = descriptor-in _ _ _ _ _ _ _ (sym c.descriptor_ok.ensures ∙ c.if-not-descriptor_ok.false) in (c.requires.0, c.requires.1, c.requires.3, k.0, k.1)
+walk_lists-requires c = let k = descriptor-in _ _ _ _ _ _ _ (sym c.descriptor_ok.ensures ∙ c.if-not-descriptor_ok.false) in (c.requires.0, c.requires.2, k.0, k.1)
 
 pub returns : goal.returns
 unfolding group_one

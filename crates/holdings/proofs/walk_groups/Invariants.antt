@@ -11,7 +11,4 @@ use Rattle.holdings.proofs.Turns.{Grouping, group-start, group-bad, group-more, 
 use Rattle.holdings.proofs.walk_groups.Given as goal
 
 abbrev pub invariant-loop-k : goal.invariant-loop-k
-invariant-loop-k l = (l.k ≤ l.count) × (length l.seen ≡ length l.initial.seen) × (length l.lists ≡ length l.initial.lists) × Knows l.t l.so × Grouping (all_groups l.store l.order l.tally l.files l.m l.r l.begun l.t l.count l.initial.seen l.initial.lists l.left) l.store l.order l.tally l.files l.m l.r l.begun l.t l.count l.seen l.lists l.more l.k (l.count - l.k)
-
-abbrev pub decreases-loop-k : goal.decreases-loop-k
-decreases-loop-k l = l.count - l.k
+invariant-loop-k l = (length l.seen ≡ length l.initial.seen) × (length l.lists ≡ length l.initial.lists) × Knows l.t l.so × Grouping (all_groups l.records.store.now l.order l.tally l.files l.records.m l.records.r l.begun l.t l.count l.initial.seen l.initial.lists l.left) l.records.store.now l.order l.tally l.files l.records.m l.records.r l.begun l.t l.count l.seen l.lists l.more l.k (l.count - l.k)

@@ -1,4 +1,3 @@
-use borrow.Author.Rules.{rules}
 use borrow.Author.Tests.{ne_eqb}
 use Rattle.joins.specs.Joins.{down_bound}
 use Rattle.joins.specs.Runs.{down-lowest, down-lowest-same}

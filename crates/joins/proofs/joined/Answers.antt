@@ -1,10 +1,9 @@
 use Rattle.joins.specs.Runs.{joined-run}
-use borrow.Author.Rules.{rules}
 use Rattle.joins.proofs.joined.Goals as goal
 
 pub join_nodes-requires : goal.join_nodes-requires
 join_nodes-requires c =
-    rw (c.load_node-left.ensures, c.load_node-right.ensures) (c.requires.some_left, c.requires.some_right, c.requires.room)
+    rw (c.load-left.ensures, c.load-right.ensures) (c.requires.some_left, c.requires.some_right, c.requires.room)
 
 pub returns : goal.returns
-returns c = joined-run _ _ _ _ _ c.load_node-left.ensures c.load_node-right.ensures c.join_nodes.ensures
+returns c = joined-run _ _ _ _ _ c.load-left.ensures c.load-right.ensures c.join_nodes.ensures

@@ -1,7 +1,6 @@
 use mathlib.Core.Path.{refl}
 use native.Mathlib.Omega.{arith}
 use lib.Dec.{lit<}
-use borrow.Author.Rules.{rules}
 use Rattle.nodes.specs.Paths.{has-at}
 use Rattle.joins.specs.Runs.{down-count, last-same, last-key-run}
 use Rattle.joins.proofs.last_key.Goals as goal

@@ -1,6 +1,5 @@
 use mathlib.Core.Path.{refl}
 use native.Mathlib.Omega.{arith}
-use borrow.Author.Rules.{rules}
 use Rattle.nodes.specs.Paths.{has-at}
 use Rattle.joins.specs.Runs.{right-run}
 use Rattle.joins.proofs.move_right.Goals as goal
@@ -9,21 +8,21 @@ pub moved_right-n-requires : goal.moved_right-n-requires
 moved_right-n-requires c =
     rw (c.node_son-l.ensures, c.node_son-q.ensures) c.requires.go
 
-pub write_node-requires : goal.write_node-requires
-write_node-requires c = has-at c.requires.go.left (omega arith) c.node_son-l.ensures
+pub write-requires : goal.write-requires
+write-requires c = has-at c.requires.go.left (omega arith) c.node_son-l.ensures
 
-pub write_node-requires-2 : goal.write_node-requires-2
-write_node-requires-2 c = has-at c.requires.go.right (omega arith) c.node_son-q.ensures
+pub write-requires-2 : goal.write-requires-2
+write-requires-2 c = has-at c.requires.go.right (omega arith) c.node_son-q.ensures
 
 pub set_bound-other-requires : goal.set_bound-other-requires
 set_bound-other-requires c =
     c.requires.place
 
-pub write_node-requires-3 : goal.write_node-requires-3
-write_node-requires-3 c = has-at c.requires.node (omega arith) refl
+pub write-requires-3 : goal.write-requires-3
+write-requires-3 c = has-at c.requires.node (omega arith) refl
 
 pub returns : goal.returns
 returns c =
-    right-run _ _ _ _ _ _ c.load_node-p.ensures c.node_son-l.ensures c.node_son-q.ensures c.moved_right-n.ensures
-    c.write_node.ensures c.with_latch.ensures c.write_node-2.ensures c.set_bound-other.ensures c.with_latch-2.ensures
-    c.write_node-3.ensures
+    right-run _ _ _ _ _ _ c.load-p.ensures c.node_son-l.ensures c.node_son-q.ensures c.moved_right-n.ensures
+    c.write.ensures c.with_latch.ensures c.write-2.ensures c.set_bound-other.ensures c.with_latch-2.ensures
+    c.write-3.ensures

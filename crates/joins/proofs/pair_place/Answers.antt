@@ -1,5 +1,4 @@
 use mathlib.Core.Path.{sym}
-use borrow.Author.Rules.{rules}
 use borrow.Author.Tests.{eq-eqb, ne_eqb}
 use Rattle.joins.specs.Joins.{pair_place}
 use Rattle.joins.proofs.pair_place.Goals as goal

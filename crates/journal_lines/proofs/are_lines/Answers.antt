@@ -1,22 +1,24 @@
-use borrow.Author.Tests.{not-true, not-false}
-use Rattle.journal_lines.specs.Loops.{Reading, reading-start, reading-out, reading-long, reading-no, reading-more, reading-end}
-use borrow.Author.Rules.{rules}
+use Rattle.std.proofs.Common.{ℕ, subst, arith, rules}
+use Rattle.journal_lines.specs.Loops.{Reading, reading-start, reading-end, reading-out, reading-long, reading-no, reading-more}
+use Rattle.journal_lines.specs.Ends.{tells-end}
 use Rattle.journal_lines.proofs.are_lines.Goals as goal
 
-pub loop-at-init : goal.loop-at-init
-loop-at-init c = reading-start _
+pub loop-passed-init : goal.loop-passed-init
+loop-passed-init c = subst (λ (left : ℕ). Reading c.args.bytes.now left 1) (omega arith) (reading-start _)
 
-pub returns-then-all-at : goal.returns-then-all-at
-returns-then-all-at c = reading-out c.loop-at.invariant c.loop-at-test.true (search rules)
+pub returns-then-at-eq0 : goal.returns-then-at-eq0
+returns-then-at-eq0 c = reading-end c.loop-passed.invariant c.if-at-eq0.true
 
-pub returns-then-left-eq0 : goal.returns-then-left-eq0
-returns-then-left-eq0 c = reading-long c.loop-at.invariant c.loop-at-test.true (search rules)
+pub returns-then-records-at : goal.returns-then-records-at
+returns-then-records-at c = reading-out c.loop-passed.invariant c.if-at-eq0.false (search rules)
 
-pub returns-then-not-good : goal.returns-then-not-good
-returns-then-not-good c = reading-no c.loop-at.invariant _ _ c.loop-at-test.true (search rules) c.if-left-eq0.false c.read-r.ensures c.is_list-good.ensures c.if-not-good.true
+pub returns-then-not-is_list : goal.returns-then-not-is_list
+returns-then-not-is_list c = reading-no c.loop-passed.invariant _ _ c.if-at-eq0.false (search rules) (omega arith) c.read-r.ensures c.is_list.ensures (search rules)
 
-pub loop-at-preserved : goal.loop-at-preserved
-loop-at-preserved c = reading-more c.loop-at.invariant _ _ c.loop-at-test.true (search rules) c.if-left-eq0.false c.read-r.ensures c.is_list-good.ensures c.if-not-good.false
+pub loop-passed-preserved : goal.loop-passed-preserved
+loop-passed-preserved c =
+    subst (λ (left : ℕ). Reading c.args.bytes.now left c.read-r.result.next) (omega arith)
+    (reading-more c.loop-passed.invariant _ _ c.if-at-eq0.false (search rules) (omega arith) c.read-r.ensures c.is_list.ensures (search rules))
 
 pub returns : goal.returns
-returns c = reading-end c.loop-at.invariant (search rules)
+returns c = let i = c.loop-passed.invariant in tells-end _ (reading-end i) (λ n. reading-long i n (omega arith))

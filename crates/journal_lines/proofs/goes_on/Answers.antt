@@ -1,23 +1,21 @@
-use mathlib.Core.Path.{refl}
-use native.Mathlib.Omega.{arith}
+use Rattle.std.proofs.Common.{ℕ, refl, subst, arith, rules}
 use Rattle.journal_lines.specs.Loops.{Seeking, seeking-left, seeking-found, seeking-more, seeking-end}
-use borrow.Author.Rules.{rules}
+use Rattle.journal_lines.specs.Ends.{at-end}
 use Rattle.journal_lines.proofs.goes_on.Goals as goal
 
-pub loop-at-init : goal.loop-at-init
-loop-at-init c = record { readable = search rules; is = refl }
+pub loop-passed-init : goal.loop-passed-init
+loop-passed-init c =
+    subst (λ (left : ℕ). Seeking c.args.bytes.now c.args.many c.args.start c.args.run left c.args.start) (omega arith) (record { readable = search rules; is = refl })
+
+pub returns-then-at-eq0 : goal.returns-then-at-eq0
+returns-then-at-eq0 c = seeking-end c.loop-passed.invariant c.if-at-eq0.true
 
 pub returns-then-r-run : goal.returns-then-r-run
-returns-then-r-run c = seeking-found c.loop-at.invariant _ c.loop-at-test.true c.read-r.ensures c.if-r-run.true
+returns-then-r-run c = seeking-found c.loop-passed.invariant _ c.if-at-eq0.false c.read-r.ensures c.if-r-run.true
 
-pub overflow_sub-left : goal.overflow_sub-left
-overflow_sub-left c = seeking-left c.loop-at.invariant c.loop-at-test.true
-
-pub loop-at-smaller : goal.loop-at-smaller
-loop-at-smaller c = omega (arith, seeking-left c.loop-at.invariant c.loop-at-test.true)
-
-pub loop-at-preserved : goal.loop-at-preserved
-loop-at-preserved c = seeking-more c.loop-at.invariant _ c.loop-at-test.true c.read-r.ensures c.if-r-run.false
+pub loop-passed-preserved : goal.loop-passed-preserved
+loop-passed-preserved c =
+    subst (λ (left : ℕ). Seeking c.args.bytes.now c.args.many c.args.start c.args.run left c.read-r.result.next) (omega arith) (seeking-more c.loop-passed.invariant _ c.if-at-eq0.false c.read-r.ensures c.if-r-run.false)
 
 pub returns : goal.returns
-returns c = seeking-end c.loop-at.invariant c.loop-at-test.false
+returns c = let i = c.loop-passed.invariant in seeking-end i (at-end _ _ (seeking-left i) (omega arith))

@@ -1,26 +1,23 @@
-use native.Mathlib.Omega.{arith}
-use borrow.Author.Tests.{not-true, not-false}
+use Rattle.std.proofs.Common.{ℕ, subst, arith, rules}
 use Rattle.journal_lines.specs.Loops.{Going, going_start, going-left, going_on, going-no, going_more, going_end}
-use borrow.Author.Rules.{rules}
+use Rattle.journal_lines.specs.Ends.{at-end}
 use Rattle.journal_lines.proofs.is_orderly.Goals as goal
 
-pub loop-at-init : goal.loop-at-init
-loop-at-init c = going_start _ c.requires
+pub loop-passed-init : goal.loop-passed-init
+loop-passed-init c = subst (λ (left : ℕ). Going c.args.bytes.now left 1) (omega arith) (going_start _ c.requires)
 
-pub overflow_sub-left : goal.overflow_sub-left
-overflow_sub-left c = going-left c.loop-at.invariant c.loop-at-test.true
+pub returns-then-at-eq0 : goal.returns-then-at-eq0
+returns-then-at-eq0 c = going_end c.loop-passed.invariant c.if-at-eq0.true
 
-pub is_in_order-good-requires : goal.is_in_order-good-requires
-is_in_order-good-requires c = going_on c.loop-at.invariant _ c.loop-at-test.true c.read-r.ensures
+pub is_in_order-requires : goal.is_in_order-requires
+is_in_order-requires c = going_on c.loop-passed.invariant _ c.if-at-eq0.false c.read-r.ensures
 
-pub returns-then-not-good : goal.returns-then-not-good
-returns-then-not-good c = going-no c.loop-at.invariant _ c.loop-at-test.true c.read-r.ensures _ c.is_in_order-good.ensures c.if-not-good.true
+pub returns-then-not-is_in_order : goal.returns-then-not-is_in_order
+returns-then-not-is_in_order c = going-no c.loop-passed.invariant _ c.if-at-eq0.false c.read-r.ensures _ c.is_in_order.ensures (search rules)
 
-pub loop-at-smaller : goal.loop-at-smaller
-loop-at-smaller c = omega (arith, going-left c.loop-at.invariant c.loop-at-test.true)
-
-pub loop-at-preserved : goal.loop-at-preserved
-loop-at-preserved c = going_more c.loop-at.invariant _ c.loop-at-test.true c.read-r.ensures _ c.is_in_order-good.ensures c.if-not-good.false
+pub loop-passed-preserved : goal.loop-passed-preserved
+loop-passed-preserved c =
+    subst (λ (left : ℕ). Going c.args.bytes.now left c.read-r.result.next) (omega arith) (going_more c.loop-passed.invariant _ c.if-at-eq0.false c.read-r.ensures _ c.is_in_order.ensures (search rules))
 
 pub returns : goal.returns
-returns c = going_end c.loop-at.invariant c.loop-at-test.false
+returns c = let i = c.loop-passed.invariant in going_end i (at-end _ _ (going-left i) (omega arith))

@@ -1,7 +1,6 @@
 use native.Mathlib.Omega.{arith}
 use lib.ListN.{length-set}
 use borrow.Author.Tests.{eq-eqb, ne_eqb}
-use borrow.Author.Rules.{rules}
 use Rattle.marks.specs.Trail.{turned}
 use Rattle.lists.specs.Lists.{list_entry}
 use Rattle.lists.proofs.list_entry.Goals as goal

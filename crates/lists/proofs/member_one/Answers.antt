@@ -1,7 +1,6 @@
 use mathlib.Core.Path.{◌∙◌, sym}
 use native.Mathlib.Omega.{arith}
-use borrow.Author.Tests.{eq-eqb, ne_eqb, not-true, not-false}
-use borrow.Author.Rules.{rules}
+use borrow.Author.Tests.{eq-eqb, ne_eqb}
 use Rattle.marks.specs.Trail.{turned, turned-to}
 use Rattle.marks.specs.Steps.{entry_in}
 use Rattle.lists.specs.Lists.{member_one}

@@ -1,7 +1,6 @@
 use Prim.Native.Nat.{◌+◌}
 use native.Mathlib.Omega.{arith}
 use borrow.Author.Tests.{eq-eqb, ne_eqb}
-use borrow.Author.Rules.{rules}
 use Rattle.marks.specs.Trail.{turned}
 use Rattle.lists.specs.Lists.{unlist_entry}
 use Rattle.lists.proofs.unlist_entry.Goals as goal

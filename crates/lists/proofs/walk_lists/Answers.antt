@@ -1,10 +1,11 @@
-use borrow.Author.Tests.{not-true, not-false}
-use borrow.Author.Rules.{rules}
 use Rattle.lists.proofs.Turns.{lists-stop, lists-run}
 use Rattle.lists.proofs.walk_lists.Goals as goal
 
-pub returns-then-not-c : goal.returns-then-not-c
-returns-then-not-c c = lists-stop _ _ _ _ _ _ _ _ c.descriptor_first-first.ensures c.walk_members-c.ensures (not-true _ c.if-not-c.true)
+pub returns-in_err-more : goal.returns-in_err-more
+returns-in_err-more c = rw c.from_residual.ensures (lists-stop _ _ _ _ _ _ _ _ c.descriptor_first-first.ensures c.walk_members.ensures c.in_err-more.was)
+
+pub returns-then-not-undo_group : goal.returns-then-not-undo_group
+returns-then-not-undo_group c = lists-run _ _ _ _ _ _ _ _ c.descriptor_first-first.ensures c.walk_members.ensures c.in_ok-more.was c.filed-undo.ensures c.undo_group.ensures (simp c.if-not-undo_group.true)
 
 pub returns : goal.returns
-returns c = lists-run _ _ _ _ _ _ _ _ c.descriptor_first-first.ensures c.walk_members-c.ensures (not-false _ c.if-not-c.false) c.filed-undo.ensures c.undo_group-fine.ensures
+returns c = lists-run _ _ _ _ _ _ _ _ c.descriptor_first-first.ensures c.walk_members.ensures c.in_ok-more.was c.filed-undo.ensures c.undo_group.ensures (simp c.if-not-undo_group.false)

@@ -2,7 +2,6 @@ use Rattle.locks.specs.Rule.{agrees_of}
 use mathlib.Core.Path.{refl}
 use native.Mathlib.Omega.{arith}
 use Rattle.locks.proofs.Table.{cell}
-use borrow.Author.Rules.{rules}
 use Rattle.locks.proofs.agrees.Goals as goal
 
 pub returns : goal.returns

@@ -1,5 +1,4 @@
 use Rattle.locks.proofs.Conflict.{conflict-run}
-use borrow.Author.Rules.{rules}
 use Rattle.locks.proofs.conflicting.Goals as goal
 
 pub returns : goal.returns

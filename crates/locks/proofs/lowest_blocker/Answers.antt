@@ -2,7 +2,6 @@ use Prim.Native.Nat.{ℕ}
 use mathlib.Core.Path.{ap, ◌∙◌}
 use Rattle.locks.specs.Holders.{first_of, holders}
 use Rattle.locks.specs.Blockers.{conflicts-holders}
-use borrow.Author.Rules.{rules}
 use Rattle.locks.proofs.lowest_blocker.Goals as goal
 
 pub returns : goal.returns

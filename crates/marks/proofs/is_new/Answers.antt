@@ -1,5 +1,4 @@
 use borrow.Author.Tests.{eq-eqb, le-leb, lt-leb, ne_eqb}
-use borrow.Author.Rules.{rules}
 use Rattle.marks.specs.Marks.{is_new}
 use Rattle.marks.proofs.is_new.Goals as goal
 

@@ -1,7 +1,5 @@
 use mathlib.Core.Path.{sym, ◌∙◌}
 use native.Mathlib.Omega.{arith}
-use borrow.Author.Tests.{not-true, not-false}
-use borrow.Author.Rules.{rules}
 use Rattle.marks.specs.Steps.{met-not, met-new, new_in}
 use Rattle.marks.proofs.meet.Goals as goal
 

@@ -11,13 +11,13 @@ use Rattle.parties.proofs.all_undos.Goals as goal
 
 pub loop-p-init : goal.loop-p-init
 unfolding all_undos
-loop-p-init c = (search rules, search rules, refl, refl, record { is = refl })
+loop-p-init c = (refl, refl, record { is = refl })
 
-pub returns-then-not-c : goal.returns-then-not-c
-returns-then-not-c c = take-bad c.loop-p.invariant.4 (omega arith) c.walk_undos-c.ensures (not-true _ c.if-not-c.true)
+pub returns-in_err-more : goal.returns-in_err-more
+returns-in_err-more c = rw c.from_residual.ensures (take-bad c.loop-p.invariant.2 (omega arith) c.walk_undos.ensures c.in_err-more.was)
 
 pub loop-p-preserved : goal.loop-p-preserved
-loop-p-preserved c = (omega arith, omega arith, search rules, search rules, take_more c.loop-p.invariant.4 (omega arith) c.walk_undos-c.ensures (not-false _ c.if-not-c.false) (omega arith))
+loop-p-preserved c = (search rules, search rules, take_more c.loop-p.invariant.2 (omega arith) c.walk_undos.ensures c.in_ok-more.was (omega arith))
 
 pub returns : goal.returns
-returns c = take-end c.loop-p.invariant.4 (omega arith)
+returns c = take-end c.loop-p.invariant.2 (omega arith)

@@ -10,7 +10,4 @@ use Rattle.parties.proofs.Turns.{Taking, take-bad, take_more, take-end}
 use Rattle.parties.proofs.all_undos.Given as goal
 
 abbrev pub invariant-loop-p : goal.invariant-loop-p
-invariant-loop-p l = (1 ≤ l.p) × (l.p ≤ parties) × (length l.seen ≡ length l.initial.seen) × (length l.files ≡ length l.initial.files) × Taking (all_undos l.store l.m l.r l.t l.initial.seen l.initial.files l.left) l.store l.m l.r l.t l.seen l.files l.more l.p (parties - l.p)
-
-abbrev pub decreases-loop-p : goal.decreases-loop-p
-decreases-loop-p l = parties - l.p
+invariant-loop-p l = (length l.seen ≡ length l.initial.seen) × (length l.files ≡ length l.initial.files) × Taking (all_undos l.records.store.now l.records.m l.records.r l.t l.initial.seen l.initial.files l.left) l.records.store.now l.records.m l.records.r l.t l.seen l.files l.more l.p (parties - l.p)

@@ -4,18 +4,18 @@ use native.Mathlib.Omega.{arith}
 use borrow.Author.Rules.{rules}
 use Rattle.sessions.specs.Sessions.{parties}
 use Rattle.parties.specs.Parties.{has_undos}
-use Rattle.parties.proofs.Turns.{Seeking, seek_found, seek-more, seek-end}
+use Rattle.parties.proofs.Turns.{Seeking, behind, seek_found, seek-more, seek-end}
 use Rattle.parties.proofs.has_undos.Goals as goal
 
-pub loop-p-init : goal.loop-p-init
+pub loop-s-init : goal.loop-s-init
 unfolding has_undos
-loop-p-init c = (search rules, search rules, record { is = refl })
+loop-s-init c = record { is = refl }
 
 pub returns-then-s-ne0 : goal.returns-then-s-ne0
-returns-then-s-ne0 c = seek_found c.loop-p.invariant.2 (omega arith) c.if-s-ne0.true
+returns-then-s-ne0 c = seek_found c.loop-s.invariant (omega arith) (behind c.args.t c.loop-s.s-index (omega arith)) c.if-s-ne0.true
 
-pub loop-p-preserved : goal.loop-p-preserved
-loop-p-preserved c = (omega arith, omega arith, seek-more c.loop-p.invariant.2 (omega arith) c.if-s-ne0.false (omega arith))
+pub loop-s-preserved : goal.loop-s-preserved
+loop-s-preserved c = seek-more c.loop-s.invariant (omega arith) (behind c.args.t c.loop-s.s-index (omega arith)) c.if-s-ne0.false (omega arith) (omega arith)
 
 pub returns : goal.returns
-returns c = seek-end c.loop-p.invariant.2 (omega arith)
+returns c = seek-end c.loop-s.invariant (omega arith)

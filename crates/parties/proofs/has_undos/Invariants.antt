@@ -1,5 +1,5 @@
 use mathlib.Core.Path.{refl}
-use Prim.Native.Nat.{◌-◌, ◌≤◌}
+use Prim.Native.Nat.{◌+◌, ◌-◌, ◌≤◌}
 use native.Mathlib.Omega.{arith}
 use borrow.Author.Rules.{rules}
 use Rattle.sessions.specs.Sessions.{parties}
@@ -7,8 +7,5 @@ use Rattle.parties.specs.Parties.{has_undos}
 use Rattle.parties.proofs.Turns.{Seeking, seek_found, seek-more, seek-end}
 use Rattle.parties.proofs.has_undos.Given as goal
 
-abbrev pub invariant-loop-p : goal.invariant-loop-p
-invariant-loop-p l = (1 ≤ l.p) × (l.p ≤ parties) × Seeking (has_undos l.t) l.t l.p (parties - l.p)
-
-abbrev pub decreases-loop-p : goal.decreases-loop-p
-decreases-loop-p l = parties - l.p
+abbrev pub invariant-loop-s : goal.invariant-loop-s
+invariant-loop-s l = Seeking (has_undos l.fn.t) l.fn.t (1 + l.s-index) (parties - (1 + l.s-index))

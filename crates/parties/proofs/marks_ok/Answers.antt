@@ -10,13 +10,13 @@ use Rattle.parties.proofs.marks_ok.Goals as goal
 
 pub loop-p-init : goal.loop-p-init
 unfolding marks_ok
-loop-p-init c = (search rules, record { is = refl })
+loop-p-init c = record { is = refl }
 
 pub returns-then-not-mark_ok : goal.returns-then-not-mark_ok
-returns-then-not-mark_ok c = mark-bad c.loop-p.invariant.1 (omega arith) c.mark_ok.ensures c.if-not-mark_ok.true
+returns-then-not-mark_ok c = mark-bad c.loop-p.invariant (omega arith) c.mark_ok.ensures c.if-not-mark_ok.true
 
 pub loop-p-preserved : goal.loop-p-preserved
-loop-p-preserved c = (omega arith, mark-more c.loop-p.invariant.1 (omega arith) c.mark_ok.ensures c.if-not-mark_ok.false (omega arith))
+loop-p-preserved c = mark-more c.loop-p.invariant (omega arith) c.mark_ok.ensures c.if-not-mark_ok.false (omega arith)
 
 pub returns : goal.returns
-returns c = mark-end c.loop-p.invariant.1 (omega arith)
+returns c = mark-end c.loop-p.invariant (omega arith)

@@ -9,7 +9,4 @@ use Rattle.parties.proofs.Turns.{Marking, mark-bad, mark-more, mark-end}
 use Rattle.parties.proofs.marks_ok.Given as goal
 
 abbrev pub invariant-loop-p : goal.invariant-loop-p
-invariant-loop-p l = (l.p ≤ parties) × Marking (marks_ok l.t) l.t l.p (parties - l.p)
-
-abbrev pub decreases-loop-p : goal.decreases-loop-p
-decreases-loop-p l = parties - l.p
+invariant-loop-p l = Marking (marks_ok l.t) l.t l.p (parties - l.p)

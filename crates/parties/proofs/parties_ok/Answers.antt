@@ -11,13 +11,13 @@ use Rattle.parties.proofs.parties_ok.Goals as goal
 
 pub loop-p-init : goal.loop-p-init
 unfolding parties_ok
-loop-p-init c = (search rules, refl, record { is = refl })
+loop-p-init c = (refl, record { is = refl })
 
 pub returns-then-not-party_ok : goal.returns-then-not-party_ok
-returns-then-not-party_ok c = stand-bad c.loop-p.invariant.2 (omega arith) c.party_ok.ensures c.if-not-party_ok.true
+returns-then-not-party_ok c = stand-bad c.loop-p.invariant.1 (omega arith) c.party_ok.ensures c.if-not-party_ok.true
 
 pub loop-p-preserved : goal.loop-p-preserved
-loop-p-preserved c = (omega arith, search rules, stand-more c.loop-p.invariant.2 (omega arith) c.party_ok.ensures c.if-not-party_ok.false (omega arith))
+loop-p-preserved c = (search rules, stand-more c.loop-p.invariant.1 (omega arith) c.party_ok.ensures c.if-not-party_ok.false (omega arith))
 
 pub returns : goal.returns
-returns c = stand-end c.loop-p.invariant.2 (omega arith)
+returns c = stand-end c.loop-p.invariant.1 (omega arith)

@@ -7,7 +7,4 @@ use Rattle.parties.proofs.Turns.{Counting, count-more, count-end, one-le}
 use Rattle.parties.proofs.standing_at_nodes.Given as goal
 
 abbrev pub invariant-loop-p : goal.invariant-loop-p
-invariant-loop-p l = (l.p ≤ parties) × (l.n ≤ l.p) × Counting (standing_at_nodes l.t) l.t l.n l.p (parties - l.p)
-
-abbrev pub decreases-loop-p : goal.decreases-loop-p
-decreases-loop-p l = parties - l.p
+invariant-loop-p l = (l.n ≤ l.p) × Counting (standing_at_nodes l.t) l.t l.n l.p (parties - l.p)

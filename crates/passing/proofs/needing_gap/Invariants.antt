@@ -9,7 +9,4 @@ use Rattle.holders.proofs.Turns.{Masking, mask-more, mask_end}
 use Rattle.passing.proofs.needing_gap.Given as goal
 
 abbrev pub invariant-loop-p : goal.invariant-loop-p
-invariant-loop-p l = (1 ≤ l.p) × (l.p ≤ parties) × Masking (sessions_with (needs_gap l.key l.next) l.t) (needs_gap l.key l.next) l.t l.mask l.p (parties - l.p)
-
-abbrev pub decreases-loop-p : goal.decreases-loop-p
-decreases-loop-p l = parties - l.p
+invariant-loop-p l = Masking (sessions_with (needs_gap l.key l.next) l.t) (needs_gap l.key l.next) l.t l.mask l.p (parties - l.p)

@@ -11,7 +11,4 @@ use Rattle.passing.proofs.Turns.{Lowering, low-more, low_end}
 use Rattle.passing.proofs.passed_at.Given as goal
 
 abbrev pub invariant-loop-p : goal.invariant-loop-p
-invariant-loop-p l = (1 ≤ l.p) × (l.p ≤ parties) × Masking (sessions_with (has_passed l.key) l.t) (has_passed l.key) l.t l.mask l.p (parties - l.p) × Lowering (lowest_from (changes_at l.key) l.t 4294967296 1 (parties - 1)) (changes_at l.key) l.t l.until l.p (parties - l.p)
-
-abbrev pub decreases-loop-p : goal.decreases-loop-p
-decreases-loop-p l = parties - l.p
+invariant-loop-p l = Masking (sessions_with (has_passed l.key) l.t) (has_passed l.key) l.t l.mask l.p (parties - l.p) × Lowering (lowest_from (changes_at l.key) l.t 4294967296 1 (parties - 1)) (changes_at l.key) l.t l.until l.p (parties - l.p)

@@ -12,18 +12,18 @@ pub returns-then-not-key_ok : goal.returns-then-not-key_ok
 unfolding change_ok
 returns-then-not-key_ok c = simp (sym c.entry_ok.ensures ∙ c.if-not-entry_ok.false, sym c.key_ok.ensures ∙ c.if-not-key_ok.true)
 
-pub returns-then-s-gt4 : goal.returns-then-s-gt4
+pub returns-then-s : goal.returns-then-s
 unfolding change_ok
-returns-then-s-gt4 c = simp (sym c.entry_ok.ensures ∙ c.if-not-entry_ok.false, sym c.key_ok.ensures ∙ c.if-not-key_ok.false, lt-leb _ _ c.if-s-gt4.true, sym c.entry_ok.ensures)
+returns-then-s c = simp (sym c.entry_ok.ensures ∙ c.if-not-entry_ok.false, sym c.key_ok.ensures ∙ c.if-not-key_ok.false, lt-leb _ _ c.if-s.true, sym c.entry_ok.ensures)
 
-pub returns-then-s-eq1 : goal.returns-then-s-eq1
+pub returns-then-s-2 : goal.returns-then-s-2
 unfolding change_ok
-returns-then-s-eq1 c = simp (sym c.entry_ok.ensures ∙ c.if-not-entry_ok.false, sym c.key_ok.ensures ∙ c.if-not-key_ok.false, le-leb _ _ c.if-s-gt4.false, eq-eqb _ _ c.if-s-eq1.true, sym c.key_ok.ensures, sym c.entry_ok.ensures)
+returns-then-s-2 c = simp (sym c.entry_ok.ensures ∙ c.if-not-entry_ok.false, sym c.key_ok.ensures ∙ c.if-not-key_ok.false, le-leb _ _ c.if-s.false, eq-eqb _ _ c.if-s-2.true, sym c.key_ok.ensures, sym c.entry_ok.ensures)
 
-pub returns-then-s-eq4 : goal.returns-then-s-eq4
+pub returns-then-s-3 : goal.returns-then-s-3
 unfolding change_ok
-returns-then-s-eq4 c = simp (sym c.entry_ok.ensures ∙ c.if-not-entry_ok.false, sym c.key_ok.ensures ∙ c.if-not-key_ok.false, le-leb _ _ c.if-s-gt4.false, ne_eqb _ _ c.if-s-eq1.false, eq-eqb _ _ c.if-s-eq4.true, sym c.key_ok.ensures, sym c.entry_ok.ensures)
+returns-then-s-3 c = simp (sym c.entry_ok.ensures ∙ c.if-not-entry_ok.false, sym c.key_ok.ensures ∙ c.if-not-key_ok.false, le-leb _ _ c.if-s.false, ne_eqb _ _ c.if-s-2.false, eq-eqb _ _ c.if-s-3.true, sym c.key_ok.ensures, sym c.entry_ok.ensures)
 
 pub returns : goal.returns
 unfolding change_ok
-returns c = rw (sym c.entry_ok.ensures ∙ c.if-not-entry_ok.false, sym c.key_ok.ensures ∙ c.if-not-key_ok.false, le-leb _ _ c.if-s-gt4.false, ne_eqb _ _ c.if-s-eq1.false, ne_eqb _ _ c.if-s-eq4.false) refl
+returns c = rw (sym c.entry_ok.ensures ∙ c.if-not-entry_ok.false, sym c.key_ok.ensures ∙ c.if-not-key_ok.false, le-leb _ _ c.if-s.false, ne_eqb _ _ c.if-s-2.false, ne_eqb _ _ c.if-s-3.false) refl

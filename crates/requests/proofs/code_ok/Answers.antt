@@ -9,18 +9,18 @@ pub returns-then-s-eq0 : goal.returns-then-s-eq0
 unfolding code_ok
 returns-then-s-eq0 c = simp (eq-eqb _ _ c.if-s-eq0.true)
 
-pub returns-then-s-le2 : goal.returns-then-s-le2
+pub returns-then-s : goal.returns-then-s
 unfolding code_ok
-returns-then-s-le2 c = simp (ne_eqb _ _ c.if-s-eq0.false, le-leb _ _ c.if-s-le2.true, sym c.value_ok.ensures)
+returns-then-s c = simp (ne_eqb _ _ c.if-s-eq0.false, le-leb _ _ c.if-s.true, sym c.value_ok.ensures)
 
-pub returns-then-s-le4 : goal.returns-then-s-le4
+pub returns-then-s-2 : goal.returns-then-s-2
 unfolding code_ok
-returns-then-s-le4 c = simp (ne_eqb _ _ c.if-s-eq0.false, lt-leb _ _ c.if-s-le2.false, le-leb _ _ c.if-s-le4.true, sym c.change_ok.ensures)
+returns-then-s-2 c = simp (ne_eqb _ _ c.if-s-eq0.false, lt-leb _ _ c.if-s.false, le-leb _ _ c.if-s-2.true, sym c.change_ok.ensures)
 
-pub returns-then-s-eq5 : goal.returns-then-s-eq5
+pub returns-then-s-3 : goal.returns-then-s-3
 unfolding code_ok
-returns-then-s-eq5 c = simp (ne_eqb _ _ c.if-s-eq0.false, lt-leb _ _ c.if-s-le2.false, lt-leb _ _ c.if-s-le4.false, eq-eqb _ _ c.if-s-eq5.true, sym c.locate_ok.ensures)
+returns-then-s-3 c = simp (ne_eqb _ _ c.if-s-eq0.false, lt-leb _ _ c.if-s.false, lt-leb _ _ c.if-s-2.false, eq-eqb _ _ c.if-s-3.true, sym c.locate_ok.ensures)
 
 pub returns : goal.returns
 unfolding code_ok
-returns c = simp (ne_eqb _ _ c.if-s-eq0.false, lt-leb _ _ c.if-s-le2.false, lt-leb _ _ c.if-s-le4.false, ne_eqb _ _ c.if-s-eq5.false)
+returns c = simp (ne_eqb _ _ c.if-s-eq0.false, lt-leb _ _ c.if-s.false, lt-leb _ _ c.if-s-2.false, ne_eqb _ _ c.if-s-3.false)

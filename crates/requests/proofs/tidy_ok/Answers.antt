@@ -3,18 +3,18 @@ use Rattle.requests.specs.Requests.{tidy_ok}
 use Rattle.requests.proofs.tidy_ok.Goals as goal
 
 -- The proof of `tidy_ok`.
-pub returns-then-s-ne6 : goal.returns-then-s-ne6
+pub returns-then-s : goal.returns-then-s
 unfolding tidy_ok
-returns-then-s-ne6 c = simp (ne_eqb _ _ c.if-s-ne6.true)
+returns-then-s c = simp (ne_eqb _ _ c.if-s.true)
 
-pub returns-then-s-eq1 : goal.returns-then-s-eq1
+pub returns-then-s-2 : goal.returns-then-s-2
 unfolding tidy_ok
-returns-then-s-eq1 c = simp (eq-eqb _ _ c.if-s-ne6.false, eq-eqb _ _ c.if-s-eq1.true)
+returns-then-s-2 c = simp (eq-eqb _ _ c.if-s.false, eq-eqb _ _ c.if-s-2.true)
 
-pub returns-then-s-gt3 : goal.returns-then-s-gt3
+pub returns-then-s-3 : goal.returns-then-s-3
 unfolding tidy_ok
-returns-then-s-gt3 c = simp (eq-eqb _ _ c.if-s-ne6.false, ne_eqb _ _ c.if-s-eq1.false, lt-leb _ _ c.if-s-gt3.true)
+returns-then-s-3 c = simp (eq-eqb _ _ c.if-s.false, ne_eqb _ _ c.if-s-2.false, lt-leb _ _ c.if-s-3.true)
 
 pub returns : goal.returns
 unfolding tidy_ok
-returns c = simp (eq-eqb _ _ c.if-s-ne6.false, ne_eqb _ _ c.if-s-eq1.false, le-leb _ _ c.if-s-gt3.false)
+returns c = simp (eq-eqb _ _ c.if-s.false, ne_eqb _ _ c.if-s-2.false, le-leb _ _ c.if-s-3.false)

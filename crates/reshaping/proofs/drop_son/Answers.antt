@@ -1,5 +1,4 @@
 use Rattle.reshaping.proofs.Laws.{drop-run}
-use borrow.Author.Rules.{rules}
 use Rattle.reshaping.proofs.drop_son.Goals as goal
 
 pub returns : goal.returns

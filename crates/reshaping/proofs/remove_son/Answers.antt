@@ -1,5 +1,4 @@
 use borrow.Author.Tests.{lt-ltb, le-ltb}
-use borrow.Author.Rules.{rules}
 use Rattle.reshaping.specs.Ops.{remove_son}
 use Rattle.reshaping.proofs.remove_son.Goals as goal
 

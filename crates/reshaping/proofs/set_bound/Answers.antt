@@ -1,5 +1,4 @@
 use mathlib.Core.Path.{refl}
-use borrow.Author.Rules.{rules}
 use Rattle.reshaping.specs.Ops.{set_bound}
 use Rattle.reshaping.proofs.set_bound.Goals as goal
 

@@ -1,5 +1,4 @@
 use mathlib.Core.Path.{refl}
-use borrow.Author.Rules.{rules}
 use Rattle.words.specs.Window.{words_at}
 use Rattle.reshaping.specs.Ops.{split_node}
 use Rattle.reshaping.proofs.split_node.Goals as goal

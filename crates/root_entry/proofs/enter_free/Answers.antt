@@ -1,5 +1,4 @@
 use Rattle.root_entry.specs.Runs.{full-run, whole_run, whole_ready}
-use borrow.Author.Rules.{rules}
 use Rattle.root_entry.proofs.enter_free.Goals as goal
 
 pub returns-then-splits : goal.returns-then-splits

@@ -1,7 +1,6 @@
 use mathlib.Core.Path.{ap as by_ap}
 use mathlib.Core.Bool.{not as negated}
-use Rattle.root_entry.specs.Runs.{refused-run, halves_run, halves-ready}
-use borrow.Author.Rules.{rules}
+use Rattle.root_entry.specs.Runs.{refused-run, halves_run}
 use Rattle.root_entry.proofs.enter_full.Goals as goal
 
 pub returns-then-not-enough : goal.returns-then-not-enough

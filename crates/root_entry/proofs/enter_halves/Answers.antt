@@ -1,6 +1,5 @@
 use native.Mathlib.Omega.{arith}
 use Rattle.root_entry.specs.Runs.{split-run, half-small}
-use borrow.Author.Rules.{rules}
 use Rattle.root_entry.proofs.enter_halves.Goals as goal
 
 pub overflow_cast-half : goal.overflow_cast-half

@@ -1,6 +1,5 @@
 use mathlib.Core.Path.{sym, ◌∙◌}
 use Rattle.root_entry.specs.Runs.{held-run, open-run}
-use borrow.Author.Rules.{rules}
 use Rattle.root_entry.proofs.enter_step.Goals as goal
 
 pub returns-then-q-ne0 : goal.returns-then-q-ne0

@@ -1,5 +1,4 @@
 use Rattle.root_entry.specs.Runs.{latched-run}
-use borrow.Author.Rules.{rules}
 use Rattle.root_entry.proofs.enter_whole.Goals as goal
 
 pub returns : goal.returns

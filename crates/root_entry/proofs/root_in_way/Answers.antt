@@ -1,5 +1,4 @@
 use Rattle.root_entry.specs.Runs.{way-run}
-use borrow.Author.Rules.{rules}
 use Rattle.root_entry.proofs.root_in_way.Goals as goal
 
 pub returns : goal.returns

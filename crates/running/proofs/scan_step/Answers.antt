@@ -9,8 +9,8 @@ place_of-d-requires c = ((scan-ready c.requires).find, c.requires.hint)
 pub take_at-z-requires : goal.take_at-z-requires
 take_at-z-requires c = (scan-ready c.requires, c.place_of-d.ensures)
 
-pub place_after-next-requires : goal.place_after-next-requires
-place_after-next-requires c = scan-has c.requires c.place_of-d.ensures (omega arith)
+pub place_after-requires : goal.place_after-requires
+place_after-requires c = scan-has c.requires c.place_of-d.ensures (omega arith)
 
 pub returns : goal.returns
-returns c = scan-serves _ _ _ _ _ _ c.requires c.place_of-d.ensures c.take_at-z.ensures c.place_after-next.ensures
+returns c = scan-serves _ _ _ _ _ _ c.requires c.place_of-d.ensures c.take_at-z.ensures c.place_after.ensures

@@ -1,31 +1,23 @@
-use lib.ListN.{length}
-use mathlib.Core.Path.{refl}
+use mathlib.Core.Path.{◌≡◌, ◌∙◌}
 use native.Mathlib.Omega.{arith}
 use Rattle.groups.specs.Membership.{decode_membership}
-use Rattle.scans.specs.Scans.{entries_in}
-use Rattle.scans.proofs.Turns.{Counting, count-end, count-more, entries-few, walk-one}
-use borrow.Author.Rules.{rules}
+use Rattle.scans.proofs.Turns.{all_turns, one_turn, walk-none, walk-one, count-end, count-more}
 use Rattle.scans.proofs.count_members.Goals as goal
 
-pub loop-at-init : goal.loop-at-init
-loop-at-init c = record { walk = c.requires; is = omega arith }
+pub loop-n-init : goal.loop-n-init
+loop-n-init c = rw (all_turns c.args.r) (record { walk = c.requires; is = omega arith })
+
+pub returns-then-at-eq0 : goal.returns-then-at-eq0
+returns-then-at-eq0 c = count-end c.loop-n.invariant c.if-at-eq0.true
 
 pub membership_next-at-requires : goal.membership_next-at-requires
-membership_next-at-requires c = (walk-one _ c.loop-at.invariant.walk c.loop-at-test.true).has
+membership_next-at-requires c = (walk-one _ c.loop-n.invariant.walk c.if-at-eq0.false).has
 
-pub overflow_sub-more : goal.overflow_sub-more
-overflow_sub-more c = let z = (walk-one _ c.loop-at.invariant.walk c.loop-at-test.true).some in omega arith
-
-pub overflow_add-n : goal.overflow_add-n
+pub loop-n-preserved : goal.loop-n-preserved
 unfolding decode_membership
-overflow_add-n c = let e = (count-more c.loop-at.invariant c.loop-at-test.true c.membership_next-at.ensures).is in let f = entries-few c.args.store.now c.args.m c.args.r c.args.i in omega arith
-
-pub loop-at-smaller : goal.loop-at-smaller
-loop-at-smaller c = let z = (walk-one _ c.loop-at.invariant.walk c.loop-at-test.true).some in omega arith
-
-pub loop-at-preserved : goal.loop-at-preserved
-unfolding decode_membership
-loop-at-preserved c = count-more c.loop-at.invariant c.loop-at-test.true c.membership_next-at.ensures
+loop-n-preserved c = rw (one_turn c.args.r c.loop-n.n) (count-more c.loop-n.invariant c.if-at-eq0.false c.membership_next-at.ensures)
 
 pub returns : goal.returns
-returns c = count-end c.loop-at.invariant c.loop-at-test.false
+returns c =
+    let e : c.args.r ≡ c.loop-n.n = omega arith in
+    e ∙ count-end c.loop-n.invariant (walk-none _ _ _ _ c.loop-n.invariant.walk (omega arith))

@@ -1,8 +1,7 @@
 use lib.Seq.{set-get_or}
-use mathlib.Core.Path.{refl, sym}
+use mathlib.Core.Path.{sym}
 use borrow.Author.Tests.{le-leb, lt-leb}
 use Rattle.scans.specs.Scans.{earlier, later}
-use borrow.Author.Rules.{rules}
 use Rattle.scans.proofs.settle.Goals as goal
 
 pub returns-then-e-x : goal.returns-then-e-x

@@ -1,37 +1,33 @@
-use lib.ListN.{length}
-use mathlib.Core.Path.{◌≡◌, refl}
+use mathlib.Core.Path.{◌≡◌, ◌∙◌}
 use native.Mathlib.Omega.{arith}
 use Rattle.groups.specs.Membership.{decode_membership}
-use Rattle.scans.specs.Scans.{entries_in, rising, pair_words, over}
-use Rattle.scans.proofs.Pairs.{Grouping, group-start, group-end, group-count, group-fits, group-more}
-use Rattle.scans.proofs.Turns.{walk-one}
-use borrow.Author.Rules.{rules}
+use Rattle.scans.proofs.Pairs.{group-start, group-end, group-count, group-fits, group-more}
+use Rattle.scans.proofs.Turns.{all_turns, one_turn, walk-none, walk-one}
 use Rattle.scans.proofs.write_group.Goals as goal
 
-pub loop-at-init : goal.loop-at-init
-loop-at-init c = (refl, group-start _ _ _ _ _ _ c.requires.walk)
+pub loop-n-init : goal.loop-n-init
+loop-n-init c = rw (all_turns c.args.r) (group-start _ _ _ _ _ _ c.requires.walk)
+
+pub returns-then-at-eq0 : goal.returns-then-at-eq0
+returns-then-at-eq0 c = record { count = group-count c.loop-n.invariant c.if-at-eq0.true; words = group-end c.loop-n.invariant c.if-at-eq0.true }
 
 pub membership_entry-e-requires : goal.membership_entry-e-requires
-membership_entry-e-requires c = (walk-one _ c.loop-at.invariant.1.walk c.loop-at-test.true).has
+membership_entry-e-requires c = (walk-one _ c.loop-n.invariant.walk c.if-at-eq0.false).has
 
 pub insert_pair-requires : goal.insert_pair-requires
-insert_pair-requires c = let z = group-fits c.loop-at.invariant.1 c.loop-at-test.true in let h = c.requires.room in omega arith
-
-pub overflow_add-n : goal.overflow_add-n
-overflow_add-n c = let z = group-fits c.loop-at.invariant.1 c.loop-at-test.true in let h = c.requires.room in omega arith
+insert_pair-requires c = let z = group-fits c.loop-n.invariant c.if-at-eq0.false in let h = c.requires.room in omega arith
 
 pub membership_next-at-requires : goal.membership_next-at-requires
-membership_next-at-requires c = (walk-one _ c.loop-at.invariant.1.walk c.loop-at-test.true).has
+membership_next-at-requires c = (walk-one _ c.loop-n.invariant.walk c.if-at-eq0.false).has
 
-pub overflow_sub-more : goal.overflow_sub-more
-overflow_sub-more c = let z = (walk-one _ c.loop-at.invariant.1.walk c.loop-at-test.true).some in omega arith
-
-pub loop-at-smaller : goal.loop-at-smaller
-loop-at-smaller c = let z = (walk-one _ c.loop-at.invariant.1.walk c.loop-at-test.true).some in omega arith
-
-pub loop-at-preserved : goal.loop-at-preserved
+pub loop-n-preserved : goal.loop-n-preserved
 unfolding decode_membership
-loop-at-preserved c = (search rules, group-more c.loop-at.invariant.1 c.loop-at-test.true c.membership_entry-e.ensures c.insert_pair.ensures c.membership_next-at.ensures)
+loop-n-preserved c =
+    rw (one_turn c.args.r c.loop-n.n)
+    (group-more c.loop-n.invariant c.if-at-eq0.false c.membership_entry-e.ensures c.insert_pair.ensures c.membership_next-at.ensures)
 
 pub returns : goal.returns
-returns c = record { count = group-count c.loop-at.invariant.1 c.loop-at-test.false; words = group-end c.loop-at.invariant.1 c.loop-at-test.false }
+returns c =
+    let z = walk-none _ _ _ _ c.loop-n.invariant.walk (omega arith) in
+    let e : c.args.r ≡ c.loop-n.n = omega arith in
+    record { count = e ∙ group-count c.loop-n.invariant z; words = group-end c.loop-n.invariant z }

@@ -1,13 +1,13 @@
-use borrow.Author.Rules.{rules}
 use Rattle.seniority.proofs.Turns.{best-first, best-elder, best-stays}
 use Rattle.seniority.proofs.elder.Goals as goal
+use Rattle.seniority.proofs.elder.Goals.{then-best-eq0-via-then-best-eq0, then-best-eq0-via-else-best-eq0+then-t-p}
 
--- The proof of `elder`.
 pub returns-then-best-eq0 : goal.returns-then-best-eq0
-returns-then-best-eq0 c = best-first _ _ _ c.if-best-eq0.true
-
-pub returns-then-c-b : goal.returns-then-c-b
-returns-then-c-b c = best-elder _ _ _ c.if-best-eq0.false c.if-c-b.true
+returns-then-best-eq0 c =
+    elim c.then-best-eq0.branch [
+      | then-best-eq0-via-then-best-eq0 w ↦ best-first _ _ _ w.if-best-eq0.true
+      | then-best-eq0-via-else-best-eq0+then-t-p w ↦ best-elder _ _ _ w.if-best-eq0.false w.if-t-p.true
+    ]
 
 pub returns : goal.returns
-returns c = best-stays _ _ _ c.if-best-eq0.false c.if-c-b.false
+returns c = best-stays _ _ _ c.if-best-eq0.false c.if-t-p.false

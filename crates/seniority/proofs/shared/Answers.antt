@@ -1,20 +1,14 @@
-use mathlib.Core.Path.{refl}
-use Prim.Native.Nat.{◌-◌, ◌≤◌}
-use native.Mathlib.Omega.{arith}
-use borrow.Author.Rules.{rules}
+use Rattle.std.proofs.Common.{◌∙◌, ◌≡◌, ◌-◌, length, arith, rules, tests}
+use Rattle.std.proofs.lemmas.Iterator.{YieldsList-from_slice}
+use Rattle.std.proofs.lemmas.Iterator.Search.{any_from_yields_List}
 use Rattle.sessions.specs.Sessions.{parties}
-use Rattle.seniority.specs.Seniority.{shared_from}
-use Rattle.seniority.proofs.Turns.{Sharing, share-found, share-more, share-end}
+use Rattle.seniority.specs.Seniority.{is_numbered}
+use Rattle.seniority.proofs.Turns.{behind, any-shared}
 use Rattle.seniority.proofs.shared.Goals as goal
 
-pub loop-p-init : goal.loop-p-init
-loop-p-init c = (search rules, record { is = refl })
-
-pub returns-then-is_numbered : goal.returns-then-is_numbered
-returns-then-is_numbered c = share-found c.loop-p.invariant.1 (omega arith) c.is_numbered.ensures c.if-is_numbered.true
-
-pub loop-p-preserved : goal.loop-p-preserved
-loop-p-preserved c = (omega arith, share-more c.loop-p.invariant.1 (omega arith) c.is_numbered.ensures c.if-is_numbered.false (omega arith))
-
 pub returns : goal.returns
-returns c = share-end c.loop-p.invariant.1 (omega arith)
+returns c =
+    let z : length c.args.t ≡ parties = search rules in
+    any_from_yields_List (is_numbered c.args.n) _ _ _ c.any.ensures.ran
+    (YieldsList-from_slice _ (c.iter.ensures.rest ∙ behind c.args.t c.args.from (parties - c.args.from) (omega arith))) (λ x b q k. search (rules, tests))
+    ∙ any-shared _ _ _ _ (omega arith)

@@ -1,13 +1,12 @@
+use Rattle.std.proofs.Common.{rules, sym, ap, ◌∙◌}
+use Rattle.outcomes.specs.Refused.{number, refused_by, number_some}
 use Rattle.promises.specs.Ways.{ask-refuses}
-use mathlib.Core.Path.{refl, sym, ◌∙◌}
-use borrow.Author.Rules.{rules}
+use Rattle.serial.specs.Calls as C
+use Rattle.serving.proofs.Refused.{served-refused}
 use Rattle.serving.proofs.ask.Goals as goal
 
-pub returns-then-n-ne0 : goal.returns-then-n-ne0
-returns-then-n-ne0 c = ask-refuses _ _ _ _ (search rules) (search rules) (search rules)
-
-pub ask-requires : goal.ask-requires
-ask-requires c = (c.requires, sym c.ask_refusal-n.ensures ∙ c.if-n-ne0.false)
-
-pub returns : goal.returns
-returns c = c.ask.ensures
+pub returns-in-Err : goal.returns-in-Err
+returns-in-Err c =
+    let refusal = c.in-Err.refusal in
+    let is = ap refused_by (sym c.in-Err.is) ∙ c.check_ask.ensures in
+    served-refused (C.ask c.args.p) refusal c.refused.ensures (ask-refuses _ _ _ (number refusal) c.requires is (number_some refusal))

@@ -1,13 +1,12 @@
-use mathlib.Core.Path.{sym, ◌∙◌}
+use Rattle.std.proofs.Common.{rules, sym, ap, ◌∙◌}
+use Rattle.outcomes.specs.Refused.{number, refused_by, number_some}
 use Rattle.promises.specs.Steps.{step-refuses}
-use borrow.Author.Rules.{rules}
+use Rattle.serial.specs.Calls as C
+use Rattle.serving.proofs.Refused.{served-refused}
 use Rattle.serving.proofs.step.Goals as goal
 
-pub returns-then-n-ne0 : goal.returns-then-n-ne0
-returns-then-n-ne0 c = step-refuses _ _ _ _ _ c.requires c.step_refusal-n.ensures c.if-n-ne0.true
-
-pub step-requires : goal.step-requires
-step-requires c = (c.requires, sym c.step_refusal-n.ensures ∙ c.if-n-ne0.false)
-
-pub returns : goal.returns
-returns c = c.step.ensures
+pub returns-in-Err : goal.returns-in-Err
+returns-in-Err c =
+    let refusal = c.in-Err.refusal in
+    let is = ap refused_by (sym c.in-Err.is) ∙ c.check_step.ensures in
+    served-refused (C.step c.args.p c.args.list.now) refusal c.refused.ensures (step-refuses _ _ _ _ (number refusal) c.requires is (number_some refusal))

@@ -1,10 +1,11 @@
-use borrow.Author.Tests.{not-true, not-false}
-use borrow.Author.Rules.{rules}
-use Rattle.sound.proofs.Turns.{undos-bad, undos-go}
+use Rattle.std.proofs.lemmas.Result.{err_from_is_err_and}
+use Rattle.sound.proofs.Turns.{walked, refused, undos-bad, undos-go}
 use Rattle.sound.proofs.chains_then.Goals as goal
 
-pub returns-then-not-b : goal.returns-then-not-b
-returns-then-not-b c = undos-bad _ _ _ _ _ _ _ _ _ _ c.all_undos-b.ensures (not-true _ c.if-not-b.true) c.broken.ensures
+pub returns-in_err-more : goal.returns-in_err-more
+returns-in_err-more c =
+    let p = err_from_is_err_and c.from_residual.result c.from_residual.ensures.1 in
+    let q = refused _ _ _ c.ok_or.ensures.value c.in_err-more.was in rw (p.1, p.2, q.1) (undos-bad _ _ _ _ _ _ _ _ _ _ c.all_undos-walked.ensures q.0)
 
 pub returns : goal.returns
-returns c = undos-go _ _ _ _ _ _ _ _ _ _ c.all_undos-b.ensures (not-false _ c.if-not-b.false) c.groups_then.ensures
+returns c = undos-go _ _ _ _ _ _ _ _ _ _ c.all_undos-walked.ensures _ (walked _ _ _ c.ok_or.ensures.value c.in_ok-more.was) c.groups_then.ensures

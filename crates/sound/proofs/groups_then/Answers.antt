@@ -1,13 +1,14 @@
-use borrow.Author.Tests.{not-true, not-false}
-use borrow.Author.Rules.{rules}
-use Rattle.sound.proofs.Turns.{groups-many, groups-bad, groups-go}
+use Rattle.std.proofs.lemmas.Result.{err_from_is_err_and}
+use Rattle.sound.proofs.Turns.{walked, refused, groups-many, groups-bad, groups-go}
 use Rattle.sound.proofs.groups_then.Goals as goal
 
 pub returns-then-count-gt4097 : goal.returns-then-count-gt4097
-returns-then-count-gt4097 c = groups-many _ _ _ _ _ _ _ _ _ _ _ c.if-count-gt4097.true c.broken.ensures
+returns-then-count-gt4097 c = groups-many _ _ _ _ _ _ _ _ _ _ _ c.if-count-gt4097.true
 
-pub returns-then-not-g : goal.returns-then-not-g
-returns-then-not-g c = groups-bad _ _ _ _ _ _ _ _ _ _ _ c.if-count-gt4097.false c.walk_groups-g.ensures (not-true _ c.if-not-g.true) c.broken-then-not-g.ensures
+pub returns-in_err-more : goal.returns-in_err-more
+returns-in_err-more c =
+    let p = err_from_is_err_and c.from_residual.result c.from_residual.ensures.1 in
+    let q = refused _ _ _ c.ok_or.ensures.value c.in_err-more.was in rw (p.1, p.2, q.1) (groups-bad _ _ _ _ _ _ _ _ _ _ _ c.if-count-gt4097.false c.walk_groups-walked.ensures q.0)
 
 pub returns : goal.returns
-returns c = groups-go _ _ _ _ _ _ _ _ _ _ _ c.if-count-gt4097.false c.walk_groups-g.ensures (not-false _ c.if-not-g.false) c.finish.ensures
+returns c = groups-go _ _ _ _ _ _ _ _ _ _ _ c.if-count-gt4097.false c.walk_groups-walked.ensures _ (walked _ _ _ c.ok_or.ensures.value c.in_ok-more.was) c.finish.ensures

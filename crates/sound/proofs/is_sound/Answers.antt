@@ -1,8 +1,9 @@
-use mathlib.Core.Path.{refl}
-use borrow.Author.Rules.{rules}
-use Rattle.sound.specs.Sound.{is_sound}
+use mathlib.Core.Path.{ap, ◌∙◌}
+use lib.Dec.{eqb}
+use Rattle.sound.specs.Sound.{Checked, is_sound}
+use Rattle.sound.proofs.Turns.{is-none}
 use Rattle.sound.proofs.is_sound.Goals as goal
 
 pub returns : goal.returns
 unfolding is_sound
-returns c = rw c.first_fault-c.ensures refl
+returns c = c.is_ok.ensures.value ∙ is-none _ ∙ ap (λ (x : Checked). eqb x.fault 0) c.first_fault.ensures

@@ -1,6 +1,5 @@
 use mathlib.Core.Path.{refl, sym}
 use borrow.Author.Tests.{eq-eqb, le-leb, lt-leb, ne_eqb}
-use borrow.Author.Rules.{rules}
 use Rattle.sound.specs.Sound.{lowest_ok}
 use Rattle.sound.proofs.lowest_ok.Goals as goal
 

@@ -1,6 +1,5 @@
 use mathlib.Core.Path.{sym}
 use borrow.Author.Tests.{le-leb, lt-leb}
-use borrow.Author.Rules.{rules}
 use Rattle.sound.specs.Sizes.{sizes_ok}
 use Rattle.sound.proofs.sizes_ok.Goals as goal
 

@@ -1,5 +1,4 @@
 use mathlib.Core.Path.{sym, ◌∙◌}
-use borrow.Author.Rules.{rules}
 use Rattle.sound.proofs.Turns.{undos-without}
 use Rattle.sound.proofs.undos_then.Goals as goal
 

@@ -1,4 +1,3 @@
-use borrow.Author.Rules.{rules}
 use Rattle.splits.specs.Runs.{drop-run}
 use Rattle.splits.proofs.drop_root.Goals as goal
 

@@ -1,6 +1,5 @@
 use Rattle.splits.specs.Runs.{halved-run}
-use borrow.Author.Rules.{rules}
 use Rattle.splits.proofs.halves.Goals as goal
 
 pub returns : goal.returns
-returns c = halved-run _ _ _ c.load_node.ensures c.split_node.ensures
+returns c = halved-run _ _ _ c.load.ensures c.split_node.ensures

@@ -1,5 +1,4 @@
 use Rattle.splits.specs.Runs.{top-run}
-use borrow.Author.Rules.{rules}
 use Rattle.splits.proofs.set_top.Goals as goal
 
 pub returns : goal.returns

@@ -3,7 +3,6 @@ use mathlib.Core.Path.{ap, ◌∙◌}
 use Prim.Native.Nat.{ℕ}
 use native.Mathlib.Omega.{arith}
 use lib.ListN.{length}
-use borrow.Author.Rules.{rules}
 use Rattle.words.specs.Header.{header_word, free_place}
 use Rattle.nodes.specs.Paths.{has-at}
 use Rattle.splits.specs.Runs.{pop-second, split-root-run}
@@ -19,8 +18,8 @@ put_halves-requires c = (has-at c.requires.root (omega arith) c.root-t.ensures, 
 pub overflow_cast-a : goal.overflow_cast-a
 overflow_cast-a c = let h = c.requires.free.first c.requires.some in omega (arith, h.last, c.pop_free-a.ensures.0)
 
-pub write_node-requires : goal.write_node-requires
-write_node-requires c = has-at (c.requires.free₂.first c.requires.some₂) (omega (arith, ap (λ (t : List ℕ). length t) c.pop_free-a.ensures.1)) (c.pop_free-b.ensures.0 ∙ ap (λ (t : List ℕ). header_word t free_place) c.pop_free-a.ensures.1)
+pub write-requires : goal.write-requires
+write-requires c = has-at (c.requires.free₂.first c.requires.some₂) (omega (arith, ap (λ (t : List ℕ). length t) c.pop_free-a.ensures.1)) (c.pop_free-b.ensures.0 ∙ ap (λ (t : List ℕ). header_word t free_place) c.pop_free-a.ensures.1)
 
 pub overflow_add-height : goal.overflow_add-height
 overflow_add-height c = omega (arith, c.height-height.ensures, c.requires.height)
@@ -35,4 +34,4 @@ pub returns : goal.returns
 returns c =
     split-root-run _ _ _ _ c.root-t.ensures c.height-height.ensures c.halves-n.ensures c.pop_free-a.ensures.0
     c.pop_free-a.ensures.1 c.pop_free-b.ensures.0 c.pop_free-b.ensures.1 c.put_halves.ensures c.node_over.ensures
-    c.write_node.ensures c.set_top.ensures c.half_of.ensures
+    c.write.ensures c.set_top.ensures c.half_of.ensures

@@ -1,7 +1,5 @@
 use native.Mathlib.Omega.{arith}
 use Rattle.stamps.specs.Laws.{proper_is}
-use Rattle.stamps.specs.Stamps.{local}
-use borrow.Author.Rules.{rules}
 use Rattle.stamps.proofs.local_minute.Goals as goal
 
 -- The proof of `local_minute`.
@@ -16,7 +14,3 @@ overflow_add-result c = let p = proper_is c.args.s c.requires in let h = p.hour 
 
 pub overflow_add-result-2 : goal.overflow_add-result-2
 overflow_add-result-2 c = let p = proper_is c.args.s c.requires in let h = p.hour in let m = p.minute in omega arith
-
-pub returns : goal.returns
-unfolding local
-returns c = cc

@@ -12,17 +12,17 @@ unfolding pins_in
 returns-then-not-is_met c = turned (simp (sym c.is_met.ensures ∙ c.if-not-is_met.true))
 
 pub descriptor_key-found-requires : goal.descriptor_key-found-requires
-descriptor_key-found-requires c = has_one c.requires.0 (met-in _ _ _ _ (sym c.is_met.ensures ∙ c.if-not-is_met.false))
+descriptor_key-found-requires c = has_one c.args.records.inside (met-in _ _ _ _ (sym c.is_met.ensures ∙ c.if-not-is_met.false))
 
 pub returns-then-found-key : goal.returns-then-found-key
 unfolding pins_in
 returns-then-found-key c = turned (simp (sym c.is_met.ensures ∙ c.if-not-is_met.false, ne_eqb _ _ c.if-found-key.true, sym c.descriptor_key-found.ensures))
 
 pub bounds-tally-i : goal.bounds-tally-i
-bounds-tally-i c = let k = met-in _ _ _ _ (sym c.is_met.ensures ∙ c.if-not-is_met.false) in let h = c.requires.2 in omega arith
+bounds-tally-i c = let k = met-in _ _ _ _ (sym c.is_met.ensures ∙ c.if-not-is_met.false) in let h = c.requires.1 in omega arith
 
 pub bounds-tally-i-2 : goal.bounds-tally-i-2
-bounds-tally-i-2 c = let k = met-in _ _ _ _ (sym c.is_met.ensures ∙ c.if-not-is_met.false) in let h = c.requires.2 in omega arith
+bounds-tally-i-2 c = let k = met-in _ _ _ _ (sym c.is_met.ensures ∙ c.if-not-is_met.false) in let h = c.requires.1 in omega arith
 
 pub returns : goal.returns
 unfolding pins_in

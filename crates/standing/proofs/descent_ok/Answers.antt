@@ -18,7 +18,7 @@ pub returns-then-r-i : goal.returns-then-r-i
 returns-then-r-i c = no_room _ _ _ _ _ c.root-root.ensures c.height-height.ensures c.if-level-eq0.false c.if-height-level.false c.descend-i.ensures c.if-i-at.false c.if-i-eq0.false c.if-r-i.true
 
 pub returns-then-latch-p : goal.returns-then-latch-p
-returns-then-latch-p c = no_latch _ _ _ _ _ c.root-root.ensures c.height-height.ensures c.if-level-eq0.false c.if-height-level.false c.descend-i.ensures c.if-i-at.false c.if-i-eq0.false c.if-r-i.false c.load_node-n.ensures c.if-latch-p.true
+returns-then-latch-p c = no_latch _ _ _ _ _ c.root-root.ensures c.height-height.ensures c.if-level-eq0.false c.if-height-level.false c.descend-i.ensures c.if-i-at.false c.if-i-eq0.false c.if-r-i.false c.load-n.ensures c.if-latch-p.true
 
 pub returns : goal.returns
-returns c = own-latch _ _ _ _ _ c.root-root.ensures c.height-height.ensures c.if-level-eq0.false c.if-height-level.false c.descend-i.ensures c.if-i-at.false c.if-i-eq0.false c.if-r-i.false c.load_node-n.ensures c.if-latch-p.false c.may_stand.ensures
+returns c = own-latch _ _ _ _ _ c.root-root.ensures c.height-height.ensures c.if-level-eq0.false c.if-height-level.false c.descend-i.ensures c.if-i-at.false c.if-i-eq0.false c.if-r-i.false c.load-n.ensures c.if-latch-p.false c.may_stand.ensures

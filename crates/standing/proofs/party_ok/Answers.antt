@@ -9,10 +9,10 @@ pub returns-then-not-request_ok : goal.returns-then-not-request_ok
 unfolding party_ok
 returns-then-not-request_ok c = turned (simp (sym c.request_ok.ensures ∙ c.if-not-request_ok.true))
 
-pub returns-then-s-eq0 : goal.returns-then-s-eq0
+pub returns-then-s : goal.returns-then-s
 unfolding party_ok
-returns-then-s-eq0 c = turned (simp (sym c.request_ok.ensures ∙ c.if-not-request_ok.false, eq-eqb _ _ c.if-s-eq0.true))
+returns-then-s c = turned (simp (sym c.request_ok.ensures ∙ c.if-not-request_ok.false, eq-eqb _ _ c.if-s.true))
 
 pub returns : goal.returns
 unfolding party_ok
-returns c = turned-to c.stands.ensures (simp (sym c.request_ok.ensures ∙ c.if-not-request_ok.false, ne_eqb _ _ c.if-s-eq0.false))
+returns c = turned-to c.stands.ensures (simp (sym c.request_ok.ensures ∙ c.if-not-request_ok.false, ne_eqb _ _ c.if-s.false))

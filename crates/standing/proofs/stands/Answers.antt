@@ -9,18 +9,18 @@ pub returns-then-not-latch_ok : goal.returns-then-not-latch_ok
 unfolding stands_at
 returns-then-not-latch_ok c = turned (simp (sym c.latch_ok.ensures ∙ c.if-not-latch_ok.true))
 
-pub returns-then-s-le2 : goal.returns-then-s-le2
+pub returns-then-s : goal.returns-then-s
 unfolding stands_at
-returns-then-s-le2 c = turned (simp (sym c.latch_ok.ensures ∙ c.if-not-latch_ok.false, le-leb _ _ c.if-s-le2.true))
+returns-then-s c = turned (simp (sym c.latch_ok.ensures ∙ c.if-not-latch_ok.false, le-leb _ _ c.if-s.true))
 
-pub returns-then-s-le4 : goal.returns-then-s-le4
+pub returns-then-s-2 : goal.returns-then-s-2
 unfolding stands_at
-returns-then-s-le4 c = turned-to c.change_stands.ensures (simp (sym c.latch_ok.ensures ∙ c.if-not-latch_ok.false, lt-leb _ _ c.if-s-le2.false, le-leb _ _ c.if-s-le4.true))
+returns-then-s-2 c = turned-to c.change_stands.ensures (simp (sym c.latch_ok.ensures ∙ c.if-not-latch_ok.false, lt-leb _ _ c.if-s.false, le-leb _ _ c.if-s-2.true))
 
-pub returns-then-s-eq5 : goal.returns-then-s-eq5
+pub returns-then-s-3 : goal.returns-then-s-3
 unfolding stands_at
-returns-then-s-eq5 c = turned-to c.locate_stands.ensures (simp (sym c.latch_ok.ensures ∙ c.if-not-latch_ok.false, lt-leb _ _ c.if-s-le2.false, lt-leb _ _ c.if-s-le4.false, eq-eqb _ _ c.if-s-eq5.true))
+returns-then-s-3 c = turned-to c.locate_stands.ensures (simp (sym c.latch_ok.ensures ∙ c.if-not-latch_ok.false, lt-leb _ _ c.if-s.false, lt-leb _ _ c.if-s-2.false, eq-eqb _ _ c.if-s-3.true))
 
 pub returns : goal.returns
 unfolding stands_at
-returns c = turned (simp (sym c.latch_ok.ensures ∙ c.if-not-latch_ok.false, lt-leb _ _ c.if-s-le2.false, lt-leb _ _ c.if-s-le4.false, ne_eqb _ _ c.if-s-eq5.false, sym c.tidy_stands.ensures, sym c.latch_ok.ensures))
+returns c = turned (simp (sym c.latch_ok.ensures ∙ c.if-not-latch_ok.false, lt-leb _ _ c.if-s.false, lt-leb _ _ c.if-s-2.false, ne_eqb _ _ c.if-s-3.false, sym c.tidy_stands.ensures, sym c.latch_ok.ensures))

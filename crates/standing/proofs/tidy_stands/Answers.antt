@@ -5,10 +5,10 @@ use Rattle.standing.specs.Standing.{tidy_stands}
 use Rattle.standing.proofs.tidy_stands.Goals as goal
 
 -- The proof of `tidy_stands`.
-pub returns-then-s-eq1 : goal.returns-then-s-eq1
+pub returns-then-s : goal.returns-then-s
 unfolding tidy_stands
-returns-then-s-eq1 c = simp (eq-eqb _ _ c.if-s-eq1.true)
+returns-then-s c = simp (eq-eqb _ _ c.if-s.true)
 
 pub returns : goal.returns
 unfolding tidy_stands
-returns c = simp (ne_eqb _ _ c.if-s-eq1.false, sym c.is_stored.ensures)
+returns c = simp (ne_eqb _ _ c.if-s.false, sym c.is_stored.ensures)

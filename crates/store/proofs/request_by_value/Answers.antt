@@ -6,4 +6,4 @@ use Rattle.store.proofs.request_by_value.Goals as goal
 pub returns : goal.returns
 returns c =
     let ran = c.request-ran in
-    asked-kept _ _ _ _ ran.result.answer ran.result.steps _ _ _ _ (table_of _ _ c.well_formed.1.1.0) c.stint_of.ensures ran.ensures
+    asked-kept _ _ _ _ ran.result.answer ran.result.steps _ _ _ _ (table_of _ _ c.well_formed.1.1.0) c.seat_of.ensures ran.ensures

@@ -1,12 +1,11 @@
 use Rattle.std.proofs.Common.{◌≡◌, refl, ℕ, arith, rules}
-use Rattle.std.proofs.lemmas.Bool.{not-true, not-false}
 use Rattle.tree_walk.specs.TreeWalk.{top_of, least_of}
 use Rattle.tree_walk.proofs.Turns.{node_of, top-inner, top-last, least-as, leaf-stop, leaf-more, leaf-end}
 use Rattle.tree_walk.proofs.walk_leaves.Goals as goal
 use Rattle.tree_walk.proofs.walk_leaves.Goals.{then-k-count, else-k-count}
 
-pub returns-then-not-v : goal.returns-then-not-v
-returns-then-not-v c =
+pub returns-in_err-v : goal.returns-in_err-v
+returns-in_err-v c =
     let n = node_of c.args.n.latch c.args.n.count c.args.n.bounds c.args.n.sons in
     let least : c.if-k-count.least ≡ least_of n c.loop-k.k =
     least-as _ _ (elim c.if-k-count.branch [
@@ -18,7 +17,7 @@ returns-then-not-v c =
       | then-k-count w ↦ top-inner _ _ _ w.if-k-count.true w.top-is
       | else-k-count w ↦ top-last _ _ _ w.if-k-count.false w.top-is
     ] in
-    leaf-stop (c.loop-k.invariant.3 c.args.n.latch) (omega arith) refl least top c.walk_leaf-v.ensures (not-true _ c.if-not-v.true)
+    rw c.from_residual.ensures (leaf-stop (c.loop-k.invariant.2 c.args.n.latch) (omega arith) refl least top c.walk_leaf.ensures c.in_err-v.was)
 
 pub loop-k-preserved : goal.loop-k-preserved
 loop-k-preserved c =
@@ -31,14 +30,12 @@ loop-k-preserved c =
     λ latch. elim c.if-k-count.branch [
       | then-k-count w ↦ top-inner _ _ _ w.if-k-count.true w.top-is
       | else-k-count w ↦ top-last _ _ _ w.if-k-count.false w.top-is
-    ] in
-    let more = not-false _ c.if-not-v.false in (
-      omega arith,
+    ] in (
       search rules,
       search rules,
       λ latch.
-          leaf-more (c.loop-k.invariant.3 latch) (omega arith) refl (least latch) (top latch) c.walk_leaf-v.ensures more (omega arith),
+          leaf-more _ (c.loop-k.invariant.2 latch) (omega arith) refl (least latch) (top latch) c.walk_leaf.ensures c.in_ok-v.was (omega arith),
     )
 
 pub returns : goal.returns
-returns c = leaf-end (c.loop-k.invariant.3 c.args.n.latch) (omega arith)
+returns c = leaf-end (c.loop-k.invariant.2 c.args.n.latch) refl (omega arith)

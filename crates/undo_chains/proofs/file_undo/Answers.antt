@@ -1,6 +1,5 @@
 use mathlib.Core.Path.{sym}
 use borrow.Author.Tests.{eq-eqb, le-leb, lt-leb, ne_eqb}
-use borrow.Author.Rules.{rules}
 use Rattle.undo_chains.specs.UndoChains.{file_undo}
 use Rattle.undo_chains.proofs.file_undo.Goals as goal
 

@@ -1,5 +1,5 @@
 use mathlib.Core.Path.{◌∙◌, refl, sym}
-use borrow.Author.Tests.{eq-eqb, ne_eqb, not-false, not-true}
+use borrow.Author.Tests.{eq-eqb, ne_eqb}
 use borrow.Author.Rules.{rules}
 use Rattle.marks.specs.Steps.{has-entry, entry_in}
 use Rattle.undo_chains.specs.UndoChains.{undo_ok}
@@ -14,7 +14,7 @@ unfolding undo_ok
 returns-then-not-kind_ok c = simp (sym c.entry_ok.ensures ∙ c.if-not-entry_ok.false, sym c.kind_ok.ensures ∙ c.if-not-kind_ok.true, sym c.undo_kind-kind.ensures, sym c.undo_entry-entry.ensures)
 
 pub entry_word-exclusive-requires : goal.entry_word-exclusive-requires
-entry_word-exclusive-requires c = (has-entry c.requires.0 (entry_in _ _ (sym c.entry_ok.ensures ∙ c.if-not-entry_ok.false)), search rules)
+entry_word-exclusive-requires c = (has-entry c.args.records.inside (entry_in _ _ (sym c.entry_ok.ensures ∙ c.if-not-entry_ok.false)), search rules)
 
 pub returns-then-not-holds_session : goal.returns-then-not-holds_session
 unfolding undo_ok

@@ -1,13 +1,7 @@
-use mathlib.Core.Path.{◌≡◌, refl, sym, ◌∙◌}
-use native.Mathlib.Omega.{arith}
-use lib.ListN.{length}
-use borrow.Author.Tests.{not-true, not-false}
+use mathlib.Core.Path.{refl, sym, ◌∙◌}
 use borrow.Author.Rules.{rules}
-use Rattle.marks.specs.Steps.{has_one}
-use Rattle.undos.specs.Undo.{undo_at}
-use Rattle.marks.specs.Marks.{undo_mark}
-use Rattle.marks.specs.Trail.{Going, go-end, go-stop, go-bad, go-more}
-use Rattle.undo_chains.specs.UndoChains.{undos_from, undo_turn}
+use Rattle.marks.specs.Trail.{go-end, go-stop, go-bad, go-more}
+use Rattle.undo_chains.specs.UndoChains.{undos_from}
 use Rattle.undo_chains.proofs.Turns.{turn-bad, turn-good}
 use Rattle.undo_chains.proofs.walk_undos.Goals as goal
 
@@ -18,11 +12,11 @@ loop-i-init c = (refl, refl, record { is = refl })
 pub returns : goal.returns
 returns c = go-end c.loop-i.invariant.2 c.loop-i-test.false
 
-pub returns-then-not-v : goal.returns-then-not-v
-returns-then-not-v c = go-stop c.loop-i.invariant.2 c.loop-i-test.true c.meet-v.ensures (not-true _ c.if-not-v.true)
+pub returns-in_err-more : goal.returns-in_err-more
+returns-in_err-more c = rw c.from_residual.ensures (go-stop c.loop-i.invariant.2 c.loop-i-test.true c.meet.ensures c.in_err-more.was)
 
 pub returns-then-not-undo_ok : goal.returns-then-not-undo_ok
-returns-then-not-undo_ok c = go-bad c.loop-i.invariant.2 c.loop-i-test.true c.meet-v.ensures (not-false _ c.if-not-v.false) (turn-bad _ _ _ _ _ _ _ (sym c.undo_ok.ensures ∙ c.if-not-undo_ok.true))
+returns-then-not-undo_ok c = go-bad c.loop-i.invariant.2 c.loop-i-test.true c.meet.ensures c.in_ok-more.was (turn-bad _ _ _ _ _ _ _ (sym c.undo_ok.ensures ∙ c.if-not-undo_ok.true))
 
 pub loop-i-preserved : goal.loop-i-preserved
-loop-i-preserved c = (search rules, search rules, go-more c.loop-i.invariant.2 c.loop-i-test.true c.meet-v.ensures (not-false _ c.if-not-v.false) (turn-good _ _ _ _ _ _ _ (sym c.undo_ok.ensures ∙ c.if-not-undo_ok.false) c.file_undo.ensures) c.undo_next-i.ensures)
+loop-i-preserved c = (search rules, search rules, go-more c.loop-i.invariant.2 c.loop-i-test.true c.meet.ensures c.in_ok-more.was (turn-good _ _ _ _ _ _ _ (sym c.undo_ok.ensures ∙ c.if-not-undo_ok.false) c.file_undo.ensures) c.undo_next-i.ensures)

@@ -1,15 +1,14 @@
 use Rattle.words.specs.Store.{has_kept}
 use native.Mathlib.Omega.{arith}
 use Rattle.undo_log.specs.Undoing.{loggable-pop, loggable-has, log-value-run}
-use borrow.Author.Rules.{rules}
 use Rattle.undo_log.proofs.log_value.Goals as goal
 
 -- The proof of log_value.
 pub pop_free-a-requires : goal.pop_free-a-requires
 pop_free-a-requires c = loggable-pop c.requires
 
-pub write_undo-requires : goal.write_undo-requires
-write_undo-requires c = has_kept (loggable-has c.requires c.pop_free-a.ensures.0) (omega arith)
+pub write-requires : goal.write-requires
+write-requires c = has_kept (loggable-has c.requires c.pop_free-a.ensures.0) (omega arith)
 
 pub returns : goal.returns
-returns c = log-value-run _ _ _ _ _ c.pop_free-a.ensures c.value_undo.ensures c.write_undo.ensures
+returns c = log-value-run _ _ _ _ _ c.pop_free-a.ensures c.value.ensures c.write.ensures

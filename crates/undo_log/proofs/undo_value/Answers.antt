@@ -1,10 +1,9 @@
 use lib.Dec.{lit<}
 use Rattle.undo_log.specs.Undoing.{value-run, value-entry}
-use borrow.Author.Rules.{rules}
 use Rattle.undo_log.proofs.undo_value.Goals as goal
 
 pub set_entry_word-requires : goal.set_entry_word-requires
-set_entry_word-requires c = (value-entry c.requires c.load_undo-u.ensures, lit< tt)
+set_entry_word-requires c = (value-entry c.requires c.load-u.ensures, lit< tt)
 
 pub returns : goal.returns
-returns c = value-run _ _ _ c.load_undo-u.ensures c.set_entry_word.ensures c.push_free.ensures
+returns c = value-run _ _ _ c.load-u.ensures c.set_entry_word.ensures c.push_free.ensures

@@ -1,5 +1,4 @@
 use mathlib.Core.Path.{refl}
-use borrow.Author.Rules.{rules}
 use borrow.Author.Tests.{eq-eqb, ne_eqb}
 use Rattle.walking.specs.Runs.{way-run}
 use Rattle.walking.specs.Walking.{alone_step}

@@ -1,5 +1,4 @@
 use mathlib.Core.Path.{◌∙◌}
-use borrow.Author.Rules.{rules}
 use Rattle.walking.specs.Runs.{splits-run}
 use Rattle.walking.specs.Walking.{down_step}
 use Rattle.walking.proofs.down_step.Goals as goal

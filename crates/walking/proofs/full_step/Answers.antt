@@ -1,4 +1,3 @@
-use borrow.Author.Rules.{rules}
 use Rattle.walking.specs.Runs.{full-run}
 use Rattle.walking.proofs.full_step.Goals as goal
 

@@ -1,4 +1,3 @@
-use borrow.Author.Rules.{rules}
 use Rattle.walking.specs.Runs.{there-run, half-low}
 use Rattle.walking.proofs.halved_step.Goals as goal
 

@@ -1,8 +1,7 @@
 use mathlib.Core.Path.{ap}
 use Prim.Native.Nat.{ℕ}
 use lib.Dec.{eqb}
-use borrow.Author.Rules.{rules}
 use Rattle.walking.proofs.is_first.Goals as goal
 
 pub returns : goal.returns
-returns c = ap (λ (i : ℕ). eqb i 0) c.find_son-i.ensures
+returns c = ap (λ (i : ℕ). eqb i 0) c.find_son.ensures

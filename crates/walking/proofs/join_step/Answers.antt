@@ -1,4 +1,3 @@
-use borrow.Author.Rules.{rules}
 use Rattle.walking.specs.Runs.{there-run}
 use Rattle.walking.proofs.join_step.Goals as goal
 

@@ -1,5 +1,4 @@
 use mathlib.Core.Path.{◌∙◌}
-use borrow.Author.Rules.{rules}
 use Rattle.walking.specs.Runs.{mends-run}
 use Rattle.walking.specs.Walking.{level_step}
 use Rattle.walking.proofs.level_step.Goals as goal

@@ -1,4 +1,3 @@
-use borrow.Author.Rules.{rules}
 use Rattle.walking.specs.Runs.{there-run}
 use Rattle.walking.specs.Walking.{plain_step}
 use Rattle.walking.proofs.plain_step.Goals as goal

@@ -1,6 +1,4 @@
 use mathlib.Core.Path.{sym, ◌∙◌}
-use borrow.Author.Rules.{rules}
-use borrow.Author.Tests.{not-true, not-false}
 use Rattle.walking.specs.Runs.{free-none, free-some}
 use Rattle.walking.specs.Walking.{split_step}
 use Rattle.walking.proofs.split_step.Goals as goal

@@ -1,4 +1,3 @@
-use borrow.Author.Rules.{rules}
 use Rattle.walking.specs.Runs.{stands-run}
 use Rattle.walking.proofs.stands.Goals as goal
 

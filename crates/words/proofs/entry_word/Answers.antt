@@ -1,6 +1,5 @@
 use mathlib.Core.Path.{refl}
 use Rattle.words.specs.Entries.{entry_word}
-use borrow.Author.Rules.{rules}
 use Rattle.words.proofs.entry_word.Goals as goal
 
 pub returns : goal.returns

@@ -1,8 +1,0 @@
-use Rattle.std.proofs.Common.{◌-◌, rules}
-use Rattle.naive_tree.proofs.arrays.insert_item.Given as goal
-
-abbrev pub invariant-loop-j : goal.invariant-loop-j
-invariant-loop-j l = Unit {0}
-
-abbrev pub decreases-loop-j : goal.decreases-loop-j
-decreases-loop-j l = l.end - l.j

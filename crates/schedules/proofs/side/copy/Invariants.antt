@@ -1,8 +1,0 @@
-use Rattle.std.proofs.Common.{◌-◌, rules}
-use Rattle.schedules.proofs.side.copy.Given as goal
-
-abbrev pub invariant-loop-k : goal.invariant-loop-k
-invariant-loop-k l = Unit {0}
-
-abbrev pub decreases-loop-k : goal.decreases-loop-k
-decreases-loop-k l = 4294967295 - l.k

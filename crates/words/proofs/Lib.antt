@@ -1,2 +1,0 @@
--- Lemmas of the proofs.
-pub mod Copy
