@@ -14,7 +14,7 @@ use Rattle.serial.specs.Calls as C
 use Rattle.machine.specs.Logic.{eqb_is, eqb-not, leb_yes, leb_no}
 use Rattle.machine.specs.Tree.{map_e, map_e-append, pick, pick-hit}
 use Rattle.machine.specs.Holders.{width}
-use Rattle.machine.specs.State.{Desc, Request, State, no_desc, same, more, at, refused}
+use Rattle.machine.specs.State.{Desc, Request, State, no_desc, same, more, refused}
 use Rattle.machine.specs.Steps.{answer, goes_on, guarded, ended, pin-step, make-step, lowest_step, stand_step, at_step, arrived, made_state}
 use Rattle.meaning.specs.Reading.{Chained, Leaf, erase, M-of, R-of}
 use Rattle.meaning.specs.Around.{below-erase}

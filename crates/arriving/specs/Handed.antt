@@ -1,5 +1,5 @@
 -- A change of words that leaves the session table, and then the party's session record is another.
-use Rattle.std.specs.Prelude.{◌≡◌, List, ℕ, suc, ◌≤◌, eqb, length, set}
+use Rattle.std.specs.Prelude.{◌≡◌, List, ℕ, suc, ◌≤◌, length, set}
 use Rattle.std.proofs.Common.{sym, ap, subst, ◌∙◌, arith, set-set}
 use Rattle.sessions.specs.declared.Session.{Session}
 use Rattle.sessions.specs.Sessions.{session_at, tenure}

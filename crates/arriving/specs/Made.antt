@@ -1,5 +1,5 @@
 -- What the layout with the new descriptor means, and the row.
-use Rattle.std.specs.Prelude.{◌≡◌, List, [], ◌∷◌, eqb}
+use Rattle.std.specs.Prelude.{◌≡◌, List, [], ◌∷◌}
 use Rattle.std.proofs.Math.Path.{sym, ap}
 use Prim.Native.Nat.{ℕ}
 use Rattle.meaning.specs.Reading.{Chained}

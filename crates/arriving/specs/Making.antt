@@ -22,7 +22,7 @@ use Rattle.machine.specs.Tree.{map_e, leaves}
 use Rattle.machine.specs.Holders.{width, latch_word}
 use Rattle.machine.specs.State.{top}
 use Rattle.machine.specs.Sound.{times}
-use Rattle.machine.specs.Order.{In, in-wide}
+use Rattle.machine.specs.Order.{in-wide}
 use Rattle.meaning.specs.Reading.{Chained, Leaf, Mark, numbers, erase, M-of, R-of}
 use Rattle.meaning.specs.Sound.{All, Apart}
 use Rattle.meaning.specs.Numbers.{all_append, all_left, all_right, all-as, all_both, all_map, all_in, all_from, not_in, in-times, times-append, apart-times, apart-left, apart-right, apart-all, one-is}

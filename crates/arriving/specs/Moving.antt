@@ -10,11 +10,10 @@ use Rattle.groups.specs.Descriptor.{descriptor_at}
 use Rattle.groups.specs.Descriptor as GD
 use Rattle.sessions.specs.declared.Session.{Session}
 use Rattle.sessions.specs.Sessions.{session_at}
-use Rattle.serial.specs.Calls as C
 use Rattle.machine.specs.Holders.{width}
-use Rattle.machine.specs.State.{Desc, Request, State, Outcome, stored, gap_below, at, top}
+use Rattle.machine.specs.State.{Desc, Request, State, Outcome, stored, gap_below, top}
 use Rattle.machine.specs.Sound.{Descends, to-change, to_first, to-second, to_choice, stored_in}
-use Rattle.machine.specs.Steps.{answer, goes_on, finished, pin-step, tidy-step, removable, tidied_state}
+use Rattle.machine.specs.Steps.{goes_on, finished, pin-step, tidy-step, removable, tidied_state}
 use Rattle.machine.specs.Descending.{keeper-stored}
 use Rattle.machine.specs.Looks.{stored-parts, stored-range}
 use Rattle.machine.specs.Housekeeping.{lvs}

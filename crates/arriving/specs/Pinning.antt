@@ -1,12 +1,12 @@
 -- A session pins the stored descriptor of its key, and its node is released.
-use Rattle.std.specs.Prelude.{◌≡◌, refl, Bool, true, false, cond, List, [], ◌∷◌, ℕ, zero, suc, ◌+◌, ◌≤◌, eqb, leb, set}
+use Rattle.std.specs.Prelude.{◌≡◌, refl, Bool, true, false, cond, List, [], ◌∷◌, ℕ, zero, suc, ◌≤◌, eqb, leb, set}
 use Rattle.std.proofs.Common.{sym, ap, ap₂, subst, add-one, arith}
 use Rattle.groups.specs.Descriptor.{descriptor_at, put_pins}
 use Rattle.sessions.specs.declared.Session.{Session}
 use Rattle.sessions.specs.Sessions.{session_at}
 use Rattle.machine.specs.Tree.{onp}
 use Rattle.machine.specs.Holders.{width, latch_word}
-use Rattle.machine.specs.State.{Desc, Tree, State, at, on_tree, on_leaf, on_desc, pin_desc, set_hand, with_root}
+use Rattle.machine.specs.State.{Desc, Tree, State, on_tree, on_leaf, on_desc, pin_desc, set_hand, with_root}
 use Rattle.machine.specs.Descent.{on_latch, unlatched}
 use Rattle.machine.specs.Steps.{unlatch, goes_on, pin-step, pinned_state}
 use Rattle.meaning.specs.Reading.{M-of}

@@ -3,7 +3,6 @@ use Rattle.std.specs.Prelude.{◌≡◌, refl, Bool, true, false, List, ℕ, ◌
 use Rattle.std.proofs.Common.{sym, ap, ap₂, subst, ◌∙◌, eq-eqb, ne_eqb}
 use Rattle.words.specs.Store.{HasRecord, word_of, has_kept}
 use Rattle.words.specs.Header.{header_word, first_place, free_place}
-use Rattle.kinds.specs.Kind.{write-length, write-other}
 use Rattle.nodes.specs.Ops.{latch_at, latch-length, latch-other}
 use Rattle.groups.specs.declared.Descriptor.{Descriptor}
 use Rattle.groups.specs.Descriptor.{descriptor_at, put_descriptor, decode_descriptor, made_in, with_next_descriptor, removable}
@@ -98,9 +97,9 @@ made-run s m r x a b c e = (c ∙ ap (make_at s m x.at x.target) a, ap (λ z. re
 pub make-able : {s : List ℕ} {m r b : ℕ} {x : Session} → MadeReady s m r x → b ≡ pred_of s m r x.target → MakeAble s m x.at x.target b
 make-able {s} {m} {r} {b} {x} A e = subst (λ i. MakeAble s m x.at x.target i) (sym e) A.able
 
-pub full-run : (s : List ℕ) {s₁ : List ℕ} {y : Session} (m : ℕ) (x : Session) → s₁ ≡ end_request s m x → y ≡ idled x → Leaves s₁ (record { answer = Refused 11 0; session = y }) (full_step s m x)
+pub full-run : (s : List ℕ) {s₁ : List ℕ} {z : Moved} (m : ℕ) (x : Session) → (s₁ ≡ end_request s m x) × (z ≡ record { answer = Refused 11 0; session = idled x }) → Leaves s₁ z (full_step s m x)
 unfolding full_step
-full-run s m x a b = (a, ap (λ z. record { answer = Refused 11 0; session = z }) b)
+full-run s m x e = e
 
 pub make-full : (s t : List ℕ) {a : ℕ} {z : Moved} (m r : ℕ) (x : Session) → a ≡ header_word s free_place → a ≡ 0 → Leaves t z (full_step s m x) → Leaves t z (make_step s m r x)
 unfolding make_step

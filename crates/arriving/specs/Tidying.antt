@@ -25,7 +25,7 @@ use Rattle.machine.specs.Holders.{width, latch_word}
 use Rattle.machine.specs.State.{top, session_of}
 use Rattle.machine.specs.Sound.{times, pins_by, Undoable, cells}
 use Rattle.machine.specs.View.{holders}
-use Rattle.machine.specs.Order.{In, in-wide}
+use Rattle.machine.specs.Order.{in-wide}
 use Rattle.meaning.specs.Reading.{Chained, Leaf, numbers, M-of, R-of}
 use Rattle.meaning.specs.Sound.{All, Apart}
 use Rattle.meaning.specs.Numbers.{all_append, all_left, all_right, all-as, all_both, all_in, all_from, not_in, times-append, apart-times, apart-left, apart-right, one-is}

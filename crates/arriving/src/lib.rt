@@ -10,9 +10,8 @@
 ghost use Rattle.std.specs.Prelude.{◌≡◌};
 ghost use Rattle.words.specs.Store.{HasRecord};
 ghost use Rattle.words.specs.Header.{header_word, free_place};
-ghost use Rattle.finishing.specs.Finishing.{Endable};
 ghost use Rattle.outcomes.specs.Said.{moved};
-ghost use Rattle.arriving.specs.Arriving.{staged, to_change, to_second, to_take, arrived_at, pin_step, pred_of, make_at, made_step, full_step, make_step, tidy_at, gone_step, left_step, tidy_step, session_step, lowest_step_of};
+ghost use Rattle.arriving.specs.Arriving.{to_change, to_second, to_take, arrived_at, pin_step, pred_of, make_at, made_step, make_step, tidy_at, gone_step, left_step, tidy_step, session_step, lowest_step_of};
 ghost use Rattle.arriving.specs.Ready.{PredReady, PinReady, MakeAble, MadeReady, MakeReady, TidyAble, TidyReady, SessionReady, LowestReady};
 
 use groups::Descriptor;
@@ -42,31 +41,17 @@ fn to_second(mut x: Session, d: u32) -> Session
 }
 
 // A locate takes its range: d is first's own, or second's.
-fn take_one(mut x: Session, d: u32) -> Session
-    ensures { result ≡ staged x 5 x.target d x.high 0 }
-{
-    x.stage = Stage::Take as u32;
-    x.low = d;
-    x.last = 0;
-    x
-}
-
-fn take_two(mut x: Session, d: u32) -> Session
-    ensures { result ≡ staged x 5 x.target x.low d 0 }
-{
-    x.stage = Stage::Take as u32;
-    x.high = d;
-    x.last = 0;
-    x
-}
-
-fn to_take(x: Session, d: u32) -> Session
+fn to_take(mut x: Session, d: u32) -> Session
     ensures { result ≡ to_take x d }
 {
     if x.first == x.second {
-        return take_one(x, d);
+        x.low = d;
+    } else {
+        x.high = d;
     }
-    take_two(x, d)
+    x.stage = Stage::Take as u32;
+    x.last = 0;
+    x
 }
 
 fn arrive_at(x: Session, d: u32) -> Session
@@ -138,23 +123,13 @@ fn made_step(store: &mut [u32], m: usize, r: usize, x: Session) -> Moved
     }
 }
 
-fn full_step(store: &mut [u32], m: usize, x: Session) -> Moved
-    requires { Endable store.old m x }
-    ensures { (store.new ≡ (full_step store.old m x).words) × (result ≡ moved (full_step store.old m x)) }
-{
-    Moved {
-        answer: Answer::Refused(Refusal::Full as u32, 0),
-        session: finishing::end_request(store, m, x),
-    }
-}
-
 // The session makes the descriptor, or is refused where no record is free.
 pub fn make_step(store: &mut [u32], m: usize, r: usize, x: Session) -> Moved
     requires { MakeReady store.old m r x }
     ensures { (store.new ≡ (make_step store.old m r x).words) × (result ≡ moved (make_step store.old m r x)) }
 {
     if words::free(store) == 0 {
-        return full_step(store, m, x);
+        return finishing::refuse_request(store, m, x, Refusal::Full, 0);
     }
     made_step(store, m, r, x)
 }

@@ -6,7 +6,7 @@
 // running for runs, on packing for the answers.
 #![tactic(auto)]
 
-ghost use Rattle.std.specs.Prelude.{◌≡◌, true, ◌↔◌, [], ◌*◌, ◌≤◌, ◌<◌, length, take, drop};
+ghost use Rattle.std.specs.Prelude.{◌≡◌, true, ◌↔◌, [], ◌+◌, ◌/◌, ◌≤◌, length, take, drop};
 ghost use Rattle.sessions.specs.Sessions.{session_at};
 ghost use Rattle.outcomes.specs.Said.{said};
 ghost use Rattle.meaning.specs.Sound.{Sound};
@@ -171,21 +171,26 @@ fn may_go_on(k: Asking, a: Answer) -> bool
 
 // ---- a batch
 
-// The table, the place in the list, how many asks are made, and whether the batch goes on.
+// The table, the place in the list, and whether the batch goes on. No Option: the table is handed back where it ends, too.
 #[derive(Clone, Copy)]
 struct Place {
     table: [Session; PARTIES],
     from: usize,
-    made: usize,
     on: bool,
 }
 
-// The next ask is made, and its answer packed into its place.
-fn turn(store: &mut [u32], list: &mut [u32], asks: &[u32], answers: &mut [u64], at: Place) -> Place
-    requires { Ready store.old list.old asks.now answers.old at.table at.from at.made }
-    ensures { Turned asks.now at.made at.from store.old at.table list.old answers.old result.made result.from result.on answers.new list.new store.new result.table }
+// Ask i is made, and its answer packed into its place.
+fn turn(
+    store: &mut [u32],
+    list: &mut [u32],
+    asks: &[u32],
+    answers: &mut [u64],
+    i: usize,
+    at: Place,
+) -> Place
+    requires { Ready store.old list.old asks.now answers.old at.table at.from i }
+    ensures { Turned asks.now i at.from store.old at.table list.old answers.old (i + 1) result.from result.on answers.new list.new store.new result.table }
 {
-    let i = at.made;
     let from = at.from;
     let t = at.table;
     let k = asking::asking_at(asks, i);
@@ -201,29 +206,35 @@ fn turn(store: &mut [u32], list: &mut [u32], asks: &[u32], answers: &mut [u64], 
     Place {
         table: after,
         from: place_behind(from, list.len(), n),
-        made: i + 1,
         on: may_go_on(k, answer),
     }
 }
 
-// Whether there is an answer's place for each ask, and no ask too many. A rest of fewer words than an ask has counts as one.
+// How many asks so many words are. A rest of fewer words than an ask has counts as one.
+fn count_of(len: usize) -> usize
+    requires { len ≤ 458745 }
+    ensures { result ≡ (len + 6) / 7 }
+{
+    (len + 6) / WORDS
+}
+
+// Whether there is an answer's place for each ask, and no ask too many.
 pub fn fits(len: usize, places: usize) -> bool
     ensures { (result ≡ true) ↔ Fits len places }
 {
     if WORDS * MOST < len {
         return false;
     }
-    (len + 6) / WORDS <= places
+    count_of(len) <= places
 }
 
-fn ended(at: Place) -> Served
-    requires { at.made ≤ 65535 }
-    ensures { result ≡ record { table = at.table; answer = Answer.Done at.made } }
+fn ended(table: [Session; PARTIES], made: usize) -> Served
+    requires { made ≤ 65535 }
+    ensures { result ≡ record { table = table; answer = Answer.Done made } }
 {
-    let table = at.table;
     Served {
         table,
-        answer: Answer::Done(at.made as u32),
+        answer: Answer::Done(made as u32),
     }
 }
 
@@ -241,14 +252,14 @@ pub fn batch(
     let mut at = Place {
         table: t,
         from: 0,
-        made: 0,
         on: true,
     };
-    while WORDS * at.made < asks.len() {
+    let count = count_of(asks.len());
+    for i in 0..count {
         if !at.on {
-            return ended(at);
+            return ended(at.table, i);
         }
-        at = turn(store, list, asks, answers, at);
+        at = turn(store, list, asks, answers, i, at);
     }
-    ended(at)
+    ended(at.table, count)
 }

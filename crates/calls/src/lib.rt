@@ -35,6 +35,7 @@ pub fn begin(store: &[u32], t: [Session; PARTIES], p: u32) -> Served
 
 // ---- put
 
+// No struct of the five arguments, here and in serving, accepted and batches: docs/PROOF.md names this function, so its parameters may not change.
 pub fn put(
     store: &[u32],
     t: [Session; PARTIES],

@@ -71,10 +71,7 @@ fn has_two(store: &[u32], m: usize) -> bool
     ensures { result ≡ has_two store.now m }
 {
     let a = words::free(store) as usize;
-    if a == 0 {
-        return false;
-    }
-    words::word(store, m, a, 0) != 0
+    a != 0 && words::word(store, m, a, 0) != 0
 }
 
 // ---- rows

@@ -36,7 +36,7 @@ fn read_input<'a>(rt: &impl io::Input, buf: &'a mut [u8]) -> Result<&'a [u8], Fa
     Ok(&buf[..done])
 }
 
-// A verdict as it is printed, with the line end.
+// A verdict as it is printed, with the line end; a number, as journal::verdict gives it.
 fn text(verdict: u32) -> [u8; 3]
     ensures { result ≡ text_of verdict }
 {

@@ -77,7 +77,7 @@ fn any_request(b: &mut Book) -> Request {
     }
 }
 
-// A call of any kind but format and recover, by any party, with any words.
+// A call of any kind but format and recover, by any party, with any words; kind is a draw, and any above 6 is an ask.
 fn any_call(b: &mut Book, kind: u32) -> Call {
     let party = mostly_below(b, PARTIES as u32 + 2);
     let request = any_request(b);

@@ -16,49 +16,57 @@ pub struct Shares {
     removes: u32,
 }
 
+const GROW: Shares = Shares {
+    commits: 6,
+    housekeeper: 2,
+    stored: 1,
+    recovers: 250,
+    reads: 2,
+    writes: 5,
+    inserts: 23,
+    removes: 25,
+};
+
+const MIX: Shares = Shares {
+    commits: 5,
+    housekeeper: 5,
+    stored: 4,
+    recovers: 180,
+    reads: 5,
+    writes: 10,
+    inserts: 19,
+    removes: 25,
+};
+
+const SHRINK: Shares = Shares {
+    commits: 14,
+    housekeeper: 16,
+    stored: 7,
+    recovers: 200,
+    reads: 1,
+    writes: 2,
+    inserts: 3,
+    removes: 30,
+};
+
+const RISE: Shares = Shares {
+    commits: 8,
+    housekeeper: 1,
+    stored: 0,
+    recovers: 600,
+    reads: 1,
+    writes: 2,
+    inserts: 16,
+    removes: 16,
+};
+
 impl Shares {
     pub fn at(phase: Phase) -> Self {
         match phase {
-            Phase::Grow => Shares {
-                commits: 6,
-                housekeeper: 2,
-                stored: 1,
-                recovers: 250,
-                reads: 2,
-                writes: 5,
-                inserts: 23,
-                removes: 25,
-            },
-            Phase::Mix => Shares {
-                commits: 5,
-                housekeeper: 5,
-                stored: 4,
-                recovers: 180,
-                reads: 5,
-                writes: 10,
-                inserts: 19,
-                removes: 25,
-            },
-            Phase::Shrink => Shares {
-                commits: 14,
-                housekeeper: 16,
-                stored: 7,
-                recovers: 200,
-                reads: 1,
-                writes: 2,
-                inserts: 3,
-                removes: 30,
-            },
-            Phase::Rise => Shares {
-                commits: 8,
-                housekeeper: 1,
-                stored: 0,
-                recovers: 600,
-                reads: 1,
-                writes: 2,
-                inserts: 16,
-                removes: 16,
-            },
+            Phase::Grow => GROW,
+            Phase::Mix => MIX,
+            Phase::Shrink => SHRINK,
+            Phase::Rise => RISE,
         }
     }
 

@@ -6,6 +6,7 @@ use outcomes::{DayAnswer, DayServed};
 use schedules::side::Side;
 use sessions::{PARTIES, Session};
 
+// Both types are of other crates, so this is a function and no From.
 fn told(answer: DayAnswer) -> Told {
     match answer {
         DayAnswer::Ok(place) => Told {

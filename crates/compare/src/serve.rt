@@ -13,6 +13,7 @@ struct Reply {
     said: Said,
 }
 
+// Both types are of other crates, so this is a function and no From.
 fn said(answer: Answer) -> Said {
     match answer {
         Answer::Ok => Said::Ok,

@@ -8,6 +8,7 @@ use std::{array, io};
 // How many words the session table has.
 const TABLE: u32 = STORE as u32;
 
+// The words of a row as a record of the table. Crate books has its own: what is damaged and what is compared share no reading of the words.
 fn session(row: Row) -> Session {
     let [
         begun,

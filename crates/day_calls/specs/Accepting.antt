@@ -1,5 +1,5 @@
 -- What a day call reads of its bytes, and what its checks leave: the put that it is passes put's checks, the step passes step's.
-use Rattle.std.specs.Prelude.{◌≡◌, refl, Bool, true, false, cond, not, ◌||◌, List, [], ◌∷◌, ◌⊎◌, ℕ, zero, suc, ◌+◌, ◌*◌, ◌/◌, ◌%◌, ◌≤◌, ◌<◌, eqb, leb, ltb, length, get_or}
+use Rattle.std.specs.Prelude.{◌≡◌, refl, Bool, true, false, cond, not, ◌||◌, List, [], ◌∷◌, ◌⊎◌, Result, Ok, Err, ℕ, zero, suc, ◌+◌, ◌*◌, ◌/◌, ◌%◌, ◌≤◌, ◌<◌, eqb, leb, ltb, length, get_or}
 use Rattle.std.proofs.Common.{sym, ◌∙◌, inl, inr, arith, ne_eqb, le-ltb, ltb-false, leb-false}
 use Rattle.std.proofs.lemmas.Bool.{lt-leb, eqb-false}
 use Rattle.card_days.specs.declared.DayRequest.{DayRequest}
@@ -16,6 +16,10 @@ use Rattle.meaning.specs.Sound.{Sound}
 use Rattle.refusals.specs.Refusing.{first_of, is_begun_in, asked_in, hand_in, step_list, put_list, request_list}
 use Rattle.refusals.specs.Coded.{value_list, change_list, value-first, change-first}
 use Rattle.promises.specs.Ways.{none_true}
+use Rattle.outcomes.specs.declared.Refusal.{Refusal}
+use Rattle.outcomes.specs.declared.Refusal.TheVariants as R
+use Rattle.outcomes.specs.Refused.{number}
+use Rattle.day_calls.specs.declared.Reading.{Reading}
 use Rattle.day_calls.specs.Calling.{Handed, handed, day_count, named, other_in_hand, bad_day, day_list}
 
 -- What was read of the bytes is the day's: whether it is a proper one, its stretches' number, and the request that the place names.
@@ -32,6 +36,16 @@ pub reads-day : (bs : List ℕ) (driver start entry j : ℕ) (g : Bool) (n : ℕ
 reads-day bs driver start entry j g n st r a b c z =
     let q = request_of bs st driver start entry j r c z in
     record { proper_is = a; count_is = b; request_is = q.is; value_word = q.fits }
+
+-- Refused 14 where the bytes are no proper day.
+abbrev pub ReadsDay : Handed → Result Reading Refusal → Type 0
+ReadsDay h (Ok d) = Reads h true d.count d.request
+ReadsDay h (Err refusal) = (refusal ≡ R.Day) × (proper (words h.bytes) ≡ false)
+
+-- The first check that holds, else what was read of a proper day.
+abbrev pub ChecksDay : ℕ → List Session → ℕ → Handed → Result Reading Refusal → Type 0
+ChecksDay m t p h (Ok d) = (0 ≡ first_of (day_list m t p h)) × Reads h true d.count d.request
+ChecksDay m t p h (Err refusal) = number refusal ≡ first_of (day_list m t p h)
 
 -- A put of r that passes, at place j of n stretches.
 pub record CanPut (s : List ℕ) (t : List Session) (p n : ℕ) (r : DayRequest) (j : ℕ) : Type 0 where

@@ -7,14 +7,14 @@
 // for the day, on refusals for what the table says, on accepted and stepping for the put and the step, on day_model for what the requests do.
 #![tactic(auto)]
 
-ghost use Rattle.std.specs.Prelude.{◌≡◌, not, ◌||◌, [], ◌*◌, ◌≤◌, ◌<◌, leb};
+ghost use Rattle.std.specs.Prelude.{◌≡◌, ◌||◌, [], ◌*◌, ◌≤◌, ◌<◌, leb};
 ghost use Rattle.serial.specs.Calls as C;
 ghost use Rattle.outcomes.specs.Said.{said};
 ghost use Rattle.outcomes.specs.Refused.{refused_by};
 ghost use Rattle.meaning.specs.Sound.{Sound};
 ghost use Rattle.refusals.specs.Refusing.{first_of, step_list};
-ghost use Rattle.day_calls.specs.Calling.{renamed, other_in_hand, number_list, day_list, handed, Renames, DayServes};
-ghost use Rattle.day_calls.specs.Accepting.{Reads, CanPut};
+ghost use Rattle.day_calls.specs.Calling.{renamed, other_in_hand, number_list, handed, Renames, DayServes};
+ghost use Rattle.day_calls.specs.Accepting.{ReadsDay, ChecksDay, CanPut};
 
 use card_days::DayRequest;
 use outcomes::{Answer, DayAnswer, DayServed, Refusal};
@@ -25,23 +25,31 @@ const DRIVERS: u32 = 4094;
 
 const LATEST: u32 = 1047136;
 
-// What a call reads of its bytes: whether they are a proper day, how many stretches it has, and the request that the place names.
+// What a call reads of a proper day: how many stretches it has, and the request that the place names.
 #[derive(Clone, Copy)]
 struct Reading {
-    good: bool,
     count: usize,
     request: DayRequest,
 }
 
-fn read_day(bytes: &[u8], driver: u32, start: u32, entry: u32, place: u32) -> Reading
-    ensures { Reads (handed bytes.now driver start entry place) result.good result.count result.request }
+// Refused 14 where the bytes are no proper day.
+fn read_day(
+    bytes: &[u8],
+    driver: u32,
+    start: u32,
+    entry: u32,
+    place: u32,
+) -> Result<Reading, Refusal>
+    ensures { ReadsDay (handed bytes.now driver start entry place) result }
 {
     let s = card_days::survey(bytes, (place / 2) as usize);
-    Reading {
-        good: s.is_proper,
+    if !s.is_proper {
+        return Err(Refusal::Day);
+    }
+    Ok(Reading {
         count: s.count,
         request: card_days::request_from(s.stretch, driver, start, entry, place),
-    }
+    })
 }
 
 // ---- answers
@@ -95,20 +103,11 @@ fn other_in_hand(x: Session, r: DayRequest) -> bool
     false
 }
 
-// 14: no proper day, or the place lies past it or names another request than the one in hand.
+// 14 of a proper day: the place lies past it or names another request than the one in hand.
 fn is_bad(x: Session, d: Reading, place: u32) -> bool
-    ensures { result ≡ (not d.good || (leb (2 * d.count) place || other_in_hand x d.request)) }
+    ensures { result ≡ (leb (2 * d.count) place || other_in_hand x d.request) }
 {
-    let good = d.good;
-    if !good {
-        return true;
-    }
-    let n = d.count;
-    if n <= (place / 2) as usize {
-        return true;
-    }
-    let r = d.request;
-    other_in_hand(x, r)
+    d.count <= (place / 2) as usize || other_in_hand(x, d.request)
 }
 
 // 8 and 9, of n stretches and m entries.
@@ -134,36 +133,33 @@ fn check_numbers(m: u32, n: usize, driver: u32, start: u32, entry: u32) -> Resul
     Ok(())
 }
 
-// What a day call is refused for, in order.
+// What a day call is refused for, in order; else what it reads of its bytes.
 fn check_day(
     m: u32,
     t: [Session; PARTIES],
     p: u32,
     bytes: &[u8],
-    d: Reading,
     driver: u32,
     start: u32,
     entry: u32,
     place: u32,
-) -> Result<(), Refusal>
-    requires { Reads (handed bytes.now driver start entry place) d.good d.count d.request }
-    ensures { refused_by result ≡ first_of (day_list m t p (handed bytes.now driver start entry place)) }
+) -> Result<Reading, Refusal>
+    ensures { ChecksDay m t p (handed bytes.now driver start entry place) result }
 {
-    if let Err(refusal) = refusals::check_party(t, p) {
-        return Err(refusal);
-    }
+    refusals::check_party(t, p)?;
     if p == 0 {
         return Err(Refusal::Code);
     }
     if bytes.len() % 2 == 1 {
         return Err(Refusal::Odd);
     }
+    let d = read_day(bytes, driver, start, entry, place)?;
     let x = refusals::seat(t, p);
-    let bad = is_bad(x, d, place);
-    if bad {
+    if is_bad(x, d, place) {
         return Err(Refusal::Day);
     }
-    check_numbers(m, d.count, driver, start, entry)
+    check_numbers(m, d.count, driver, start, entry)?;
+    Ok(d)
 }
 
 // ---- the put and the step
@@ -219,12 +215,11 @@ pub fn day(
     ensures { DayServes p (handed bytes.now driver start entry place) store.old t result.answer store.new result.table }
 {
     let m = words::entries(store);
-    let d = read_day(bytes, driver, start, entry, place);
-    if let Err(refusal) = check_day(m, t, p, bytes, d, driver, start, entry, place) {
-        return DayServed::refused(t, refusal);
-    }
-    let busy = refusals::has_request(t, p);
-    if busy {
+    let d = match check_day(m, t, p, bytes, driver, start, entry, place) {
+        Ok(d) => d,
+        Err(refusal) => return DayServed::refused(t, refusal),
+    };
+    if refusals::has_request(t, p) {
         return day_step(store, t, p, d.count, place);
     }
     day_put(store, t, p, d.count, d.request, place)

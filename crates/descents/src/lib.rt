@@ -37,22 +37,14 @@ pub fn first_in_way(p: u32, v: u32, w: u32) -> u32
     if first == 0 { in_way(p, w) } else { first }
 }
 
-// At least n records are free.
+// At least n records are free. The first of them is 0, by which a store names no record, where none is.
+#[tactic(auto, unfolding(crate::specs::Descents::has_free))]
 pub fn has_free(store: &[u32], m: usize, n: u32) -> bool
     requires { Poppable store.now m × (n ≤ 2) }
     ensures { result ≡ has_free store.now m n }
 {
     let head = words::free(store) as usize;
-    if n == 0 {
-        return true;
-    }
-    if head == 0 {
-        return false;
-    }
-    if n == 1 {
-        return true;
-    }
-    words::word(store, m, head, 0) != 0
+    n == 0 || (head != 0 && (n == 1 || words::word(store, m, head, 0) != 0))
 }
 
 // ---- one level down

@@ -19,6 +19,7 @@ use groups::Descriptor;
 use kinds::Record;
 use nodes::Node;
 use sessions::{Session, Stage};
+use words::Field;
 
 // ---- a session's locks end
 
@@ -27,10 +28,15 @@ fn leave_entry(store: &mut [u32], e: usize, p: u32)
     requires { HasEntry store.old e × IsSession p }
     ensures { store.new ≡ leave_entry store.old p e }
 {
-    let share = words::entry_word(store, e, 1);
-    let exclusive = words::entry_word(store, e, 2);
-    words::set_entry_word(store, e, 1, locks::without_session(share, p));
-    words::set_entry_word(store, e, 2, locks::without_session(exclusive, p));
+    let share = words::entry_word(store, e, Field::Share);
+    let exclusive = words::entry_word(store, e, Field::Exclusive);
+    words::set_entry_word(store, e, Field::Share, locks::without_session(share, p));
+    words::set_entry_word(
+        store,
+        e,
+        Field::Exclusive,
+        locks::without_session(exclusive, p),
+    );
 }
 
 // Session p leaves the holders of every entry.
@@ -99,9 +105,9 @@ fn fresh_entry(store: &mut [u32], e: usize)
     requires { HasEntry store.old e }
     ensures { store.new ≡ fresh_entry store.old e }
 {
-    words::set_entry_word(store, e, 0, 0);
-    words::set_entry_word(store, e, 1, 0);
-    words::set_entry_word(store, e, 2, 0);
+    words::set_entry_word(store, e, Field::Value, 0);
+    words::set_entry_word(store, e, Field::Share, 0);
+    words::set_entry_word(store, e, Field::Exclusive, 0);
 }
 
 fn fresh_entries(store: &mut [u32], m: usize)

@@ -221,7 +221,7 @@ pub extern "C" fn entry_store_day_bytes(
         let done = Answer::Done(n as u32);
         return packing::pack(done);
     }
-    let refused = Answer::Refused(Refusal::NoDay as u32, 0);
+    let refused = Answer::from(Refusal::NoDay);
     packing::pack(refused)
 }
 

@@ -9,7 +9,7 @@ use Rattle.sessions.specs.Sessions.{session_at}
 use Rattle.machine.specs.Logic.{eqb_is}
 use Rattle.machine.specs.Tree.{leaves}
 use Rattle.machine.specs.Holders.{width, latch_word}
-use Rattle.machine.specs.State.{Stage, start, enter, at, change, take, State, on_desc, on_tree, with_root, pin_desc, same, top}
+use Rattle.machine.specs.State.{Stage, start, enter, change, take, State, on_desc, on_tree, with_root, pin_desc, top}
 use Rattle.machine.specs.Descent.{on_latch, unlatched}
 use Rattle.machine.specs.Steps.{pinned, unpin, unlatch}
 use Rattle.machine.specs.Sound as S
@@ -19,7 +19,6 @@ use Rattle.meaning.specs.Reading.{Leaf, Mark, Numbered, erase, stage_of, M-of}
 use Rattle.meaning.specs.Sound.{pins_first}
 use Rattle.meaning.specs.Around.{NCtx, fill, erase-fill, leaves-fill}
 use Rattle.layout.specs.Layout.{Lay, leaves_in, Has, Marked, Holds, means}
-use Rattle.layout.specs.Row.{Stands}
 use Rattle.layout.specs.Keep.{with_tree, Hands, table-row, marked-fill}
 use Rattle.layout.specs.Places.{Erased, AtMark, at_mark}
 use Rattle.layout.specs.Ordering.{Rising, rising-of, ord-sons}

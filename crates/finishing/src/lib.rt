@@ -2,13 +2,16 @@
 //
 // It promises that the words left EQUAL a definition of specs/Finishing, and (specs/Ended) that from words which hold a layout of a sound state they hold
 // one that means the machine's `ended`: so a step that is refused 11 or 12, and one that is done, end the request as the machine does. It rests on the crates
-// that write nodes and descriptors, on `layout` for what words hold.
+// that write nodes and descriptors, on `outcomes` for what a refused step answers, on `layout` for what words hold.
 #![tactic(auto)]
 
 ghost use Rattle.std.specs.Prelude.{◌≡◌};
 ghost use Rattle.endings.specs.Table.{idled};
+ghost use Rattle.outcomes.specs.Refused.{number};
+ghost use Rattle.outcomes.specs.declared.Answer.TheVariants as A;
 ghost use Rattle.finishing.specs.Finishing.{has_pinned, LatchEnds, LowEnds, HighEnds, Endable, end_latch, end_low, end_high, end_request};
 
+use outcomes::{Answer, Moved, Refusal};
 use sessions::{Code, Session, Stage};
 
 // The latch of a descent that stands at a node.
@@ -22,16 +25,13 @@ fn end_latch(store: &mut [u32], m: usize, x: Session)
 }
 
 // Whether the request has pinned the descriptor of first.
+#[tactic(auto, unfolding(crate::specs::Finishing::has_pinned))]
 fn has_pinned(x: Session) -> bool
     ensures { result ≡ has_pinned x }
 {
-    if x.stage == Stage::Change as u32 {
-        return true;
-    }
-    if x.stage == Stage::Take as u32 {
-        return true;
-    }
-    x.code == Code::Locate as u32 && x.target != x.first
+    x.stage == Stage::Change as u32
+        || x.stage == Stage::Take as u32
+        || x.code == Code::Locate as u32 && x.target != x.first
 }
 
 fn end_low(store: &mut [u32], m: usize, x: Session)
@@ -43,6 +43,7 @@ fn end_low(store: &mut [u32], m: usize, x: Session)
     }
 }
 
+#[tactic(auto, unfolding(crate::specs::Finishing::end_high))]
 fn end_high(store: &mut [u32], m: usize, x: Session)
     requires { HighEnds store.old m x }
     ensures { store.new ≡ end_high store.old m x }
@@ -61,4 +62,22 @@ pub fn end_request(store: &mut [u32], m: usize, x: Session) -> Session
     end_low(store, m, x);
     end_high(store, m, x);
     endings::idle_session(x)
+}
+
+// The request in hand ends because it is refused, with a number beside the refusal's.
+pub fn refuse_request(
+    store: &mut [u32],
+    m: usize,
+    x: Session,
+    refusal: Refusal,
+    beside: u32,
+) -> Moved
+    requires { Endable store.old m x }
+    ensures { (store.new ≡ end_request store.old m x) × (result ≡ record { answer = A.Refused (number refusal) beside; session = idled x }) }
+{
+    let idle = end_request(store, m, x);
+    Moved {
+        answer: Answer::Refused(u32::from(refusal), beside), // why
+        session: idle,
+    }
 }

@@ -13,6 +13,7 @@ ghost use Rattle.holders.specs.Holders.{within, lone, alone, agree, holders_ok, 
 
 use marks::Records;
 use sessions::{PARTIES, Session};
+use words::Field;
 
 // ---- two words
 
@@ -138,8 +139,8 @@ pub fn entries_ok(records: Records, begun: u32) -> bool
 {
     let Records { store, m, .. } = records;
     for e in 1..m + 1 {
-        let share = words::entry_word(store, e, 1);
-        let exclusive = words::entry_word(store, e, 2);
+        let share = words::entry_word(store, e, Field::Share);
+        let exclusive = words::entry_word(store, e, Field::Exclusive);
         if !holders_ok(0, share, exclusive, begun) {
             return false;
         }

@@ -56,7 +56,7 @@ fn key_of(records: Records, d: usize) -> u32
     groups::descriptor_key(store, m, d)
 }
 
-// The key at place k of the order, 0 where there is none.
+// The key at place k of the order; 0, which is the key of no group and stands for none in the definition too, where there is none.
 fn key_at(records: Records, order: &[u16], count: usize, k: usize) -> u32
     requires { count ≤ length order.now }
     ensures { result ≡ key_at records.entry.store.now order.now records.entry.m records.entry.r count k }

@@ -5,7 +5,6 @@ use Prim.Native.Nat.{ℕ, suc, ◌≤◌}
 use Rattle.sessions.specs.declared.Session.{Session}
 use Rattle.sessions.specs.Sessions.{session_at}
 use Rattle.machine.specs.Holders.{width}
-use Rattle.machine.specs.Calls.{leave}
 use Rattle.meaning.specs.Reading.{M-of, R-of}
 use Rattle.layout.specs.Layout.{undo_numbers, Holds}
 use Rattle.layout.specs.Row.{Stands}

@@ -113,7 +113,8 @@ fn undo_one(store: &[u32], lists: &mut [u16], m: usize, d: usize, i: usize) -> b
     list_entry(lists, d, e, i)
 }
 
-// What is filed at a place; 0 past the end.
+// What is filed at a place; 0 past the end, and no Option: the lent slice may be shorter than what is asked of it, and the definition has the
+// same 0, by which a store names no record.
 fn filed(files: &[u16], at: usize) -> usize
     ensures { result ≡ get_or files.now at 0 }
 {

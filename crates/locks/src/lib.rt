@@ -86,7 +86,7 @@ pub fn first_session(word: u32) -> u32
     u32::trailing_zeros(word) + 1
 }
 
-// The lowest session in the way of s, or 0 where none is.
+// The lowest session in the way of s; 0, which names no session of a word of holders, where none is.
 pub fn lowest_blocker(kind: usize, asked: usize, s: u32, weak: u32, strong: u32) -> u32
     requires { (kind < 2) × (asked < 2) × (1 ≤ s) × (s ≤ word_bits) }
     ensures { result ≡ first_of (blockers word_bits kind asked s weak strong) }

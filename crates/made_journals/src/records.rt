@@ -17,7 +17,7 @@ pub enum Word {
     List,
 }
 
-// The codes of a read, a locate and a commit.
+// The codes of a read, a locate and a commit: numbers, since the code of a record may be any word, and many that are made are none of these.
 pub const READ: u32 = 1;
 
 pub const LOCATE: u32 = 5;

@@ -54,41 +54,28 @@ pub struct Records<'a> {
 }
 
 // A key of a group: neither infinity.
+#[tactic(auto, unfolding(crate::specs::Marks::key_ok))]
 pub fn key_ok(key: u32) -> bool
     ensures { result ≡ key_ok key }
 {
-    if key == 0 {
-        return false;
-    }
-    key != 4294967295
+    key != 0 && key != 4294967295
 }
 
 // An entry of a store of m entries.
+#[tactic(auto, unfolding(crate::specs::Marks::entry_ok))]
 pub fn entry_ok(e: u32, m: usize) -> bool
     ensures { result ≡ entry_ok e m }
 {
-    if e == 0 {
-        return false;
-    }
-    let n = e as usize;
-    n <= m
+    e != 0 && e as usize <= m
 }
 
 // Record i may be met: some may still be, i is one of r records, and it has no mark.
+#[tactic(auto, unfolding(crate::specs::Marks::is_new))]
 fn is_new(seen: &[u8], r: usize, i: usize, left: usize) -> bool
     requires { r < length seen.now }
     ensures { result ≡ is_new seen.now r i left }
 {
-    if left == 0 {
-        return false;
-    }
-    if i == 0 {
-        return false;
-    }
-    if r < i {
-        return false;
-    }
-    seen[i] == 0
+    left != 0 && i != 0 && i <= r && seen[i] == 0
 }
 
 // Record i is met and marked, and the answer is how many records may still be met; None where it is refused. Any slice with a place for
@@ -105,15 +92,10 @@ pub fn meet(seen: &mut [u8], r: usize, i: usize, left: usize, kind: u8) -> Optio
 }
 
 // Record i was met as one of this kind.
+#[tactic(auto, unfolding(crate::specs::Marks::is_met))]
 pub fn is_met(seen: &[u8], r: usize, i: usize, kind: u8) -> bool
     requires { r < length seen.now }
     ensures { result ≡ is_met seen.now r i kind }
 {
-    if i == 0 {
-        return false;
-    }
-    if r < i {
-        return false;
-    }
-    seen[i] == kind
+    i != 0 && i <= r && seen[i] == kind
 }

@@ -33,6 +33,8 @@ pub fn unpin_at(store: &mut [u32], m: usize, d: usize)
     groups::set_pins(store, m, d, pins - 1);
 }
 
+// The three holds are written out: each sets other fields of the descriptor, and its clause names its own definition (locate_at, pass_at, update_at).
+
 // Session p comes to hold its key in locate mode.
 #[tactic(auto, unfolding(crate::specs::Members::locate_at))]
 pub fn hold_locate(store: &mut [u32], m: usize, d: usize, p: u32)

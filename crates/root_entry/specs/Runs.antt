@@ -123,9 +123,9 @@ pub split-run : (s : List ℕ) {t : List ℕ} (m p : ℕ) (x : Session) {y : Ses
 unfolding enter_halves halves_at
 split-run s m p x a b c = (b.1, ap (λ z. record { answer = More; session = z }) (c ∙ ap₂ (standing_at x) b.0 a))
 
-pub ended-run : (s : List ℕ) {t : List ℕ} (m : ℕ) (x : Session) {y : Session} → (t ≡ end_request s m x) × (y ≡ idled x) → Leaves t (record { answer = Refused 11 0; session = y }) (root_refused s m x)
+pub ended-run : (s : List ℕ) {t : List ℕ} (m : ℕ) (x : Session) {r : Moved} → (t ≡ end_request s m x) × (r ≡ record { answer = Refused 11 0; session = idled x }) → Leaves t r (root_refused s m x)
 unfolding root_refused
-ended-run s m x e = (e.0, ap (λ z. record { answer = Refused 11 0; session = z }) e.1)
+ended-run s m x e = e
 
 -- ---- the step
 

@@ -16,12 +16,10 @@ ghost use Rattle.words.specs.Header.{header_word, root_place};
 ghost use Rattle.chain.specs.Free.{Poppable};
 ghost use Rattle.outcomes.specs.Said.{moved};
 ghost use Rattle.splits.specs.Splits.{CanSplitRoot};
-ghost use Rattle.walking.specs.Hands.{standing_at};
-ghost use Rattle.finishing.specs.Finishing.{Endable};
-ghost use Rattle.root_entry.specs.RootEntry.{drops_root, entered_node, dropped_words, root_in_way, splits_root, has_two, enter_whole, enter_halves, root_refused, enter_full, enter_free, enter_step_of, RootReady, FreeReady, EnterReady};
+ghost use Rattle.root_entry.specs.RootEntry.{drops_root, entered_node, dropped_words, root_in_way, splits_root, has_two, enter_whole, enter_halves, enter_full, enter_free, enter_step_of, RootReady, FreeReady, EnterReady};
 
 use outcomes::{Answer, Moved, Refusal};
-use sessions::{Session, Stage};
+use sessions::Session;
 
 // ---- what is entered
 
@@ -94,16 +92,6 @@ fn has_two(store: &[u32], m: usize) -> bool
 
 // ---- the effects
 
-// The request in hand stands at a node.
-fn at_node(mut x: Session, i: u32, level: u32) -> Session
-    ensures { result ≡ standing_at x i level }
-{
-    x.stage = Stage::AtNode as u32;
-    x.at = i;
-    x.level = level;
-    x
-}
-
 // The root gets the latch.
 fn enter_whole(store: &mut [u32], m: usize, p: u32, x: Session) -> Moved
     requires { HasRecord store.old m (header_word store.old root_place) × (p ≤ width) }
@@ -114,7 +102,7 @@ fn enter_whole(store: &mut [u32], m: usize, p: u32, x: Session) -> Moved
     nodes::set_latch(store, m, root as usize, p + 1);
     Moved {
         answer: Answer::More,
-        session: at_node(x, root, height),
+        session: walking::stand(x, root, height),
     }
 }
 
@@ -127,22 +115,11 @@ fn enter_halves(store: &mut [u32], m: usize, p: u32, x: Session) -> Moved
     let half = splits::split_root(store, m, x.target, p + 1);
     Moved {
         answer: Answer::More,
-        session: at_node(x, half as u32, height),
+        session: walking::stand(x, half as u32, height),
     }
 }
 
 // ---- the step
-
-fn root_refused(store: &mut [u32], m: usize, x: Session) -> Moved
-    requires { Endable store.old m x }
-    ensures { (store.new ≡ (root_refused store.old m x).words) × (result ≡ moved (root_refused store.old m x)) }
-{
-    let idle = finishing::end_request(store, m, x);
-    Moved {
-        answer: Answer::Refused(Refusal::Full as u32, 0),
-        session: idle,
-    }
-}
 
 fn enter_full(store: &mut [u32], m: usize, p: u32, x: Session) -> Moved
     requires { FreeReady store.old m p x }
@@ -150,7 +127,7 @@ fn enter_full(store: &mut [u32], m: usize, p: u32, x: Session) -> Moved
 {
     let enough = has_two(store, m);
     if !enough {
-        return root_refused(store, m, x);
+        return finishing::refuse_request(store, m, x, Refusal::Full, 0);
     }
     drop_lone(store, m);
     enter_halves(store, m, p, x)

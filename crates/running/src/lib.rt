@@ -159,18 +159,13 @@ fn run_seat(
         answer: Answer::More,
         next: 0,
     };
-    let mut steps: u32 = 0;
-    while steps < limit {
-        let y = sat.session;
-        let answer = sat.answer;
-        let more = is_more(answer);
-        if !more {
+    for steps in 0..limit {
+        if !is_more(sat.answer) {
             return Went { sat, steps };
         }
-        sat = seat_step(store, list, m, r, p, y, sat.next);
-        steps += 1;
+        sat = seat_step(store, list, m, r, p, sat.session, sat.next);
     }
-    Went { sat, steps }
+    Went { sat, steps: limit }
 }
 
 // Steps of party p until one is not answered more: at least one, at most bound, and never more than MOST_STEPS.

@@ -77,7 +77,8 @@ pub fn count_range(store: &[u32], m: usize, r: usize, i: usize, hi: u32) -> usiz
 
 // ---- the pairs of a range
 
-// The earlier of entry e and the one at a place of the list stays there; the other one is to go further on.
+// The earlier of entry e and the one at a place of the list stays there; the other one is to go further on. The list is the slice that a host
+// lends, two words for a pair, and the definition says which of its words change: so entries are put in where they lie, and no Vec is sorted.
 fn settle(list: &mut [u32], at: usize, e: u32) -> u32
     requires { at < length list.old }
     ensures { Settled list.old at e result list.new }

@@ -100,8 +100,8 @@ fn elder(t: [Session; PARTIES], best: u32, p: u32) -> u32
     best
 }
 
-// Of the sessions of a holders word the one with the lowest number, 0 for none. They are walked by trailing zeros, the lowest first, up to the
-// last session.
+// Of the sessions of a word of holders the one with the lowest number; 0, which names no session of such a word, for none. They are walked by
+// trailing zeros, the lowest first, up to the last session: the loop goes over the bits that are set and counts no index.
 pub fn eldest(t: [Session; PARTIES], word: u32) -> u32
     ensures { result ≡ eldest_in t word }
 {

@@ -66,6 +66,7 @@ impl Fault {
 // ---- sizes
 
 // The header's M and R are those that format gives for this length.
+#[tactic(auto, unfolding(crate::specs::Sizes::sizes_ok))]
 fn sizes_ok(store: &[u32]) -> bool
     ensures { result ≡ sizes_ok store.now }
 {
@@ -74,18 +75,11 @@ fn sizes_ok(store: &[u32]) -> bool
         return false;
     }
     let m = words::entries(store) as usize;
-    if m < 1 {
-        return false;
-    }
-    if 1024 < m {
+    if m < 1 || 1024 < m {
         return false;
     }
     let r = words::records_for(m, len);
-    if r < 8 {
-        return false;
-    }
-    let n = words::records(store) as usize;
-    n == r
+    8 <= r && words::records(store) as usize == r
 }
 
 // ---- the passes, from the last to the first: each goes on with those behind it
@@ -218,21 +212,16 @@ fn parties_then(
 }
 
 // Key 0 is stored, first in the chain of descriptors, and has no member.
+#[tactic(auto, unfolding(crate::specs::Sound::lowest_ok))]
 fn lowest_ok(records: Records) -> bool
     ensures { result ≡ lowest_ok records.entry.store.now records.entry.m records.entry.r }
 {
     let Records { store, m, r } = records;
     let d = words::first(store) as usize;
-    if d == 0 {
-        return false;
-    }
-    if r < d {
-        return false;
-    }
-    if groups::descriptor_key(store, m, d) != 0 {
-        return false;
-    }
-    groups::descriptor_first(store, m, d) == 0
+    d != 0
+        && d <= r
+        && groups::descriptor_key(store, m, d) == 0
+        && groups::descriptor_first(store, m, d) == 0
 }
 
 // The whole test, where the sizes are right.

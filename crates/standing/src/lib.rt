@@ -15,10 +15,11 @@ use kinds::Record;
 use marks::{Mark, Records};
 use nodes::Node;
 use sessions::{Code, Session, Stage};
+use words::Field;
 
 // ---- descents and latches
 
-// The son of a node on the path to a key; 0 where the node has no son or more than 8.
+// The son of a node on the path to a key; 0, by which a store names no record, where the node has no son or more than 8.
 fn son_on(n: Node, key: u32) -> usize
     ensures { result ≡ son_on n key }
 {
@@ -54,25 +55,19 @@ fn descend(records: Records, i: usize, levels: usize, key: u32) -> usize
 
 // A node that party p may stand at: a session one of at most 7 sons, the housekeeper one of at least 4, or the root, with no lone
 // node for a son.
+#[tactic(auto, unfolding(crate::specs::Standing::may_stand))]
 fn may_stand(p: usize, n: Node, level: usize, height: usize) -> bool
     ensures { result ≡ may_stand p n level height }
 {
-    if p != 0 {
-        return n.count <= 7;
+    if p == 0 {
+        4 <= n.count || (level == height && (level == 1 || 2 <= n.count))
+    } else {
+        n.count <= 7
     }
-    if 4 <= n.count {
-        return true;
-    }
-    if level != height {
-        return false;
-    }
-    if level == 1 {
-        return true;
-    }
-    2 <= n.count
 }
 
 // The party's node is on the path to its target, at its level, and has its latch.
+#[tactic(auto, unfolding(crate::specs::Standing::descent_ok, crate::specs::Standing::at_node))]
 fn descent_ok(records: Records, p: usize, s: Session) -> bool
     requires { p < parties }
     ensures { result ≡ descent_ok records.entry.store.now records.entry.m records.entry.r p s }
@@ -81,46 +76,30 @@ fn descent_ok(records: Records, p: usize, s: Session) -> bool
     let root = words::root(store) as usize;
     let height = words::height(store) as usize;
     let level = s.level as usize;
-    if level == 0 {
+    if level == 0 || height < level {
         return false;
     }
-    if height < level {
-        return false;
-    }
-    let key = s.target;
-    let i = descend(records, root, height - level, key);
-    let at = s.at as usize;
-    if i != at {
-        return false;
-    }
-    if i == 0 {
-        return false;
-    }
-    if r < i {
+    let i = descend(records, root, height - level, s.target);
+    if i != s.at as usize || i == 0 || r < i {
         return false;
     }
     let n = Node::load(store, m, i);
-    let latch = n.latch as usize;
-    if latch != p + 1 {
-        return false;
-    }
-    may_stand(p, n, level, height)
+    n.latch as usize == p + 1 && may_stand(p, n, level, height)
 }
 
 // A party at a node has its latch there; any other has none.
+#[tactic(auto, unfolding(crate::specs::Standing::latch_ok))]
 fn latch_ok(records: Records, p: usize, s: Session) -> bool
     requires { p < parties }
     ensures { result ≡ latch_ok records.entry.store.now records.entry.m records.entry.r p s }
 {
-    if s.stage != Stage::AtNode as u32 {
-        return true;
-    }
-    descent_ok(records, p, s)
+    s.stage != Stage::AtNode as u32 || descent_ok(records, p, s)
 }
 
 // ---- keys and pins
 
 // The key is stored: the path to it ends at its descriptor.
+#[tactic(auto, unfolding(crate::specs::Standing::is_stored, crate::specs::Standing::has_key))]
 fn is_stored(records: Records, key: u32) -> bool
     ensures { result ≡ is_stored records.entry.store.now records.entry.m records.entry.r key }
 {
@@ -128,14 +107,7 @@ fn is_stored(records: Records, key: u32) -> bool
     let root = words::root(store) as usize;
     let height = words::height(store) as usize;
     let i = descend(records, root, height, key);
-    if i == 0 {
-        return false;
-    }
-    if r < i {
-        return false;
-    }
-    let found = groups::descriptor_key(store, m, i);
-    found == key
+    i != 0 && i <= r && groups::descriptor_key(store, m, i) == key
 }
 
 // One more, to 255.
@@ -185,7 +157,7 @@ fn change_stands(records: Records, seen: &[u8], tally: &mut [u8], p: usize, s: S
         return false;
     }
     let e = entry as usize;
-    let exclusive = words::entry_word(store, e, 2);
+    let exclusive = words::entry_word(store, e, Field::Exclusive);
     let session = p as u32;
     if !locks::holds_session(exclusive, session) {
         return false;
@@ -223,14 +195,11 @@ fn locate_stands(records: Records, seen: &[u8], tally: &mut [u8], s: Session) ->
 }
 
 // A tidy on its way has a stored choice.
+#[tactic(auto, unfolding(crate::specs::Standing::tidy_stands))]
 fn tidy_stands(records: Records, s: Session) -> bool
     ensures { result ≡ tidy_stands records.entry.store.now records.entry.m records.entry.r s }
 {
-    if s.stage == Stage::Start as u32 {
-        return true;
-    }
-    let key = s.target;
-    is_stored(records, key)
+    s.stage == Stage::Start as u32 || is_stored(records, s.target)
 }
 
 // A request in hand stands where its own steps can bring it.

@@ -11,7 +11,7 @@ use Rattle.serial.specs.Locks.{weak, strong}
 use Rattle.serial.specs.Calls as C
 use Rattle.machine.specs.Logic.{leb_yes}
 use Rattle.machine.specs.Holders.{width, held_by}
-use Rattle.machine.specs.State.{Entry, Request, enter, State, Outcome, done, refused, entry_of, on_entry, set_hand, in_stage}
+use Rattle.machine.specs.State.{Entry, Request, enter, State, Outcome, refused, entry_of, on_entry, set_hand, in_stage}
 use Rattle.machine.specs.Steps.{answer, ended, finished, goes_on, share_by, exclude_by, entry_blockers, read-step, entry-step}
 use Rattle.meaning.specs.Reading.{hand_of}
 use Rattle.meaning.specs.Sound.{pins_first}

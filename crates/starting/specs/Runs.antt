@@ -19,16 +19,16 @@ pub blocker-run : (s : List ℕ) (e asked p : ℕ) {w v r : ℕ} → w ≡ entry
 unfolding entry_blocker
 blocker-run s e asked p a b c = c ∙ ap₂ (λ w v. first_of (blockers word_bits 0 asked p w v)) a b
 
-put-run : (s : List ℕ) (e k p : ℕ) {w v : ℕ} {t : List ℕ} → w ≡ entry_word s e k → v ≡ held_by p w → t ≡ put_entry_word s e k v → t ≡ put_entry_word s e k (held_by p (entry_word s e k))
+pub put-run : (s : List ℕ) (e k p : ℕ) {w v : ℕ} {t : List ℕ} → w ≡ entry_word s e k → v ≡ held_by p w → t ≡ put_entry_word s e k v → t ≡ put_entry_word s e k (held_by p (entry_word s e k))
 put-run s e k p a b c = c ∙ ap (put_entry_word s e k) (b ∙ ap (held_by p) a)
 
-pub share-run : (s : List ℕ) (e p : ℕ) {w v : ℕ} {t : List ℕ} → w ≡ entry_word s e 1 → v ≡ held_by p w → t ≡ put_entry_word s e 1 v → t ≡ shared_words s p e
+pub share-run : (s : List ℕ) (e p : ℕ) {t : List ℕ} → t ≡ put_entry_word s e 1 (held_by p (entry_word s e 1)) → t ≡ shared_words s p e
 unfolding shared_words
-share-run s e p a b c = put-run s e 1 p a b c
+share-run s e p a = a
 
-pub exclude-run : (s : List ℕ) (e p : ℕ) {w v : ℕ} {t : List ℕ} → w ≡ entry_word s e 2 → v ≡ held_by p w → t ≡ put_entry_word s e 2 v → t ≡ excluded_words s p e
+pub exclude-run : (s : List ℕ) (e p : ℕ) {t : List ℕ} → t ≡ put_entry_word s e 2 (held_by p (entry_word s e 2)) → t ≡ excluded_words s p e
 unfolding excluded_words
-exclude-run s e p a b c = put-run s e 2 p a b c
+exclude-run s e p a = a
 
 -- The words t and the session record and answer r are those of z.
 abbrev pub Leaves : List ℕ → Moved → Stepped → Type 0

@@ -16,7 +16,7 @@ use Rattle.serial.specs.Locks as K
 use Rattle.serial.specs.Calls as C
 use Rattle.outcomes.specs.Said.{Stepped, said}
 use Rattle.machine.specs.Holders.{width}
-use Rattle.machine.specs.State.{Entry, Request, start, State, Outcome, wait, done, refused, entry_of, session_of, on_entry, with_entries, set_hand}
+use Rattle.machine.specs.State.{Entry, Request, start, State, Outcome, done, refused, entry_of, session_of, on_entry, with_entries, set_hand}
 use Rattle.machine.specs.Steps.{answer, pinned, unpin, unlatch, ended, finished, guarded, entry_blockers}
 use Rattle.machine.specs.Calls.{request_checks}
 use Rattle.machine.specs.View.{entry-same}

@@ -20,7 +20,7 @@ use Rattle.serial.specs.Locks.{strong}
 use Rattle.serial.specs.Calls as C
 use Rattle.machine.specs.Logic.{leb_yes, leb_no}
 use Rattle.machine.specs.Holders.{width, held_by}
-use Rattle.machine.specs.State.{Entry, State, done, refused, with_entries, with_free, set_hand, add_undo, value}
+use Rattle.machine.specs.State.{Entry, State, refused, with_entries, with_free, set_hand, add_undo, value}
 use Rattle.machine.specs.Steps.{answer, ended, finished, exclude_by, entry_blockers, written, write_step}
 use Rattle.machine.specs.Sound.{times}
 use Rattle.meaning.specs.Reading.{Chained, hand_of, entries_of, numbers, M-of, R-of}

@@ -9,11 +9,15 @@
 #![tactic(auto)]
 
 ghost use Rattle.std.specs.Prelude.{◌≡◌, ◌<◌};
+ghost use Rattle.words.specs.Entries.{entry_word, put_entry_word};
+ghost use Rattle.words.specs.Fields.{field_number};
+ghost use Rattle.locks.specs.Holders.{held_by};
 ghost use Rattle.outcomes.specs.Said.{moved};
-ghost use Rattle.starting.specs.Starting.{entry_blocker, shared_words, read_done_of, read_step, excluded_words, write_done_of, write_free, write_step_of, to_first, entry_done_of, entry_step, none_chosen, first_step_of, EntryReady, LogReady, WriteReady, FirstReady};
+ghost use Rattle.starting.specs.Starting.{entry_blocker, read_done_of, read_step, write_done_of, write_free, write_step_of, to_first, entry_done_of, entry_step, none_chosen, first_step_of, EntryReady, LogReady, WriteReady, FirstReady};
 
 use outcomes::{Answer, Moved, Refusal};
 use sessions::{Session, Stage};
+use words::Field;
 
 // ---- what every first step shares
 
@@ -22,27 +26,22 @@ fn entry_blocker(store: &[u32], e: usize, asked: usize, p: u32) -> u32
     requires { EntryReady store.now p e × (asked < 2) }
     ensures { result ≡ entry_blocker store.now e asked p }
 {
-    let weak = words::entry_word(store, e, 1);
-    let strong = words::entry_word(store, e, 2);
+    let weak = words::entry_word(store, e, Field::Share);
+    let strong = words::entry_word(store, e, Field::Exclusive);
     locks::lowest_blocker(0, asked, p, weak, strong)
 }
 
-// Session p comes to hold the entry, in share mode and in exclusive mode.
-fn share_entry(store: &mut [u32], e: usize, p: u32)
+// Session p comes to hold the entry, in the mode of that word of the entry.
+fn hold_entry(store: &mut [u32], e: usize, field: Field, p: u32)
     requires { EntryReady store.old p e }
-    ensures { store.new ≡ shared_words store.old p e }
+    ensures { store.new ≡ put_entry_word store.old e (field_number field) (held_by p (entry_word store.old e (field_number field))) }
 {
-    let word = words::entry_word(store, e, 1);
-    words::set_entry_word(store, e, 1, locks::with_session(word, p));
+    let word = words::entry_word(store, e, field);
+    words::set_entry_word(store, e, field, locks::with_session(word, p));
 }
 
-fn exclude_entry(store: &mut [u32], e: usize, p: u32)
-    requires { EntryReady store.old p e }
-    ensures { store.new ≡ excluded_words store.old p e }
-{
-    let word = words::entry_word(store, e, 2);
-    words::set_entry_word(store, e, 2, locks::with_session(word, p));
-}
+// The three steps that follow test alike who is in the way, and each is written out: it asks for its own mode, needs other records, and its clauses name
+// the definition of its own row.
 
 // ---- read
 
@@ -51,8 +50,8 @@ fn read_done(store: &mut [u32], p: u32, x: Session) -> Moved
     ensures { (store.new ≡ (read_done_of store.old p x).words) × (result ≡ moved (read_done_of store.old p x)) }
 {
     let e = x.entry as usize;
-    let value = words::entry_word(store, e, 0);
-    share_entry(store, e, p);
+    let value = words::entry_word(store, e, Field::Value);
+    hold_entry(store, e, Field::Share, p);
     Moved {
         answer: Answer::Done(value),
         session: endings::idle_session(x),
@@ -81,10 +80,10 @@ fn write_done(store: &mut [u32], m: usize, p: u32, x: Session) -> Moved
     ensures { (store.new ≡ (write_done_of store.old m p x).words) × (result ≡ moved (write_done_of store.old m p x)) }
 {
     let e = x.entry as usize;
-    let old = words::entry_word(store, e, 0);
+    let old = words::entry_word(store, e, Field::Value);
     let i = undo_log::log_value(store, m, x.entry, old, x.undo);
-    words::set_entry_word(store, e, 0, x.first);
-    exclude_entry(store, e, p);
+    words::set_entry_word(store, e, Field::Value, x.first);
+    hold_entry(store, e, Field::Exclusive, p);
     Moved {
         answer: Answer::Done(0),
         session: endings::logged_session(x, i as u32),
@@ -135,7 +134,7 @@ fn entry_done(store: &mut [u32], p: u32, x: Session) -> Moved
     ensures { (store.new ≡ (entry_done_of store.old p x).words) × (result ≡ moved (entry_done_of store.old p x)) }
 {
     let e = x.entry as usize;
-    exclude_entry(store, e, p);
+    hold_entry(store, e, Field::Exclusive, p);
     Moved {
         answer: Answer::More,
         session: first_session(x),
@@ -176,17 +175,9 @@ pub fn first_step(store: &mut [u32], m: usize, p: u32, x: Session) -> Moved
 {
     let code = x.code;
     match code {
-        1 => {
-            return read_step(store, p, x);
-        }
-        2 => {
-            return write_step(store, m, p, x);
-        }
-        3 | 4 => {
-            return entry_step(store, p, x);
-        }
-        0 | 5..=4294967295 => {
-            return tidied_none(x);
-        }
+        1 => read_step(store, p, x),
+        2 => write_step(store, m, p, x),
+        3 | 4 => entry_step(store, p, x),
+        _ => tidied_none(x),
     }
 }

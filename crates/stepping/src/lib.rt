@@ -22,6 +22,7 @@ ghost use Rattle.taking.specs.Taking.{over};
 
 use outcomes::{Answer, Moved, Served};
 use sessions::{Code, PARTIES, Session, Stage};
+use words::Field;
 
 // At a node: the lowest, or one above it.
 fn node_step(store: &mut [u32], m: usize, r: usize, p: u32, x: Session) -> Moved
@@ -64,13 +65,16 @@ fn stage_step(store: &mut [u32], list: &mut [u32], m: usize, r: usize, p: u32, x
 
 // ---- whom a wait names
 
+// An entry's lock and a descriptor's are asked for by a function each: the words are read from other places, and each clause names its own definition
+// (entry_conflicts, group_conflicts), on which the promise of a wait rests.
+
 // The sessions in the way of p's lock on entry e: asked is 0 for share, 1 for exclusive.
 fn entry_conflicts(store: &[u32], e: usize, asked: usize, p: u32) -> u32
     requires { EntryReady store.now p e × (asked < 2) }
     ensures { result ≡ entry_conflicts store.now e asked p }
 {
-    let weak = words::entry_word(store, e, 1);
-    let strong = words::entry_word(store, e, 2);
+    let weak = words::entry_word(store, e, Field::Share);
+    let strong = words::entry_word(store, e, Field::Exclusive);
     locks::conflicting(0, asked, p, weak, strong)
 }
 

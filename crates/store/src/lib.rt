@@ -160,16 +160,18 @@ fn kept<A>(table: &mut [Session], seat: Seat<A>) -> A
     seat.answer
 }
 
-// ---- the eight calls
+// ---- the eight calls, over a lent table
+//
+// No function that takes the call as a closure: what a closure does to what it captures is not known after its call, so store, list and answers would be
+// handed on to it, by one such function for each set of them. Two lines in each call, the load and what is kept, are plainer.
 
 // An empty store with m entries, and a table with no session begun.
 pub fn format(store: &mut [u32], table: &mut [Session], m: u32) -> Answer
     ensures { OnTable Formatted store.old table.old m result store.new table.new }
 {
-    if table.len() != PARTIES {
+    let Some(t) = tables::load(table) else {
         return seats::wrong_table();
-    }
-    let t = tables::load_all(table);
+    };
     let served = calls::format(store, t, m);
     tables::save_all(table, served.table);
     served.answer
@@ -179,10 +181,9 @@ pub fn format(store: &mut [u32], table: &mut [Session], m: u32) -> Answer
 pub fn begin(store: &mut [u32], table: &mut [Session], p: u32) -> Answer
     ensures { OnTable Begun store.old table.old p result store.new table.new }
 {
-    if table.len() != PARTIES {
+    let Some(t) = tables::load(table) else {
         return seats::wrong_table();
-    }
-    let t = tables::load_all(table);
+    };
     let served = begin_by_value(store, t, p);
     tables::save_all(table, served.table);
     served.answer
@@ -192,10 +193,9 @@ pub fn begin(store: &mut [u32], table: &mut [Session], p: u32) -> Answer
 pub fn put(store: &mut [u32], table: &mut [Session], k: PutArgs) -> Answer
     ensures { OnTable Put store.old table.old k result store.new table.new }
 {
-    if table.len() != PARTIES {
+    let Some(t) = tables::load(table) else {
         return seats::wrong_table();
-    }
-    let t = tables::load_all(table);
+    };
     kept(table, put_by_value(store, t, k))
 }
 
@@ -203,10 +203,9 @@ pub fn put(store: &mut [u32], table: &mut [Session], k: PutArgs) -> Answer
 pub fn step(store: &mut [u32], table: &mut [Session], list: &mut [u32], p: u32) -> Answer
     ensures { SteppedOnTable store.old table.old list.old p result store.new table.new list.new }
 {
-    if table.len() != PARTIES {
+    let Some(t) = tables::load(table) else {
         return seats::wrong_table();
-    }
-    let t = tables::load_all(table);
+    };
     kept(table, step_by_value(store, list, t, p))
 }
 
@@ -214,10 +213,9 @@ pub fn step(store: &mut [u32], table: &mut [Session], list: &mut [u32], p: u32) 
 pub fn commit(store: &mut [u32], table: &mut [Session], p: u32) -> Answer
     ensures { OnTable Committed store.old table.old p result store.new table.new }
 {
-    if table.len() != PARTIES {
+    let Some(t) = tables::load(table) else {
         return seats::wrong_table();
-    }
-    let t = tables::load_all(table);
+    };
     kept(table, commit_by_value(store, t, p))
 }
 
@@ -225,10 +223,9 @@ pub fn commit(store: &mut [u32], table: &mut [Session], p: u32) -> Answer
 pub fn abort(store: &mut [u32], table: &mut [Session], p: u32) -> Answer
     ensures { OnTable Aborted store.old table.old p result store.new table.new }
 {
-    if table.len() != PARTIES {
+    let Some(t) = tables::load(table) else {
         return seats::wrong_table();
-    }
-    let t = tables::load_all(table);
+    };
     kept(table, abort_by_value(store, t, p))
 }
 
@@ -236,10 +233,9 @@ pub fn abort(store: &mut [u32], table: &mut [Session], p: u32) -> Answer
 pub fn ask(store: &mut [u32], table: &mut [Session], p: u32) -> Answer
     ensures { OnTable Asked store.old table.old p result store.new table.new }
 {
-    if table.len() != PARTIES {
+    let Some(t) = tables::load(table) else {
         return seats::wrong_table();
-    }
-    let t = tables::load_all(table);
+    };
     kept(table, ask_by_value(store, t, p))
 }
 
@@ -247,10 +243,9 @@ pub fn ask(store: &mut [u32], table: &mut [Session], p: u32) -> Answer
 pub fn recover(store: &mut [u32], table: &mut [Session]) -> Answer
     ensures { OnTable Recovered store.old table.old tt result store.new table.new }
 {
-    if table.len() != PARTIES {
+    let Some(t) = tables::load(table) else {
         return seats::wrong_table();
-    }
-    let t = tables::load_all(table);
+    };
     let served = calls::recover(store, t);
     tables::save_all(table, served.table);
     served.answer
@@ -262,10 +257,9 @@ pub fn recover(store: &mut [u32], table: &mut [Session]) -> Answer
 pub fn run(store: &mut [u32], table: &mut [Session], list: &mut [u32], k: Go) -> Made
     ensures { ListedOnTable RanBy store.old table.old list.old k result.answer result.steps store.new table.new list.new }
 {
-    if table.len() != PARTIES {
+    let Some(t) = tables::load(table) else {
         return seats::wrong_table_made();
-    }
-    let t = tables::load_all(table);
+    };
     kept(table, run_by_value(store, list, t, k))
 }
 
@@ -273,10 +267,9 @@ pub fn run(store: &mut [u32], table: &mut [Session], list: &mut [u32], k: Go) ->
 pub fn request(store: &mut [u32], table: &mut [Session], list: &mut [u32], k: Wish) -> Made
     ensures { ListedOnTable AskedBy store.old table.old list.old k result.answer result.steps store.new table.new list.new }
 {
-    if table.len() != PARTIES {
+    let Some(t) = tables::load(table) else {
         return seats::wrong_table_made();
-    }
-    let t = tables::load_all(table);
+    };
     kept(table, request_by_value(store, list, t, k))
 }
 
@@ -290,10 +283,9 @@ pub fn batch(
 ) -> Answer
     ensures { BatchedOnTable Batched asks.now store.old table.old list.old answers.old result answers.new list.new store.new table.new }
 {
-    if table.len() != PARTIES {
+    let Some(t) = tables::load(table) else {
         return seats::wrong_table();
-    }
-    let t = tables::load_all(table);
+    };
     let served = calls::batch(store, list, t, asks, answers);
     tables::save_all(table, served.table);
     served.answer
@@ -305,9 +297,8 @@ pub fn batch(
 pub fn day(store: &mut [u32], table: &mut [Session], bytes: &[u8], k: DayAsk) -> DayAnswer
     ensures { DayOnTable DayBy store.old table.old bytes.now k result store.new table.new }
 {
-    if table.len() != PARTIES {
+    let Some(t) = tables::load(table) else {
         return seats::wrong_table_day();
-    }
-    let t = tables::load_all(table);
+    };
     kept(table, day_by_value(store, bytes, t, k))
 }

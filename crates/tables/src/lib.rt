@@ -4,7 +4,7 @@
 // is stored is what was passed, and no other record changes. It rests on sessions alone.
 #![tactic(auto)]
 
-ghost use Rattle.std.specs.Prelude.{◌≡◌, length, set};
+ghost use Rattle.std.specs.Prelude.{◌≡◌, None, IfSome, length, set};
 ghost use Rattle.sessions.specs.Sessions.{parties};
 
 use sessions::{PARTIES, Session};
@@ -19,6 +19,17 @@ pub fn load_all(table: &[Session]) -> [Session; PARTIES]
     let mut loaded = [Session::default(); PARTIES];
     loaded.copy_from_slice(table);
     loaded
+}
+
+// The same where the caller has not tested it: none if there are not 17.
+pub fn load(table: &[Session]) -> Option<[Session; PARTIES]>
+    ensures loaded { IfSome result (λ t. (t ≡ table.now) × (length table.now ≡ parties)) }
+    ensures wrong { result ≡ None → ¬ (length table.now ≡ parties) }
+{
+    if table.len() != PARTIES {
+        return None;
+    }
+    Some(load_all(table))
 }
 
 // The 17 records go into a lent table.

@@ -1,7 +1,7 @@
 -- Where a locate's next descriptor is: behind the last one along the chain whose key was taken.
 use Rattle.std.specs.Prelude.{◌≡◌, refl, Bool, true, false, cond, List, [], ◌∷◌, ◌++◌, ◌⊎◌, ℕ, zero, suc, ◌≤◌, ◌<◌, leb, eqb, length}
 use Rattle.std.proofs.Common.{ap, subst, ◌∙◌, inl, inr, arith, eq-eqb, ne_eqb}
-use Rattle.std.proofs.Math.Option.{some, none, some-injective, none-ne-some}
+use Rattle.std.proofs.Math.Option.{some, some-injective, none-ne-some}
 use Rattle.words.specs.Store.{word_of}
 use Rattle.sessions.specs.declared.Session.{Session}
 use Rattle.scans.specs.Scans.{last_upto}

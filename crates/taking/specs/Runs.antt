@@ -50,10 +50,10 @@ pub pass-run : (s : List ℕ) (m d p : ℕ) (x : Session) {k : ℕ} {s' : List �
 unfolding pass_step decode_descriptor
 pass-run s m d p x e f g = (f, ap (λ z. record { answer = More; session = z }) (g ∙ ap (took_key x) e))
 
-pub short-run : (s : List ℕ) (m : ℕ) (x : Session) (n : ℕ) {s' : List ℕ} {y : Session} → (s' ≡ end_request s m x) × (y ≡ idled x)
-    → Leaves s' (record { answer = Refused 12 n; session = y }) (short_step s m x n)
+pub short-run : (s : List ℕ) (m : ℕ) (x : Session) (n : ℕ) {s' : List ℕ} {r : Moved} → (s' ≡ end_request s m x) × (r ≡ record { answer = Refused 12 n; session = idled x })
+    → Leaves s' r (short_step s m x n)
 unfolding short_step
-short-run s m x n e = (e.0, ap (λ z. record { answer = Refused 12 n; session = z }) e.1)
+short-run s m x n e = e
 
 pub done-run : (s : List ℕ) (m d p : ℕ) (x : Session) (n : ℕ) {s₁ s₂ : List ℕ} {y : Session} → s₁ ≡ locate_at s m d p → (s₂ ≡ end_request s₁ m x) × (y ≡ idled x)
     → Leaves s₂ (record { answer = Done n; session = y }) (done_step s m d p x n)

@@ -13,11 +13,10 @@
 
 ghost use Rattle.std.specs.Prelude.{◌≡◌, length};
 ghost use Rattle.members.specs.Members.{Holdable};
-ghost use Rattle.finishing.specs.Finishing.{Endable};
 ghost use Rattle.outcomes.specs.Said.{moved};
 ghost use Rattle.taking.specs.Place.{next_taken};
 ghost use Rattle.taking.specs.Pass.{took_key};
-ghost use Rattle.taking.specs.Taking.{in_way_of, pass_step, done_step, short_step, last_step, last_written, free_step, free_written, take_step_of, take_written, over, CanFind, DoneReady, LastReady, TakeReady};
+ghost use Rattle.taking.specs.Taking.{in_way_of, pass_step, done_step, last_step, last_written, free_step, free_written, take_step_of, take_written, over, CanFind, DoneReady, LastReady, TakeReady};
 
 use outcomes::{Answer, Moved, Refusal};
 use sessions::Session;
@@ -69,18 +68,6 @@ fn pass_step(store: &mut [u32], m: usize, d: usize, p: u32, x: Session) -> Moved
 
 // ---- at second
 
-// The list is too short for n pairs.
-fn short_step(store: &mut [u32], m: usize, x: Session, n: u32) -> Moved
-    requires { Endable store.old m x }
-    ensures { (store.new ≡ (short_step store.old m x n).words) × (result ≡ moved (short_step store.old m x n)) }
-{
-    let y = finishing::end_request(store, m, x);
-    Moved {
-        answer: Answer::Refused(Refusal::List as u32, n),
-        session: y,
-    }
-}
-
 fn done_step(store: &mut [u32], m: usize, d: usize, p: u32, x: Session, n: u32) -> Moved
     requires { DoneReady store.old m d p x }
     ensures { (store.new ≡ (done_step store.old m d p x n).words) × (result ≡ moved (done_step store.old m d p x n)) }
@@ -108,7 +95,7 @@ fn last_step(
     let low = x.low as usize;
     let n = scans::count_range(store, m, r, low, x.second);
     if list.len() < 2 * n {
-        return short_step(store, m, x, n as u32);
+        return finishing::refuse_request(store, m, x, Refusal::List, n as u32);
     }
     scans::write_pairs(store, list, m, r, low, x.second);
     done_step(store, m, d, p, x, n as u32)

@@ -13,6 +13,7 @@ ghost use Rattle.marks.specs.Trail.{Ends};
 ghost use Rattle.undo_chains.specs.UndoChains.{Filing, group_held, kind_ok, undo_ok, file_at, file_undo, undos_from};
 
 use marks::{Mark, Records};
+use words::Field;
 
 // The lists by group: place d has the last record of the list of descriptor d, FIRSTS + d the first, LINKS + i the one after record i. They
 // are one slice, so that a single place is lent in their stead where no session has an undo record.
@@ -60,7 +61,7 @@ fn undo_ok(records: Records, seen: &[u8], p: u32, i: usize) -> bool
         return false;
     }
     let e = entry as usize;
-    let exclusive = words::entry_word(store, e, 2);
+    let exclusive = words::entry_word(store, e, Field::Exclusive);
     if !locks::holds_session(exclusive, p) {
         return false;
     }

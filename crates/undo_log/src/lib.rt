@@ -15,6 +15,7 @@ ghost use Rattle.undo_log.specs.Freeing.{free_chain};
 
 use kinds::Record;
 use undos::Undo;
+use words::Field;
 
 // ---- logging a change
 
@@ -55,7 +56,7 @@ fn undo_value(store: &mut [u32], m: usize, i: usize)
 {
     let u = Undo::load(store, m, i);
     let e = u.entry as usize;
-    words::set_entry_word(store, e, 0, u.saved);
+    words::set_entry_word(store, e, Field::Value, u.saved);
     chain::push_free(store, m, i);
 }
 

@@ -13,11 +13,10 @@ ghost use Rattle.machine.specs.Holders.{width};
 ghost use Rattle.nodes.specs.Ops.{son_for};
 ghost use Rattle.splits.specs.Splits.{CanSplitSon};
 ghost use Rattle.joins.specs.Joins.{CanJoin, CanMoveLeft, CanMoveRight};
-ghost use Rattle.finishing.specs.Finishing.{Endable};
 ghost use Rattle.outcomes.specs.Said.{moved};
 ghost use Rattle.outcomes.specs.declared.Answer.TheVariants.{More, Wait};
 ghost use Rattle.walking.specs.Hands.{standing_at};
-ghost use Rattle.walking.specs.Walking.{waits_for, refused_full, plain_step, halved_step, split_step, down_step, alone_step, join_step, left_step, right_step, other_count, mend_by, mend_step, pair_step, level_step};
+ghost use Rattle.walking.specs.Walking.{waits_for, plain_step, halved_step, split_step, down_step, alone_step, join_step, left_step, right_step, other_count, mend_by, mend_step, pair_step, level_step};
 ghost use Rattle.walking.specs.Ready.{Walker, SplitReady, AloneReady, Mendable, PairReady, LevelReady};
 
 use kinds::Record;
@@ -28,7 +27,7 @@ use sessions::{Session, Stage};
 // ---- what a step hands back
 
 // The request stands at the node at record i, of level l.
-fn stand(mut x: Session, i: u32, l: u32) -> Session
+pub fn stand(mut x: Session, i: u32, l: u32) -> Session
     ensures { result ≡ standing_at x i l }
 {
     x.stage = Stage::AtNode as u32;
@@ -57,17 +56,6 @@ fn wait_for(x: Session, b: u32) -> Moved
     Moved {
         answer: Answer::Wait(b - 1),
         session: x,
-    }
-}
-
-// No record is free: the request ends.
-fn full_step(store: &mut [u32], m: usize, x: Session) -> Moved
-    requires { Endable store.old m x }
-    ensures { (store.new ≡ (refused_full store.old m x).words) × (result ≡ moved (refused_full store.old m x)) }
-{
-    Moved {
-        answer: Answer::Refused(Refusal::Full as u32, 0),
-        session: finishing::end_request(store, m, x),
     }
 }
 
@@ -110,7 +98,7 @@ fn split_step(store: &mut [u32], m: usize, p: u32, x: Session) -> Moved
     ensures { (store.new ≡ (split_step store.old m p x).words) × (result ≡ moved (split_step store.old m p x)) }
 {
     if !descents::has_free(store, m, 1) {
-        return full_step(store, m, x);
+        return finishing::refuse_request(store, m, x, Refusal::Full, 0);
     }
     halved_step(store, m, p, x)
 }

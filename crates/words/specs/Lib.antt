@@ -6,3 +6,4 @@ pub mod Store
 pub mod Header
 pub mod Entries
 pub mod Frames
+pub mod Fields

@@ -10,11 +10,12 @@
 // function lends it on, and the contracts are equations of lists of words, which a struct would only wrap.
 #![tactic(auto)]
 
-ghost use Rattle.std.specs.Prelude.{◌≡◌, ◌≤◌, ◌<◌, length};
+ghost use Rattle.std.specs.Prelude.{◌≡◌, ◌≤◌, ◌<◌, length, set};
 ghost use Rattle.words.specs.Sizes.{records_for};
 ghost use Rattle.words.specs.Store.{entry_words, base_of, HasRecord, record_at, put_record, word_of, put_word_of};
 ghost use Rattle.words.specs.Header.{header_word, put_header_word, entries_place, records_place, root_place, height_place, first_place, free_place};
 ghost use Rattle.words.specs.Entries.{HasEntry, entry_place, entry_word, put_entry_word};
+ghost use Rattle.words.specs.Fields.{field_number};
 
 // The words of an entry: value, share holders, exclusive holders.
 pub const ENTRY_WORDS: usize = 3;
@@ -36,6 +37,22 @@ pub fn base(m: usize, i: usize) -> usize
     16 + ENTRY_WORDS * m + 20 * (i - 1)
 }
 
+// Writes 20 words over a lent part.
+pub fn save_words(part: &mut [u32], w: [u32; 20])
+    requires { length part.old ≡ 20 }
+    ensures { part.new ≡ w }
+{
+    part.copy_from_slice(&w);
+}
+
+// Writes word k of a record whose 20 words are lent; its other words stay.
+pub fn save_word(part: &mut [u32], k: usize, w: u32)
+    requires { (length part.old ≡ 20) × (k < 20) }
+    ensures { part.new ≡ set part.old k w }
+{
+    part[k] = w;
+}
+
 // Word k of record i, read and written where it lies.
 pub fn word(store: &[u32], m: usize, i: usize, k: usize) -> u32
     requires { HasRecord store.now m i × (k < 20) }
@@ -50,8 +67,7 @@ pub fn set_word(store: &mut [u32], m: usize, i: usize, k: usize, w: u32)
     ensures { store.new ≡ put_word_of store.old m i k w }
 {
     let at = base(m, i);
-    let part = &mut store[at..at + 20];
-    part[k] = w;
+    save_word(&mut store[at..at + 20], k, w);
 }
 
 // The 20 words of record i, read and written where they lie.
@@ -68,7 +84,7 @@ pub fn set_record_words(store: &mut [u32], m: usize, i: usize, w: [u32; 20])
     ensures { store.new ≡ put_record store.old m i w }
 {
     let at = base(m, i);
-    store[at..at + 20].copy_from_slice(&w);
+    save_words(&mut store[at..at + 20], w);
 }
 
 // Header word k, read and written. The six that have names are read and written by them below: each says its word in its name and in
@@ -177,26 +193,39 @@ pub fn set_free(store: &mut [u32], w: u32)
     set_header(store, 5, w);
 }
 
-// Where a word of entry e lies: field 0 is its value, 1 its share holders, 2 its exclusive holders.
-fn entry_place(e: usize, field: usize) -> usize
-    requires { (1 ≤ e) × (e ≤ 1024) × (field < entry_words) }
-    ensures { result ≡ entry_place e field }
+// A word of an entry: its value, its share holders, its exclusive holders.
+#[derive(Clone, Copy, PartialEq, Eq, Debug)]
+pub enum Field {
+    Value,
+    Share,
+    Exclusive,
+}
+
+// Where a word of entry e lies.
+fn entry_place(e: usize, field: Field) -> usize
+    requires { (1 ≤ e) × (e ≤ 1024) }
+    ensures { result ≡ entry_place e (field_number field) }
 {
-    16 + ENTRY_WORDS * (e - 1) + field
+    let place = match field {
+        Field::Value => 0,
+        Field::Share => 1,
+        Field::Exclusive => 2,
+    };
+    16 + ENTRY_WORDS * (e - 1) + place
 }
 
 // A word of entry e, read and written.
-pub fn entry_word(store: &[u32], e: usize, field: usize) -> u32
-    requires { HasEntry store.now e × (field < entry_words) }
-    ensures { result ≡ entry_word store.now e field }
+pub fn entry_word(store: &[u32], e: usize, field: Field) -> u32
+    requires { HasEntry store.now e }
+    ensures { result ≡ entry_word store.now e (field_number field) }
 {
     let at = entry_place(e, field);
     store[at]
 }
 
-pub fn set_entry_word(store: &mut [u32], e: usize, field: usize, w: u32)
-    requires { HasEntry store.old e × (field < entry_words) }
-    ensures { store.new ≡ put_entry_word store.old e field w }
+pub fn set_entry_word(store: &mut [u32], e: usize, field: Field, w: u32)
+    requires { HasEntry store.old e }
+    ensures { store.new ≡ put_entry_word store.old e (field_number field) w }
 {
     let at = entry_place(e, field);
     store[at] = w;

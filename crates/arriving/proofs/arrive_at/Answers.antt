@@ -1,6 +1,5 @@
 use mathlib.Core.Path.{◌∙◌}
 use Rattle.arriving.specs.Runs.{arrive-change, arrive-take, arrive-second}
-use borrow.Author.Rules.{rules}
 use Rattle.arriving.proofs.arrive_at.Goals as goal
 
 pub returns-then-x : goal.returns-then-x

@@ -1,5 +1,4 @@
 use Rattle.arriving.specs.Runs.{gone-run}
-use borrow.Author.Rules.{rules}
 use Rattle.arriving.proofs.gone_step.Goals as goal
 
 pub returns : goal.returns

@@ -1,5 +1,4 @@
 use Rattle.arriving.specs.Runs.{left-run}
-use borrow.Author.Rules.{rules}
 use Rattle.arriving.proofs.left_step.Goals as goal
 
 pub returns : goal.returns

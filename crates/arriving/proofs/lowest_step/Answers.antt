@@ -1,5 +1,4 @@
 use Rattle.arriving.specs.Runs.{lowest-keeper, lowest-session}
-use borrow.Author.Rules.{rules}
 use Rattle.arriving.proofs.lowest_step.Goals as goal
 
 -- The proof of `lowest_step`.

@@ -1,6 +1,5 @@
 use native.Mathlib.Omega.{arith}
 use Rattle.arriving.specs.Runs.{made-run, make-able}
-use borrow.Author.Rules.{rules}
 use Rattle.arriving.proofs.made_step.Goals as goal
 
 pub make_at-a-requires : goal.make_at-a-requires

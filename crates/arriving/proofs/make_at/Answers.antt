@@ -1,7 +1,6 @@
 use native.Mathlib.Omega.{arith}
 use Rattle.words.specs.Store.{has_kept}
 use Rattle.arriving.specs.Runs.{make-run, insert-able, pop-has}
-use borrow.Author.Rules.{rules}
 use Rattle.arriving.proofs.make_at.Goals as goal
 
 pub write-requires : goal.write-requires

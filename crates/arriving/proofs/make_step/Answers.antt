@@ -1,13 +1,12 @@
 use mathlib.Core.Path.{sym, ◌∙◌}
-use Rattle.arriving.specs.Runs.{make-full, make-makes}
-use borrow.Author.Rules.{rules}
+use Rattle.arriving.specs.Runs.{full-run, make-full, make-makes}
 use Rattle.arriving.proofs.make_step.Goals as goal
 
-pub full_step-requires : goal.full_step-requires
-full_step-requires c = c.requires.full (sym c.free.ensures ∙ c.if-free-eq0.true)
+pub refuse_request-requires : goal.refuse_request-requires
+refuse_request-requires c = c.requires.full (sym c.free.ensures ∙ c.if-free-eq0.true)
 
 pub returns-then-free-eq0 : goal.returns-then-free-eq0
-returns-then-free-eq0 c = make-full _ _ _ _ _ c.free.ensures c.if-free-eq0.true c.full_step.ensures
+returns-then-free-eq0 c = make-full _ _ _ _ _ c.free.ensures c.if-free-eq0.true (full-run _ _ _ c.refuse_request.ensures)
 
 pub made_step-requires : goal.made_step-requires
 made_step-requires c = c.requires.makes (λ e. c.if-free-eq0.false (c.free.ensures ∙ e))

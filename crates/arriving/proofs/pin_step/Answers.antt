@@ -1,6 +1,5 @@
 use native.Mathlib.Omega.{arith}
 use Rattle.arriving.specs.Runs.{pin-able, pin-run}
-use borrow.Author.Rules.{rules}
 use Rattle.arriving.proofs.pin_step.Goals as goal
 
 pub set_latch-requires : goal.set_latch-requires

@@ -1,5 +1,4 @@
 use Rattle.arriving.specs.Runs.{pred-run, follow-at}
-use borrow.Author.Rules.{rules}
 use Rattle.arriving.proofs.pred_of.Goals as goal
 
 pub overflow_sub-key : goal.overflow_sub-key

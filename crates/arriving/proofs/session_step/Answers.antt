@@ -2,7 +2,6 @@ use native.Mathlib.Omega.{arith}
 use lib.Dec.{lit<}
 use Rattle.nodes.specs.Paths.{has-at}
 use Rattle.arriving.specs.Runs.{pin-ready, make-ready, session-pins, session-makes}
-use borrow.Author.Rules.{rules}
 use Rattle.arriving.proofs.session_step.Goals as goal
 
 pub word-key-requires : goal.word-key-requires

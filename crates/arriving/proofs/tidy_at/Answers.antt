@@ -1,7 +1,6 @@
 use native.Mathlib.Omega.{arith}
 use Rattle.words.specs.Store.{has_kept}
 use Rattle.arriving.specs.Runs.{tidy-run, remove-able}
-use borrow.Author.Rules.{rules}
 use Rattle.arriving.proofs.tidy_at.Goals as goal
 
 pub remove_leaf-requires : goal.remove_leaf-requires

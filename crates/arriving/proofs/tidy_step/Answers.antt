@@ -1,7 +1,6 @@
 use native.Mathlib.Omega.{arith}
 use Rattle.nodes.specs.Paths.{has-at}
 use Rattle.arriving.specs.Runs.{tidy-able, tidy-goes, tidy-stays}
-use borrow.Author.Rules.{rules}
 use Rattle.arriving.proofs.tidy_step.Goals as goal
 
 pub descriptor_gap-gap-requires : goal.descriptor_gap-gap-requires

@@ -6,4 +6,4 @@ pub returns-then-len : goal.returns-then-len
 returns-then-len c = fits_not _ _ c.if-len.true
 
 pub returns : goal.returns
-returns c = fits-exactly _ _ c.if-len.false
+returns c = rw (c.count_of.ensures) (fits-exactly _ _ c.if-len.false)

@@ -1,5 +1,4 @@
 use Rattle.changing.specs.Runs.{put-ready, log-ready, entry-run}
-use borrow.Author.Rules.{rules}
 use Rattle.changing.proofs.add_entry.Goals as goal
 
 pub put_member-requires : goal.put_member-requires

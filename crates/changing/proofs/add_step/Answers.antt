@@ -1,5 +1,4 @@
 use Rattle.changing.specs.Runs.{ends_as, add-run}
-use borrow.Author.Rules.{rules}
 use Rattle.changing.proofs.add_step.Goals as goal
 
 pub hold_and_end-requires : goal.hold_and_end-requires

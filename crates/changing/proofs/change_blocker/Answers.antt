@@ -1,5 +1,4 @@
 use Rattle.changing.specs.Runs.{blocker-run}
-use borrow.Author.Rules.{rules}
 use Rattle.changing.proofs.change_blocker.Goals as goal
 
 pub returns : goal.returns

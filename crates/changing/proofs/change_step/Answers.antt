@@ -1,5 +1,4 @@
 use Rattle.changing.specs.Runs.{walk-as, code-as, wait-run, change-run}
-use borrow.Author.Rules.{rules}
 use Rattle.changing.proofs.change_step.Goals as goal
 
 pub returns-then-q-ne0 : goal.returns-then-q-ne0

@@ -1,5 +1,4 @@
 use Rattle.changing.specs.Runs.{code-three, code_other}
-use borrow.Author.Rules.{rules}
 use Rattle.changing.proofs.code_step.Goals as goal
 
 pub returns-then-x : goal.returns-then-x

@@ -1,5 +1,4 @@
 use Rattle.changing.specs.Runs.{end-ready, end-run}
-use borrow.Author.Rules.{rules}
 use Rattle.changing.proofs.hold_and_end.Goals as goal
 
 pub unpin_at-requires : goal.unpin_at-requires

@@ -1,5 +1,4 @@
 use Rattle.changing.specs.Runs.{insert-none, insert-there}
-use borrow.Author.Rules.{rules}
 use Rattle.changing.proofs.insert_step.Goals as goal
 
 -- The proof of insert_step.

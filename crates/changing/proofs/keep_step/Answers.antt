@@ -1,5 +1,4 @@
 use Rattle.changing.specs.Runs.{keep_run}
-use borrow.Author.Rules.{rules}
 use Rattle.changing.proofs.keep_step.Goals as goal
 
 pub returns : goal.returns

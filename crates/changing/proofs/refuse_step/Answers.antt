@@ -1,5 +1,4 @@
 use Rattle.changing.specs.Runs.{refuse-run}
-use borrow.Author.Rules.{rules}
 use Rattle.changing.proofs.refuse_step.Goals as goal
 
 pub returns : goal.returns

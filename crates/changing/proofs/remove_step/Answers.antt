@@ -1,5 +1,4 @@
 use Rattle.changing.specs.Runs.{remove-none, remove-there}
-use borrow.Author.Rules.{rules}
 use Rattle.changing.proofs.remove_step.Goals as goal
 
 pub returns-then-i-eq0 : goal.returns-then-i-eq0

@@ -1,6 +1,5 @@
 use mathlib.Core.Path.{sym, ◌∙◌}
 use Rattle.changing.specs.Runs.{room-yes, room-no}
-use borrow.Author.Rules.{rules}
 use Rattle.changing.proofs.room_step.Goals as goal
 
 pub add_step-requires : goal.add_step-requires

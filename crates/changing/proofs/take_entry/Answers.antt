@@ -1,5 +1,4 @@
 use Rattle.changing.specs.Runs.{out-run}
-use borrow.Author.Rules.{rules}
 use Rattle.changing.proofs.take_entry.Goals as goal
 
 pub returns : goal.returns

@@ -1,5 +1,4 @@
 use Rattle.changing.specs.Runs.{ends_as, take-run}
-use borrow.Author.Rules.{rules}
 use Rattle.changing.proofs.take_step.Goals as goal
 
 pub hold_and_end-requires : goal.hold_and_end-requires

@@ -1,6 +1,4 @@
-use mathlib.Core.Path.{sym, subst, ◌∙◌}
-use Rattle.finishing.specs.Finishing.{LowEnds, HighEnds, end-run, low-kept, high-kept}
-use borrow.Author.Rules.{rules}
+use Rattle.finishing.specs.Finishing.{end-run, low-kept, high-kept}
 use Rattle.finishing.proofs.end_request.Goals as goal
 
 -- The proof of end_request.

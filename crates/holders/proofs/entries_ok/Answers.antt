@@ -11,10 +11,10 @@ pub loop-e-init : goal.loop-e-init
 loop-e-init c = entry-start (omega arith)
 
 pub entry_word-share-requires : goal.entry_word-share-requires
-entry_word-share-requires c = (has-entry c.args.records.inside (c.loop-e.auto.e, omega arith), search rules)
+entry_word-share-requires c = has-entry c.args.records.inside (c.loop-e.auto.e, omega arith)
 
 pub entry_word-exclusive-requires : goal.entry_word-exclusive-requires
-entry_word-exclusive-requires c = (has-entry c.args.records.inside (c.loop-e.auto.e, omega arith), search rules)
+entry_word-exclusive-requires c = has-entry c.args.records.inside (c.loop-e.auto.e, omega arith)
 
 pub returns-then-not-holders_ok : goal.returns-then-not-holders_ok
 returns-then-not-holders_ok c = entry-bad c.loop-e.invariant (omega arith) c.entry_word-share.ensures c.entry_word-exclusive.ensures c.holders_ok.ensures c.if-not-holders_ok.true

@@ -1,5 +1,4 @@
 use Rattle.leaving.specs.Words.{leave-at, commit-run}
-use borrow.Author.Rules.{rules}
 use Rattle.leaving.proofs.commit_words.Goals as goal
 
 pub leave_all-requires : goal.leave_all-requires

@@ -1,5 +1,4 @@
 use Rattle.leaving.specs.Words.{walk_at, leave-run}
-use borrow.Author.Rules.{rules}
 use Rattle.leaving.proofs.leave_all.Goals as goal
 
 pub leave_groups-requires : goal.leave_groups-requires

@@ -1,5 +1,4 @@
 use Rattle.leaving.specs.Words.{asked-run}
-use borrow.Author.Rules.{rules}
 use Rattle.leaving.proofs.put_request.Goals as goal
 
 pub returns : goal.returns

@@ -1,6 +1,5 @@
 use lib.Dec.{lit<}
 use Rattle.leaving.specs.Words.{follow-at, found_at, next-at, tidy-run}
-use borrow.Author.Rules.{rules}
 use Rattle.leaving.proofs.tidy_aim.Goals as goal
 
 pub last_upto-last-requires : goal.last_upto-last-requires

@@ -20,7 +20,7 @@ unfolding change_stands
 returns-then-not-entry_ok c = turned (simp (ne_eqb _ _ c.if-s.false, ne_eqb _ _ c.if-p-eq0.false, sym c.entry_ok.ensures ∙ c.if-not-entry_ok.true))
 
 pub entry_word-exclusive-requires : goal.entry_word-exclusive-requires
-entry_word-exclusive-requires c = (has-entry c.args.records.inside (entry_in _ _ (sym c.entry_ok.ensures ∙ c.if-not-entry_ok.false)), search rules)
+entry_word-exclusive-requires c = has-entry c.args.records.inside (entry_in _ _ (sym c.entry_ok.ensures ∙ c.if-not-entry_ok.false))
 
 pub returns-then-not-holds_session : goal.returns-then-not-holds_session
 unfolding change_stands

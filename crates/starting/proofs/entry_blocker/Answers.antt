@@ -1,5 +1,4 @@
 use Rattle.starting.specs.Runs.{blocker-run}
-use borrow.Author.Rules.{rules}
 use Rattle.starting.proofs.entry_blocker.Goals as goal
 
 pub returns : goal.returns

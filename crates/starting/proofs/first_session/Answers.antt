@@ -1,6 +1,5 @@
 use mathlib.Core.Path.{refl}
 use Rattle.starting.specs.Starting.{to_first}
-use borrow.Author.Rules.{rules}
 use Rattle.starting.proofs.first_session.Goals as goal
 
 -- The proof of `first_session`.

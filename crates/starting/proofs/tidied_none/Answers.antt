@@ -1,5 +1,4 @@
 use Rattle.starting.specs.Runs.{none-done-run}
-use borrow.Author.Rules.{rules}
 use Rattle.starting.proofs.tidied_none.Goals as goal
 
 pub returns : goal.returns

@@ -1,6 +1,5 @@
 use mathlib.Core.Path.{◌∙◌}
 use Rattle.starting.specs.Runs.{none-run, some-run}
-use borrow.Author.Rules.{rules}
 use Rattle.starting.proofs.write_free.Goals as goal
 
 pub returns-then-free-eq0 : goal.returns-then-free-eq0

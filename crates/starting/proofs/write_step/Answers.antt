@@ -1,6 +1,5 @@
 use Rattle.starting.specs.Starting.{write_step_of}
 use Rattle.starting.specs.Runs.{held-run, open-run}
-use borrow.Author.Rules.{rules}
 use Rattle.starting.proofs.write_step.Goals as goal
 
 pub returns-then-q-ne0 : goal.returns-then-q-ne0

@@ -1,5 +1,4 @@
 use Rattle.taking.specs.Runs.{done-run, held-ends}
-use borrow.Author.Rules.{rules}
 use Rattle.taking.proofs.done_step.Goals as goal
 
 pub end_request-y-requires : goal.end_request-y-requires

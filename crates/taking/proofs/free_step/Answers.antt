@@ -1,5 +1,4 @@
 use Rattle.taking.specs.Runs.{pass-free, last-free}
-use borrow.Author.Rules.{rules}
 use Rattle.taking.proofs.free_step.Goals as goal
 
 pub returns-then-key-x : goal.returns-then-key-x

@@ -1,5 +1,4 @@
 use Rattle.taking.specs.Runs.{way-run}
-use borrow.Author.Rules.{rules}
 use Rattle.taking.proofs.in_way_of.Goals as goal
 
 pub returns : goal.returns

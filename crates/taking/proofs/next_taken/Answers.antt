@@ -1,5 +1,4 @@
 use Rattle.taking.specs.Runs.{next-none, next-some, behind-has}
-use borrow.Author.Rules.{rules}
 use Rattle.taking.proofs.next_taken.Goals as goal
 
 pub returns-then-x-eq0 : goal.returns-then-x-eq0

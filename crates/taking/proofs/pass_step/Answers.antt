@@ -1,5 +1,4 @@
 use Rattle.taking.specs.Runs.{pass-run}
-use borrow.Author.Rules.{rules}
 use Rattle.taking.proofs.pass_step.Goals as goal
 
 pub returns : goal.returns

@@ -1,5 +1,4 @@
 use Rattle.taking.specs.Runs.{wait-take, free-take, next-ready}
-use borrow.Author.Rules.{rules}
 use Rattle.taking.proofs.take_at.Goals as goal
 
 -- The proof of `take_at`.

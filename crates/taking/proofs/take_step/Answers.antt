@@ -1,4 +1,3 @@
-use borrow.Author.Rules.{rules}
 use Rattle.taking.proofs.take_step.Goals as goal
 
 pub take_at-requires : goal.take_at-requires

@@ -14,7 +14,7 @@ unfolding undo_ok
 returns-then-not-kind_ok c = simp (sym c.entry_ok.ensures ∙ c.if-not-entry_ok.false, sym c.kind_ok.ensures ∙ c.if-not-kind_ok.true, sym c.undo_kind-kind.ensures, sym c.undo_entry-entry.ensures)
 
 pub entry_word-exclusive-requires : goal.entry_word-exclusive-requires
-entry_word-exclusive-requires c = (has-entry c.args.records.inside (entry_in _ _ (sym c.entry_ok.ensures ∙ c.if-not-entry_ok.false)), search rules)
+entry_word-exclusive-requires c = has-entry c.args.records.inside (entry_in _ _ (sym c.entry_ok.ensures ∙ c.if-not-entry_ok.false))
 
 pub returns-then-not-holds_session : goal.returns-then-not-holds_session
 unfolding undo_ok

@@ -3,14 +3,14 @@ use Rattle.walking.specs.Runs.{free-none, free-some}
 use Rattle.walking.specs.Walking.{split_step}
 use Rattle.walking.proofs.split_step.Goals as goal
 
-pub full_step-requires : goal.full_step-requires
-full_step-requires c =
+pub refuse_request-requires : goal.refuse_request-requires
+refuse_request-requires c =
     c.requires.full (free-none _ _ (sym c.has_free.ensures ∙ c.if-not-has_free.true))
 
 pub returns-then-not-has_free : goal.returns-then-not-has_free
 unfolding split_step
 returns-then-not-has_free c =
-    rw (sym c.has_free.ensures ∙ c.if-not-has_free.true) c.full_step.ensures
+    rw (sym c.has_free.ensures ∙ c.if-not-has_free.true) c.refuse_request.ensures
 
 pub halved_step-requires : goal.halved_step-requires
 halved_step-requires c =
