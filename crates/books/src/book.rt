@@ -83,6 +83,8 @@ pub struct Round {
     pub parties: [Party; PARTIES],
     pub store_list: [u32; LIST],
     pub model_list: [u32; LIST],
+    // The words that a call with any words has and does not use; all 0 of another call.
+    pub spare: Request,
     pub content: Content,
 }
 
@@ -99,6 +101,7 @@ impl Round {
             parties: [Party::new(); PARTIES],
             store_list: [0; LIST],
             model_list: [0; LIST],
+            spare: Request::default(),
             content: Content::new(),
         }
     }
@@ -113,7 +116,7 @@ impl Round {
 }
 
 // The key of the last insert or remove that was chosen stays from round to round.
-#[derive(Drop)]
+#[derive(Clone, Copy)]
 pub struct Book {
     pub random: Random,
     pub round: Round,

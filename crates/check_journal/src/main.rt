@@ -6,7 +6,7 @@
 // The stack: 65,537 bytes for the input and some 21,000 for the replay, less than 100 KiB in all.
 #![tactic(auto)]
 
-ghost use Rattle.std.specs.Prelude.{◌≡◌, length};
+ghost use Rattle.std.specs.Prelude.{◌≡◌, ◌≤◌, length, IfOk};
 ghost use Rattle.journal_lines.specs.Journal.{verdict_of};
 ghost use Rattle.check_journal.specs.Text.{text_of};
 ghost use Rattle.check_journal.specs.Cut.{room};
@@ -23,7 +23,9 @@ fn empty() -> [u8; 65537]
 }
 
 // Reads until buf is full or the input ends; what was read. A buffer on the stack and no Vec: the program needs no heap.
-fn read_input<'a>(rt: &impl io::Input, buf: &'a mut [u8]) -> Result<&'a [u8], Failure> {
+fn read_input<'a>(rt: &impl io::Input, buf: &'a mut [u8]) -> Result<&'a [u8], Failure>
+    ensures { IfOk result (λ bytes. length bytes.now ≤ length buf.old) }
+{
     let mut reader = rt.reader();
     let mut done = 0;
     while done < buf.len() {

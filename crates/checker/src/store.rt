@@ -1,4 +1,5 @@
 // Store: where the words of a store lie (docs/STORE.md). A word that is not there reads as 0.
+ghost use Rattle.std.specs.Prelude.{◌≤◌};
 
 /// How many words the header has, an entry and a record, and how many entries and records a store has at most.
 const HEADER_WORDS: usize = 16;
@@ -61,7 +62,9 @@ impl<'a> Store<'a> {
     }
 
     /// Never more than a store can have.
-    pub fn records(&self) -> u32 {
+    pub fn records(&self) -> u32
+        ensures { result ≤ 4096 }
+    {
         self.word(1).min(MOST_RECORDS)
     }
 

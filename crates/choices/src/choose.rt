@@ -81,6 +81,7 @@ fn any_request(b: &mut Book) -> Request {
 fn any_call(b: &mut Book, kind: u32) -> Call {
     let party = mostly_below(b, PARTIES as u32 + 2);
     let request = any_request(b);
+    b.round.spare = request;
     match kind {
         1 => Call::Begin(party),
         2 => Call::Put(party, request),
@@ -374,6 +375,7 @@ fn choose(s: &Side, a: &Model, b: &mut Book) -> Call {
 // The call of this turn of the round.
 pub fn next(s: &Side, a: &Model, b: &mut Book, turn: u32) -> Call {
     b.round.phase = phase(&b.round.size, turn);
+    b.round.spare = Request::default();
     choose(s, a, b)
 }
 

@@ -1,10 +1,16 @@
 // Serve: a call made on the store; every second one that a batch can have as a batch of one, a step as a run of one, with the answer read off its number.
+ghost use Rattle.std.specs.Prelude.{ℕ, ◌≡◌, ◌≤◌, min};
+ghost use Rattle.schedules.specs.declared.requests.Request.{Request};
+ghost use Rattle.books.specs.declared.call.Call.TheVariants.{Put};
+
 use books::book::{Book, LIST};
 use books::call::{Call, Said};
 use books::seats::{set_table, table};
 use outcomes::{Answer, Served};
+use schedules::requests::Request;
 use schedules::side::Side;
 use sessions::{PARTIES, Session};
+use std::mem;
 
 // What a call leaves of the table, and its answer.
 #[derive(Clone, Copy)]
@@ -59,15 +65,26 @@ fn alone(store: &mut [u32], list: &mut [u32], t: [Session; PARTIES], c: Call) ->
 // The words of an ask of a batch.
 type AskWords = [u32; 7];
 
-// The ask of a batch that the call is, if it can be one; what it does not use may be any word.
-fn ask(c: Call, any: u32) -> Option<AskWords> {
+// The ask of a batch of this kind, with the words of a request.
+fn ask_of(kind: u32, party: u32, r: Request) -> AskWords {
+    [kind, party, r.code, r.entry, r.first, r.second, 1]
+}
+
+// The ask of a batch that the call is, if it can be one, with the spare words where it has none of its own.
+fn ask(c: Call, spare: Request) -> Option<AskWords> {
     match c {
-        Call::Begin(p) => Some([1, p, any, any, any, any, 1]),
-        Call::Put(p, r) => Some([2, p, r.code, r.entry, r.first, r.second, 1]),
-        Call::Commit(p) => Some([4, p, any, any, any, any, 1]),
-        Call::Abort(p) => Some([5, p, any, any, any, any, 1]),
-        Call::Step { party, .. } => Some([6, party, any, any, any, any, 1]),
-        Call::Ask(p) => Some([8, p, any, any, any, any, 1]),
+        Call::Begin(p) => Some(ask_of(1, p, spare)),
+        Call::Put(p, r) => Some(ask_of(2, p, r)),
+        Call::Commit(p) => Some(ask_of(4, p, spare)),
+        Call::Abort(p) => Some(ask_of(5, p, spare)),
+        Call::Step { party, listed } => {
+            let r = Request {
+                first: listed,
+                ..spare
+            };
+            Some(ask_of(6, party, r))
+        }
+        Call::Ask(p) => Some(ask_of(8, p, spare)),
         Call::Format { .. } | Call::Day(_) | Call::Recover => None,
     }
 }
@@ -107,12 +124,17 @@ fn in_batch(store: &mut [u32], list: &mut [u32], t: [Session; PARTIES], ask: Ask
     }
 }
 
-// How many words of the list the call names.
-fn listed(c: Call) -> usize {
-    match c {
-        Call::Step { listed, .. } => listed as usize,
-        _ => 0,
-    }
+// How many words of the list the call is lent: as many as it names, and of a call that writes no list as many as its first word says, or its spare one.
+fn listed(c: Call, spare: Request) -> usize
+    ensures room { result ≤ 1024 }
+    ensures put { (p : ℕ) (r : Request) → c ≡ Put p r → result ≡ min r.first 1024 }
+{
+    let first = match c {
+        Call::Step { listed, .. } => listed,
+        Call::Put(_, r) => r.first,
+        _ => spare.first,
+    };
+    (first as usize).min(LIST)
 }
 
 // The call on the store of a side, lent so many words of it, if there are as many.
@@ -125,8 +147,9 @@ fn on_words(s: &mut Side, b: &mut Book, words: u32, c: Call) -> Reply {
         };
     };
     let is_batch = b.round.call % 2 == 1;
-    let asked = ask(c, b.round.call);
-    let list_end = listed(c).min(LIST);
+    let spare = mem::take(&mut b.round.spare);
+    let asked = ask(c, spare);
+    let list_end = listed(c, spare);
     let list = &mut b.round.store_list[..list_end];
     match asked {
         Some(ask) if is_batch => in_batch(store, list, t, ask),

@@ -46,20 +46,31 @@ module _ (x : Session) (r : DayRequest) where
 
 -- ---- 14
 
--- Of a proper day, what was read is handed in.
-abbrev pub bad : Session → ℕ → DayRequest → ℕ → Bool
-bad x n r j = leb (2 * n) j || other_in_hand x r
+module _ (x : Session) (g : Bool) (n : ℕ) (r : DayRequest) (j : ℕ) where
+  abbrev pub bad : Bool
+  bad = not g || (leb (2 * n) j || other_in_hand x r)
 
-bad-is : (h : Handed) (x : Session) (n : ℕ) (r : DayRequest) → Reads h true n r → bad x n r h.place ≡ bad_day x h
+  pub bad-words : not g ≡ true → true ≡ bad
+  bad-words e = rw (not-true g e) refl
+
+  pub bad-past : not g ≡ false → n ≤ j / 2 → true ≡ bad
+  bad-past e l = rw (not-false g e, le-leb (2 * n) j (omega (arith, l))) refl
+
+  pub bad-hand : (b : Bool) → not g ≡ false → j / 2 < n → b ≡ other_in_hand x r → b ≡ bad
+  bad-hand b e l o = rw (not-false g e, lt-leb (2 * n) j (omega (arith, l))) o
+
+-- What was read is handed in.
+bad-is : (h : Handed) (x : Session) (g : Bool) (n : ℕ) (r : DayRequest) → Reads h g n r → bad x g n r h.place ≡ bad_day x h
 unfolding bad_day
-bad-is h x n r R =
+bad-is h x g n r R =
     ap (λ z. not z || (leb (2 * n) h.place || other_in_hand x r)) R.proper_is
     ∙ ap (λ z. not (proper (words h.bytes)) || (leb (2 * z) h.place || other_in_hand x r)) R.count_is
     ∙ ap (λ z. not (proper (words h.bytes)) || (leb (2 * day_count h) h.place || other_in_hand x z)) R.request_is
 
-bad-words : (h : Handed) (x : Session) → proper (words h.bytes) ≡ false → bad_day x h ≡ true
+-- Bytes that are no proper day.
+no-day-bad : (h : Handed) (x : Session) → proper (words h.bytes) ≡ false → bad_day x h ≡ true
 unfolding bad_day
-bad-words h x e = rw e refl
+no-day-bad h x e = rw e refl
 
 -- ---- 8 and 9
 
@@ -122,11 +133,11 @@ module _ (m : ℕ) (t : List Session) (p : ℕ) (h : Handed) where
     last n o q = later n (check-passed 13 (eqb (length h.bytes % 2) 1) from_14 (ne_eqb (length h.bytes % 2) 1 o) q)
 
     pub list-no-day : ¬ (p ≡ 0) → ¬ (length h.bytes % 2 ≡ 1) → proper (words h.bytes) ≡ false → 14 ≡ first_of (day_list m t p h)
-    list-no-day k o f = last k o (check-holds 14 (bad_day (session_at t p) h) (number_list m (day_count h) h.driver h.start h.entry) (bad-words h (session_at t p) f))
+    list-no-day k o f = last k o (check-holds 14 (bad_day (session_at t p) h) (number_list m (day_count h) h.driver h.start h.entry) (no-day-bad h (session_at t p) f))
 
-    module _ (x : Session) (n : ℕ) (r : DayRequest) (y : Bool) (u : x ≡ session_at t p) (R : Reads h true n r) (q : y ≡ bad x n r h.place) where
+    module _ (x : Session) (g : Bool) (n : ℕ) (r : DayRequest) (y : Bool) (u : x ≡ session_at t p) (R : Reads h g n r) (q : y ≡ bad x g n r h.place) where
       seat-bad : y ≡ bad_day (session_at t p) h
-      seat-bad = q ∙ bad-is h x n r R ∙ ap (λ v. bad_day v h) u
+      seat-bad = q ∙ bad-is h x g n r R ∙ ap (λ v. bad_day v h) u
 
       pub list-14 : ¬ (p ≡ 0) → ¬ (length h.bytes % 2 ≡ 1) → y ≡ true → 14 ≡ first_of (day_list m t p h)
       list-14 k o f = last k o (check-holds 14 (bad_day (session_at t p) h) (number_list m (day_count h) h.driver h.start h.entry) (sym seat-bad ∙ f))
@@ -136,9 +147,13 @@ module _ (m : ℕ) (t : List Session) (p : ℕ) (h : Handed) where
       list-rest k o f v w = last k o (check-passed 14 (bad_day (session_at t p) h) (number_list m (day_count h) h.driver h.start h.entry) (sym seat-bad ∙ f)
           (w ∙ ap (λ a. first_of (number_list m a h.driver h.start h.entry)) R.count_is))
 
+  -- Where 14 does not hold the stretches are few.
+  pub few-there : (x : Session) (g : Bool) (n : ℕ) (r : DayRequest) (z : Bool) → Reads h g n r → z ≡ bad x g n r h.place → z ≡ false → n ≤ 1440
+  few-there x g n r z R q y = omega (arith, R.count_is, day-few (words h.bytes) (sym R.proper_is ∙ not-no g (or_no (not g) (leb (2 * n) h.place || other_in_hand x r) (sym q ∙ y)).0))
+
   -- A proper day's stretches are few.
-  pub few-there : {n : ℕ} {r : DayRequest} → Reads h true n r → n ≤ 1440
-  few-there R = omega (arith, R.count_is, day-few (words h.bytes) (sym R.proper_is))
+  pub few-stretches : {n : ℕ} {r : DayRequest} → Reads h true n r → n ≤ 1440
+  few-stretches R = omega (arith, R.count_is, day-few (words h.bytes) (sym R.proper_is))
 
 -- ---- the put and the step
 

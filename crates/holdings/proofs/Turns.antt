@@ -8,9 +8,9 @@ use lib.Dec.{eqb, leb}
 use lib.ListN.{get_or}
 use borrow.Author.Tests.{eqb-false, leb-true, not-true}
 use Rattle.sessions.specs.declared.Session.{Session}
-use Rattle.std.specs.Prelude.{Option, Some, None}
+use Rattle.std.specs.Prelude.{Result, Ok, Err}
 use Rattle.marks.specs.Steps.{both}
-use Rattle.marks.specs.Trail.{Trail, then_trail, Ends, trail-as, trail-none, ended-as}
+use Rattle.marks.specs.Trail.{Trail, then_trail, Ends, trail-as, trail-err, ended-as}
 use Rattle.holders.proofs.Turns.{one_less}
 use Rattle.passing.specs.declared.Asked.{Asked}
 use Rattle.passing.specs.Asked.{asked_at}
@@ -34,11 +34,11 @@ group-start {s} {order} {tally} {f} {m} {r} {begun} {t} {seen} {l} {left} {count
     record { is = ap (groups_from s order tally f m r begun t count seen l left 0) z }
 
 module _ {whole : Trail (List ℕ)} {s order tally f : List ℕ} {m r begun : ℕ} {t : List Session} {count : ℕ} {seen l : List ℕ} {left k rest : ℕ} (g : Grouping whole s order tally f m r begun t count seen l left k rest) where
-  pub group-end : rest ≡ 0 → Ends _ whole (Some left) seen l
+  pub group-end : rest ≡ 0 → Ends _ whole (Ok left) seen l
   unfolding groups_from
   group-end z = ended-as (ap (groups_from s order tally f m r begun t count seen l left k) (sym z) ∙ g.is)
 
-  module _ {key next : ℕ} {asked : Asked} {w : Option ℕ} {seen' l' : List ℕ} (h : 0 < rest) (ek : key ≡ key_of s m r (get_or order k 0)) (en : next ≡ key_at s order m r count (k + 1)) (ea : asked ≡ asked_at t key next) (q : Ends _ (group_one s tally f m r begun asked seen l (get_or order k 0) left) w seen' l') where
+  module _ {key next : ℕ} {asked : Asked} {w : Result ℕ ℕ} {seen' l' : List ℕ} (h : 0 < rest) (ek : key ≡ key_of s m r (get_or order k 0)) (en : next ≡ key_at s order m r count (k + 1)) (ea : asked ≡ asked_at t key next) (q : Ends _ (group_one s tally f m r begun asked seen l (get_or order k 0) left) w seen' l') where
     group-as : {v : Trail (List ℕ)} → group_one s tally f m r begun asked seen l (get_or order k 0) left ≡ v
         → then_trail v (λ v. groups_from s order tally f m r begun t count v.seen v.held v.left (k + 1) (rest - 1)) ≡ whole
     unfolding groups_from
@@ -49,9 +49,9 @@ module _ {whole : Trail (List ℕ)} {s order tally f : List ℕ} {m r begun : �
         ∙ ap (groups_from s order tally f m r begun t count seen l left k) (sym (one_less rest h))
         ∙ g.is
 
-    pub group-bad : w ≡ None → Ends _ whole None seen' l'
-    group-bad o = ended-as (group-as (trail-none q o))
+    pub group-bad : {n : ℕ} → w ≡ Err n → Ends _ whole (Err n) seen' l'
+    group-bad o = ended-as (group-as (trail-err q o))
 
-    pub group-more : {rest' n : ℕ} → w ≡ Some n → rest' ≡ rest - 1 → Grouping whole s order tally f m r begun t count seen' l' n (k + 1) rest'
+    pub group-more : {rest' n : ℕ} → w ≡ Ok n → rest' ≡ rest - 1 → Grouping whole s order tally f m r begun t count seen' l' n (k + 1) rest'
     group-more {rest'} {n} o z =
         record { is = ap (groups_from s order tally f m r begun t count seen' l' n (k + 1)) z ∙ group-as (trail-as q o) }

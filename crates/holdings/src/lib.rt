@@ -85,7 +85,7 @@ fn descriptor_ok(records: Records, tally: &[u8], begun: u32, asked: Asked, d: us
     group_ok(words, begun, asked, pinned)
 }
 
-// Group d: its own words, its members, its undo records. How many records may still be met, or None where the group is not in order.
+// Group d: its own words, its members, its undo records. How many records may still be met, as Err where the group is not in order.
 fn group_one(
     records: Records,
     seen: &mut [u8],
@@ -96,17 +96,17 @@ fn group_one(
     asked: Asked,
     d: usize,
     left: usize,
-) -> Option<usize>
+) -> Result<usize, usize>
     requires { (records.r < length seen.old) × (records.r < length tally.now) × Listing lists.old }
     ensures { Ends _ (group_one records.entry.store.now tally.now files.now records.entry.m records.entry.r begun asked seen.old lists.old d left) result seen.new lists.new }
 {
     if !descriptor_ok(records, tally, begun, asked, d) {
-        return None;
+        return Err(left);
     }
     lists::walk_lists(records, seen, files, lists, d, left)
 }
 
-// All groups, in the order of their keys.
+// All groups, in the order of their keys: how many records may still be met, as Err where a group is not in order.
 pub fn walk_groups(
     records: Records,
     seen: &mut [u8],
@@ -118,7 +118,7 @@ pub fn walk_groups(
     t: [Session; PARTIES],
     count: usize,
     left: usize,
-) -> Option<usize>
+) -> Result<usize, usize>
     requires { (records.r < length seen.old) × (records.r < length tally.now) × Listing lists.old × (count ≤ length order.now) }
     ensures { Ends _ (all_groups records.entry.store.now order.now tally.now files.now records.entry.m records.entry.r begun t count seen.old lists.old left) result seen.new lists.new }
 {
@@ -132,5 +132,5 @@ pub fn walk_groups(
         let ask = passing::asked_at(t, key, next, so);
         more = group_one(records, seen, tally, files, lists, begun, ask, d, more)?;
     }
-    Some(more)
+    Ok(more)
 }

@@ -10,8 +10,9 @@ use Rattle.journal_reader.specs.declared.Record.{Record}
 use Rattle.journal_lines.specs.Journal.{is_some, or_empty, list_of, proper, fed, feeds, stored_answer}
 use Rattle.journal_lines.specs.Walks.{some-or-empty, no_list}
 use Rattle.journal_lines.specs.Accepts.{EntryFits, Fits, read_fits, write_fits, insert_fits, remove_fits, locate_fits, commit_fits, proper-fits}
+use Rattle.replay.specs.declared.Fed.{Fed}
 use Rattle.replay.specs.declared.Database.{Database}
-use Rattle.replay.specs.Held.{Fed, held, Ready, Feeds}
+use Rattle.replay.specs.Held.{held, Ready, Feeds}
 use Rattle.journal.specs.Fits.{same_ans, list_answer, same_number, fits, fits-append}
 use Rattle.journal.specs.Located.{line_at, lists_as}
 

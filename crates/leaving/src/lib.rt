@@ -61,7 +61,7 @@ fn first_stage(store: &[u32], m: usize, r: usize, code: u32, first: u32) -> Aim
             target: first,
         },
         6 => tidy_aim(store, m, r, first),
-        _ => Aim {
+        0..=4 | 7..=4294967295 => Aim {
             stage: Stage::Start as u32,
             target: 0,
         },

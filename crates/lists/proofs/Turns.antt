@@ -1,15 +1,15 @@
 -- The turns of the loops over a group's members and undo records, and the two ways through a group.
-use mathlib.Core.Path.{◌≡◌, refl, sym, ap, ◌∙◌}
+use mathlib.Core.Path.{◌≡◌, sym, ap, ◌∙◌}
 use mathlib.Core.List.{List}
 use mathlib.Core.Bool.{Bool, true, false}
 use Prim.Native.Nat.{ℕ, zero, suc, ◌+◌, ◌-◌, ◌≤◌, ◌<◌}
 use native.Mathlib.Omega.{arith}
 use lib.ListN.{get_or}
 use borrow.Author.Tests.{eq-eqb, ne_eqb, le-leb, lt-leb}
-use Rattle.std.specs.Prelude.{Option, Some, None}
+use Rattle.std.specs.Prelude.{Result, Ok, Err}
 use Rattle.groups.specs.Descriptor.{descriptor_at}
 use Rattle.marks.specs.Marks.{left_if}
-use Rattle.marks.specs.Trail.{Turn, Trail, turn, Ends, Turned, turned, turned_as, some-of, none-of}
+use Rattle.marks.specs.Trail.{Turn, Trail, turn, Ends, Turned, turned, turned_as, ok-of, err-of}
 use Rattle.lists.specs.Lists.{member_one, Held, holding, member_turn, members_from, Listed, undo_one, undo_from, after_members, group_lists}
 
 -- ---- members
@@ -19,7 +19,7 @@ pub member-turned : (s : List ℕ) (m d : ℕ) (seen l : List ℕ) (i before : �
 unfolding member_turn
 member-turned s m d seen l i before t o = ap (λ (x : Turn (List ℕ)). turn x.ok (holding x.held i)) (turned_as t o)
 
-pub listed : {v : Trail Held} {w : Option ℕ} {seen l : List ℕ} {b : ℕ} → Ends Held v w seen (holding l b) → Listed v w seen l
+pub listed : {v : Trail Held} {w : Result ℕ ℕ} {seen l : List ℕ} {b : ℕ} → Ends Held v w seen (holding l b) → Listed v w seen l
 listed e = record { left = e.left; marks = e.marks; list = ap (λ (h : Held). h.list) e.held }
 
 -- ---- undoing
@@ -65,16 +65,17 @@ module _ {whole : Turn (List ℕ)} {s f : List ℕ} {m r d : ℕ} {l : List ℕ}
 
 -- ---- a group
 
-module _ (s f : List ℕ) (m r d : ℕ) (seen₀ l₀ : List ℕ) (left : ℕ) {first : ℕ} {w : Option ℕ} {seen l : List ℕ} where
-  pub lists-stop : first ≡ (descriptor_at s m d).first → Listed (members_from s m r d seen₀ l₀ first left) w seen l → w ≡ None
-      → Ends _ (group_lists s f m r seen₀ l₀ d left) None seen l
+module _ (s f : List ℕ) (m r d : ℕ) (seen₀ l₀ : List ℕ) (left : ℕ) {first : ℕ} {w : Result ℕ ℕ} {seen l : List ℕ} where
+  pub lists-stop : {n : ℕ} → first ≡ (descriptor_at s m d).first → Listed (members_from s m r d seen₀ l₀ first left) w seen l → w ≡ Err n
+      → Ends _ (group_lists s f m r seen₀ l₀ d left) (Err n) seen l
   unfolding group_lists after_members
-  lists-stop e k o = rw (← e, none-of _ _ k.left o) (record { left = refl; marks = k.marks; held = k.list })
+  lists-stop {n} e k o =
+      let p = err-of _ _ n k.left o in rw (← e, p.0) (record { left = ap (left_if false) (sym p.1); marks = k.marks; held = k.list })
 
-  pub lists-run : {n : ℕ} {b : Bool} {l' : List ℕ} {undo : ℕ} {u : Option ℕ} → first ≡ (descriptor_at s m d).first → Listed (members_from s m r d seen₀ l₀ first left) w seen l
-      → w ≡ Some n → undo ≡ get_or f (4097 + d) 0 → Turned (undo_from s f m r d l undo r) b l' → u ≡ left_if b n → Ends _ (group_lists s f m r seen₀ l₀ d left) u seen l'
+  pub lists-run : {n : ℕ} {b : Bool} {l' : List ℕ} {undo : ℕ} {u : Result ℕ ℕ} → first ≡ (descriptor_at s m d).first → Listed (members_from s m r d seen₀ l₀ first left) w seen l
+      → w ≡ Ok n → undo ≡ get_or f (4097 + d) 0 → Turned (undo_from s f m r d l undo r) b l' → u ≡ left_if b n → Ends _ (group_lists s f m r seen₀ l₀ d left) u seen l'
   unfolding group_lists after_members
   lists-run {n} {b} e k o q t z =
-      let p = some-of _ _ n k.left o in
+      let p = ok-of _ _ n k.left o in
       rw (← e, p.0, sym k.list, ← q)
       (record { left = z ∙ ap (λ (x : Bool). left_if x n) t.ok ∙ ap (left_if _) (sym p.1); marks = k.marks; held = t.held })

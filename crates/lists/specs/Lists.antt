@@ -1,5 +1,5 @@
 -- A group's members and undo records: no entry is listed twice, and the undo records can be undone, newest first.
-use Rattle.std.specs.Prelude.{◌≡◌, Option, List, true, false, cond, ◌&&◌, ℕ, zero, suc, ◌+◌, eqb, leb, get_or, set, length}
+use Rattle.std.specs.Prelude.{◌≡◌, Result, List, true, false, cond, ◌&&◌, ℕ, zero, suc, ◌+◌, eqb, leb, get_or, set, length}
 use Rattle.groups.specs.Descriptor.{descriptor_at}
 use Rattle.groups.specs.Membership.{membership_at}
 use Rattle.undos.specs.Undo.{undo_at}
@@ -46,7 +46,7 @@ unfoldable pub members_from : List ℕ → ℕ → ℕ → ℕ → List ℕ → 
 members_from s m r d seen l i left = chain_of (λ j. (membership_at s m j).next) r membership_mark (member_turn s m d) seen (holding l 0) i left
 
 -- what a function answers and leaves is what the walk of members says
-pub record Listed (v : Trail Held) (w : Option ℕ) (seen : List ℕ) (l : List ℕ) : Type 0 where
+pub record Listed (v : Trail Held) (w : Result ℕ ℕ) (seen : List ℕ) (l : List ℕ) : Type 0 where
   pub left : w ≡ left_if v.ok v.left
   pub marks : seen ≡ v.seen
   pub list : l ≡ v.held.list

@@ -68,7 +68,7 @@ fn member_one(store: &[u32], lists: &mut [u16], m: usize, d: usize, i: usize, be
     list_entry(lists, d, e, i)
 }
 
-// The members of group d, from record first on: how many records may still be met, or None where they are not in order.
+// The members of group d, from record first on: how many records may still be met, as Err where they are not in order.
 fn walk_members(
     records: Records,
     seen: &mut [u8],
@@ -76,7 +76,7 @@ fn walk_members(
     d: usize,
     first: usize,
     left: usize,
-) -> Option<usize>
+) -> Result<usize, usize>
     requires { (records.r < length seen.old) × Listing lists.old × (d ≤ 4096) }
     ensures { Listed (members_from records.entry.store.now records.entry.m records.entry.r d seen.old lists.old first left) result seen.new lists.new }
 {
@@ -87,12 +87,12 @@ fn walk_members(
     while i != 0 {
         more = Mark::Membership.meet(seen, r, i, more)?;
         if !member_one(store, lists, m, d, i, before) {
-            return None;
+            return Err(more);
         }
         before = i;
         i = groups::membership_next(store, m, i) as usize;
     }
-    Some(more)
+    Ok(more)
 }
 
 // Undo record i of group d: an entry that was added goes out, by the record that it names; one that was taken out comes back, by this
@@ -149,7 +149,7 @@ fn undo_group(records: Records, files: &[u16], lists: &mut [u16], d: usize, firs
     true
 }
 
-// Group d: its members, and then its undo records. None where they are not in order.
+// Group d: its members, and then its undo records: how many records may still be met, as Err where they are not in order.
 pub fn walk_lists(
     records: Records,
     seen: &mut [u8],
@@ -157,7 +157,7 @@ pub fn walk_lists(
     lists: &mut [u16],
     d: usize,
     left: usize,
-) -> Option<usize>
+) -> Result<usize, usize>
     requires { (records.r < length seen.old) × Listing lists.old × (1 ≤ d) × (d ≤ records.r) }
     ensures { Ends _ (group_lists records.entry.store.now files.now records.entry.m records.entry.r seen.old lists.old d left) result seen.new lists.new }
 {
@@ -167,7 +167,7 @@ pub fn walk_lists(
     let head = undo_chains::FIRSTS + d;
     let undo = filed(files, head);
     if !undo_group(records, files, lists, d, undo) {
-        return None;
+        return Err(more);
     }
-    Some(more)
+    Ok(more)
 }

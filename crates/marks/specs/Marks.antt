@@ -1,5 +1,5 @@
 -- Tests of words, and the marks of records that were met: place i of the marks is 0, or what record i was reached as.
-use Rattle.std.specs.Prelude.{◌≡◌, Option, Some, None, List, Bool, true, false, cond, not, ◌&&◌, ℕ, suc, ◌+◌, ◌-◌, ◌*◌, ◌≤◌, eqb, leb, get_or, set, length}
+use Rattle.std.specs.Prelude.{◌≡◌, Result, Ok, Err, List, Bool, true, false, cond, not, ◌&&◌, ℕ, suc, ◌+◌, ◌-◌, ◌*◌, ◌≤◌, eqb, leb, get_or, set, length}
 use Rattle.words.specs.Store.{entry_words}
 use Rattle.marks.specs.declared.Mark.{Mark}
 use Rattle.marks.specs.declared.Mark.TheVariants.{Node, Descriptor, Membership, Undo, Free}
@@ -65,17 +65,17 @@ meet r kind v i =
 unfoldable pub is_met : List ℕ → ℕ → ℕ → ℕ → Bool
 is_met seen r i kind = not (eqb i 0) && leb i r && eqb (get_or seen i 0) kind
 
--- what a function answers: how many records may still be met, if all is in order
-abbrev pub left_if : Bool → ℕ → Option ℕ
-left_if ok left = cond ok (Some left) None
+-- what a function answers: how many records may still be met, as Ok if all is in order, and as Err if not
+abbrev pub left_if : Bool → ℕ → Result ℕ ℕ
+left_if ok left = cond ok (Ok left) (Err left)
 
 -- what a function answers and leaves is what the visit says
-pub record Says (v : Visit) (w : Option ℕ) (seen : List ℕ) : Type 0 where
+pub record Says (v : Visit) (w : Result ℕ ℕ) (seen : List ℕ) : Type 0 where
   pub left : w ≡ left_if v.ok v.left
   pub marks : seen ≡ v.seen
 
 -- the same, with what is known of a record that was met
-pub record Met (r i left : ℕ) (v : Visit) (w : Option ℕ) (seen : List ℕ) : Type 0 where
+pub record Met (r i left : ℕ) (v : Visit) (w : Result ℕ ℕ) (seen : List ℕ) : Type 0 where
   pub says : Says v w seen
-  pub inside : (n : ℕ) → w ≡ Some n → (1 ≤ i) × (i ≤ r)
-  pub one : (n : ℕ) → w ≡ Some n → left ≡ suc n
+  pub inside : (n : ℕ) → w ≡ Ok n → (1 ≤ i) × (i ≤ r)
+  pub one : (n : ℕ) → w ≡ Ok n → left ≡ suc n

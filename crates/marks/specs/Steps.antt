@@ -1,14 +1,17 @@
 -- Lemmas of the tests: what one that passes tells, and the two ways of meeting a record.
-use Rattle.std.specs.Prelude.{◌≡◌, refl, Some, None, List, Bool, true, false, not, ◌&&◌, ℕ, suc, ◌-◌, ◌≤◌, eqb, leb, set}
+use Rattle.std.specs.Prelude.{◌≡◌, refl, Result, Ok, Err, List, Bool, true, false, not, ◌&&◌, ℕ, suc, ◌-◌, ◌≤◌, eqb, leb, set}
 use Rattle.std.proofs.Common.{ap, ◌∙◌, arith, leb-true}
 use Rattle.std.proofs.lemmas.Bool.{eqb-false, not-true}
-use Rattle.std.proofs.lemmas.Option.{none-some, same_Some}
 use Rattle.words.specs.Store.{HasRecord}
 use Rattle.words.specs.Entries.{HasEntry}
 use Rattle.marks.specs.Marks.{HasRecords, Visit, start, is_new, meet, left_if, Says, Met, is_met, entry_ok}
 
 pub no : {A : Type 0} → ◌≡◌ {A = Bool} false true → A
 no e = let z : ◌≡◌ {A = ℕ} 0 1 = cc in absurd (omega arith)
+
+-- an answer is not Err and Ok at once
+pub err-ok : {A E : Type 0} {e : E} {x : A} → ◌≡◌ {A = Result A E} (Err e) (Ok x) → ⊥
+err-ok q = no cc
 
 -- both of two tests pass
 pub both : (a b : Bool) → (a && b) ≡ true → (a ≡ true) × (b ≡ true)
@@ -60,16 +63,16 @@ new_in seen r i left e =
     let n : left ≡ 0 → ⊥ = eqb-false left 0 (not-true _ a.0) in (b.0, b.1, omega arith)
 
 module _ (r kind left : ℕ) (seen : List ℕ) (i : ℕ) where
-  pub met-not : is_new seen r i left ≡ false → Met r i left (meet r kind (start left seen) i) None seen
+  pub met-not : is_new seen r i left ≡ false → Met r i left (meet r kind (start left seen) i) (Err left) seen
   unfolding meet
-  met-not e = record { says = said {b = false} {n = left} (simp e); inside = λ n o. absurd (none-some n o); one = λ n o. absurd (none-some n o) }
+  met-not e = record { says = said {b = false} {n = left} (simp e); inside = λ n o. absurd (err-ok o); one = λ n o. absurd (err-ok o) }
 
-  pub met-new : is_new seen r i left ≡ true → Met r i left (meet r kind (start left seen) i) (Some (left - 1)) (set seen i kind)
+  pub met-new : is_new seen r i left ≡ true → Met r i left (meet r kind (start left seen) i) (Ok (left - 1)) (set seen i kind)
   unfolding meet
   met-new e =
       let n = new_in seen r i left e in
       record {
         says = said {b = true} {n = left - 1} (simp e);
         inside = λ k o. (n.0, n.1);
-        one = λ k o. n.2 ∙ ap suc (same_Some (left - 1) k o);
+        one = λ k o. let z : left - 1 ≡ k = cc in n.2 ∙ ap suc z;
       }

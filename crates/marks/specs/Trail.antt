@@ -1,12 +1,12 @@
 -- A walk along a chain of records that meets each and keeps something beside: one definition and its turns, for every chain.
 use Rattle.std.proofs.Math.Path.{◌≡◌, refl, sym, ap}
 use Rattle.std.proofs.Common.{◌∙◌, eq-eqb, ne_eqb}
-use Rattle.std.specs.Prelude.{Option, Some, None, List, Bool, cond, eqb}
-use Rattle.std.proofs.lemmas.Option.{none-some, cond_some}
+use Rattle.std.specs.Prelude.{Result, Ok, Err, List, Bool, cond, eqb}
 use Rattle.std.proofs.Math.Bool.{true, false}
 use Prim.Native.Nat.{ℕ, zero, suc}
 use native.Mathlib.Omega.{arith}
 use Rattle.marks.specs.Marks.{Visit, start, is_new, meet, left_if, Says, Met}
+use Rattle.marks.specs.Steps.{err-ok}
 
 -- ---- a turn, and then more
 
@@ -67,7 +67,7 @@ chain_of next r kind f seen a i (suc n) =
     (after f (λ s b. chain_of next r kind f s b (next i) n) (meet r kind (start (suc n) seen) i) a i)
 
 -- what a function answers and leaves is what the walk says
-pub record Ends (A : Type 0) (v : Trail A) (w : Option ℕ) (seen : List ℕ) (a : A) : Type 0 where
+pub record Ends (A : Type 0) (v : Trail A) (w : Result ℕ ℕ) (seen : List ℕ) (a : A) : Type 0 where
   pub left : w ≡ left_if v.ok v.left
   pub marks : seen ≡ v.seen
   pub held : a ≡ v.held
@@ -80,29 +80,29 @@ ended-as {A} e =
       held = ap (λ (v : Trail A). v.held) e;
     }
 
--- what an answer tells of what is in order and of what is left
-pub some-of : (b : Bool) (k n : ℕ) {w : Option ℕ} → w ≡ left_if b k → w ≡ Some n → (b ≡ true) × (k ≡ n)
-some-of b k n e o = cond_some b k n (sym e ∙ o)
+-- what an answer tells whose value is the same in both cases: whether all is in order, and the value
+pub ok-of : {A : Type 0} (b : Bool) (x y : A) {w : Result A A} → w ≡ cond b (Ok x) (Err x) → w ≡ Ok y → (b ≡ true) × (x ≡ y)
+ok-of true x y e o = (refl, cc)
+ok-of false x y e o = absurd (err-ok (sym e ∙ o))
 
-pub none-of : (b : Bool) (k : ℕ) {w : Option ℕ} → w ≡ left_if b k → w ≡ None → b ≡ false
-none-of true k e o = absurd (none-some k (sym o ∙ e))
-none-of false k e o = refl
+pub err-of : {A : Type 0} (b : Bool) (x y : A) {w : Result A A} → w ≡ cond b (Ok x) (Err x) → w ≡ Err y → (b ≡ false) × (x ≡ y)
+err-of true x y e o = absurd (err-ok (sym o ∙ e))
+err-of false x y e o = (refl, cc)
 
-pub trail-as : {A : Type 0} {v : Trail A} {w : Option ℕ} {n : ℕ} {seen : List ℕ} {a : A} → Ends A v w seen a → w ≡ Some n → v ≡ ends true n seen a
-trail-as {A} {v} {w} {n} {seen} {a} k o =
-    let t = some-of v.ok v.left n k.left o in
+trail-of : {A : Type 0} {v : Trail A} {w : Result ℕ ℕ} {b : Bool} {n : ℕ} {seen : List ℕ} {a : A} → Ends A v w seen a → (v.ok ≡ b) × (v.left ≡ n) → v ≡ ends b n seen a
+trail-of {A} {v} {w} {b} {n} {seen} {a} k t =
     ap (λ (x : Bool). ends x v.left v.seen v.held) t.0
-    ∙ ap (λ (x : ℕ). ends true x v.seen v.held) t.1
-    ∙ ap (λ (x : List ℕ). ends true n x v.held) (sym k.marks)
-    ∙ ap (ends true n seen) (sym k.held)
+    ∙ ap (λ (x : ℕ). ends b x v.seen v.held) t.1
+    ∙ ap (λ (x : List ℕ). ends b n x v.held) (sym k.marks)
+    ∙ ap (ends b n seen) (sym k.held)
 
-pub trail-none : {A : Type 0} {v : Trail A} {w : Option ℕ} {seen : List ℕ} {a : A} → Ends A v w seen a → w ≡ None → v ≡ ends false v.left seen a
-trail-none {A} {v} {w} {seen} {a} k o =
-    ap (λ (x : Bool). ends x v.left v.seen v.held) (none-of v.ok v.left k.left o)
-    ∙ ap (λ (x : List ℕ). ends false v.left x v.held) (sym k.marks)
-    ∙ ap (ends false v.left seen) (sym k.held)
+pub trail-as : {A : Type 0} {v : Trail A} {w : Result ℕ ℕ} {n : ℕ} {seen : List ℕ} {a : A} → Ends A v w seen a → w ≡ Ok n → v ≡ ends true n seen a
+trail-as {A} {v} {w} {n} k o = trail-of k (ok-of v.ok v.left n k.left o)
 
-pub to-ends : {A : Type 0} {u v : Trail A} {w : Option ℕ} {seen : List ℕ} {a : A} → Ends A u w seen a → v ≡ u → Ends A v w seen a
+pub trail-err : {A : Type 0} {v : Trail A} {w : Result ℕ ℕ} {n : ℕ} {seen : List ℕ} {a : A} → Ends A v w seen a → w ≡ Err n → v ≡ ends false n seen a
+trail-err {A} {v} {w} {n} k o = trail-of k (err-of v.ok v.left n k.left o)
+
+pub to-ends : {A : Type 0} {u v : Trail A} {w : Result ℕ ℕ} {seen : List ℕ} {a : A} → Ends A u w seen a → v ≡ u → Ends A v w seen a
 to-ends k e = rw e k
 
 -- ---- the turns of a loop along a chain
@@ -114,21 +114,22 @@ pub record Going (A : Type 0) (whole : Trail A) (next : ℕ → ℕ) (r kind : �
 abbrev visit : Bool → ℕ → List ℕ → Visit
 visit b n seen = record { ok = b; left = n; seen = seen }
 
-pub visit-as : {v : Visit} {w : Option ℕ} {n : ℕ} {seen : List ℕ} → Says v w seen → w ≡ Some n → v ≡ record { ok = true; left = n; seen = seen }
-visit-as {v} {w} {n} {seen} s o =
-    let t = some-of v.ok v.left n s.left o in
-    ap (λ (x : Bool). visit x v.left v.seen) t.0 ∙ ap (λ (x : ℕ). visit true x v.seen) t.1 ∙ ap (visit true n) (sym s.marks)
+visit-of : {v : Visit} {w : Result ℕ ℕ} {b : Bool} {n : ℕ} {seen : List ℕ} → Says v w seen → (v.ok ≡ b) × (v.left ≡ n) → v ≡ visit b n seen
+visit-of {v} {w} {b} {n} s t =
+    ap (λ (x : Bool). visit x v.left v.seen) t.0 ∙ ap (λ (x : ℕ). visit b x v.seen) t.1 ∙ ap (visit b n) (sym s.marks)
 
-pub visit-none : {v : Visit} {w : Option ℕ} {seen : List ℕ} → Says v w seen → w ≡ None → v ≡ record { ok = false; left = v.left; seen = seen }
-visit-none {v} {w} {seen} s o =
-    ap (λ (x : Bool). visit x v.left v.seen) (none-of v.ok v.left s.left o) ∙ ap (visit false v.left) (sym s.marks)
+pub visit-as : {v : Visit} {w : Result ℕ ℕ} {n : ℕ} {seen : List ℕ} → Says v w seen → w ≡ Ok n → v ≡ record { ok = true; left = n; seen = seen }
+visit-as {v} {w} {n} s o = visit-of s (ok-of v.ok v.left n s.left o)
+
+pub visit-err : {v : Visit} {w : Result ℕ ℕ} {n : ℕ} {seen : List ℕ} → Says v w seen → w ≡ Err n → v ≡ record { ok = false; left = n; seen = seen }
+visit-err {v} {w} {n} s o = visit-of s (err-of v.ok v.left n s.left o)
 
 meet-none : (r kind : ℕ) (seen : List ℕ) (i : ℕ) → meet r kind (start 0 seen) i ≡ record { ok = false; left = 0; seen = seen }
 unfolding meet is_new
 meet-none r kind seen i = refl
 
 module _ {A : Type 0} {whole : Trail A} {next : ℕ → ℕ} {r kind : ℕ} {f : List ℕ → A → ℕ → Turn A} {seen : List ℕ} {a : A} {i : ℕ} where
-  pub go-end : {left : ℕ} → Going A whole next r kind f seen a i left → i ≡ 0 → Ends A whole (Some left) seen a
+  pub go-end : {left : ℕ} → Going A whole next r kind f seen a i left → i ≡ 0 → Ends A whole (Ok left) seen a
   unfolding chain_of
   go-end {left} g e = ended-as (sym (at-end left) ∙ g.is)
     where
@@ -136,19 +137,19 @@ module _ {A : Type 0} {whole : Trail A} {next : ℕ → ℕ} {r kind : ℕ} {f :
       at-end zero = simp (eq-eqb i 0 e)
       at-end (suc k) = simp (eq-eqb i 0 e)
 
-  pub go-stop : {left : ℕ} {w : Option ℕ} {seen' : List ℕ} → Going A whole next r kind f seen a i left → (i ≡ 0 → ⊥)
-      → Met r i left (meet r kind (start left seen) i) w seen' → w ≡ None → Ends A whole None seen' a
+  pub go-stop : {left n : ℕ} {w : Result ℕ ℕ} {seen' : List ℕ} → Going A whole next r kind f seen a i left → (i ≡ 0 → ⊥)
+      → Met r i left (meet r kind (start left seen) i) w seen' → w ≡ Err n → Ends A whole (Err n) seen' a
   unfolding chain_of after
-  go-stop {left} {w} {seen'} g ne k o = ended-as (sym (at-stop left _ (visit-none k.says o)) ∙ g.is)
+  go-stop {left} {n} {w} {seen'} g ne k o = ended-as (sym (at-stop left (visit-err k.says o)) ∙ g.is)
     where
-      at-stop : (n l : ℕ) → meet r kind (start n seen) i ≡ record { ok = false; left = l; seen = seen' } → chain_of next r kind f seen a i n ≡ ends false l seen' a
-      at-stop zero l q =
-          let u : ◌≡◌ {A = Visit} (record { ok = false; left = 0; seen = seen }) (record { ok = false; left = l; seen = seen' }) = sym (meet-none r kind seen i) ∙ q in
+      at-stop : (l : ℕ) → meet r kind (start l seen) i ≡ record { ok = false; left = n; seen = seen' } → chain_of next r kind f seen a i l ≡ ends false n seen' a
+      at-stop zero q =
+          let u : ◌≡◌ {A = Visit} (record { ok = false; left = 0; seen = seen }) (record { ok = false; left = n; seen = seen' }) = sym (meet-none r kind seen i) ∙ q in
           simp (ne_eqb i 0 ne) (ap (λ (v : Visit). ends false v.left v.seen a) u)
-      at-stop (suc n) l q = simp (ne_eqb i 0 ne, q)
+      at-stop (suc l) q = simp (ne_eqb i 0 ne, q)
 
-  pub go-bad : {left n : ℕ} {w : Option ℕ} {seen' : List ℕ} {a' : A} → Going A whole next r kind f seen a i left → (i ≡ 0 → ⊥)
-      → Met r i left (meet r kind (start left seen) i) w seen' → w ≡ Some n → f seen' a i ≡ turn false a' → Ends A whole None seen' a'
+  pub go-bad : {left n : ℕ} {w : Result ℕ ℕ} {seen' : List ℕ} {a' : A} → Going A whole next r kind f seen a i left → (i ≡ 0 → ⊥)
+      → Met r i left (meet r kind (start left seen) i) w seen' → w ≡ Ok n → f seen' a i ≡ turn false a' → Ends A whole (Err n) seen' a'
   unfolding chain_of after
   go-bad {left} {n} {w} {seen'} {a'} g ne k o t = ended-as (sym (at-bad left (k.one n o) (visit-as k.says o)) ∙ g.is)
     where
@@ -156,8 +157,8 @@ module _ {A : Type 0} {whole : Trail A} {next : ℕ → ℕ} {r kind : ℕ} {f :
       at-bad zero z q = absurd (omega arith)
       at-bad (suc l) z q = simp (ne_eqb i 0 ne, q, t)
 
-  pub go-more : {left n : ℕ} {w : Option ℕ} {seen' : List ℕ} {a' : A} {j : ℕ} → Going A whole next r kind f seen a i left → (i ≡ 0 → ⊥)
-      → Met r i left (meet r kind (start left seen) i) w seen' → w ≡ Some n → f seen' a i ≡ turn true a' → j ≡ next i
+  pub go-more : {left n : ℕ} {w : Result ℕ ℕ} {seen' : List ℕ} {a' : A} {j : ℕ} → Going A whole next r kind f seen a i left → (i ≡ 0 → ⊥)
+      → Met r i left (meet r kind (start left seen) i) w seen' → w ≡ Ok n → f seen' a i ≡ turn true a' → j ≡ next i
       → Going A whole next r kind f seen' a' j n
   unfolding chain_of after
   go-more {left} {n} {w} {seen'} {a'} {j} g ne k o t e = record { is = sym (at_more left (k.one n o) (visit-as k.says o)) ∙ g.is }

@@ -28,7 +28,7 @@ impl Mark {
     }
 
     // Record i is met as this.
-    pub fn meet(self, seen: &mut [u8], r: usize, i: usize, left: usize) -> Option<usize>
+    pub fn meet(self, seen: &mut [u8], r: usize, i: usize, left: usize) -> Result<usize, usize>
         requires { r < length seen.old }
         ensures { Met r i left (meet r (mark_number self) (start left seen.old) i) result seen.new }
     {
@@ -78,17 +78,17 @@ fn is_new(seen: &[u8], r: usize, i: usize, left: usize) -> bool
     left != 0 && i != 0 && i <= r && seen[i] == 0
 }
 
-// Record i is met and marked, and the answer is how many records may still be met; None where it is refused. Any slice with a place for
-// record r may be lent, so its length stands in the clauses here and above, and in no type.
-pub fn meet(seen: &mut [u8], r: usize, i: usize, left: usize, kind: u8) -> Option<usize>
+// Record i is met and marked, and the answer is how many records may still be met; Err with how many might where it is refused. Any slice
+// with a place for record r may be lent, so its length stands in the clauses here and above, and in no type.
+pub fn meet(seen: &mut [u8], r: usize, i: usize, left: usize, kind: u8) -> Result<usize, usize>
     requires { r < length seen.old }
     ensures { Met r i left (meet r kind (start left seen.old) i) result seen.new }
 {
     if !is_new(seen, r, i, left) {
-        return None;
+        return Err(left);
     }
     seen[i] = kind;
-    Some(left - 1)
+    Ok(left - 1)
 }
 
 // Record i was met as one of this kind.

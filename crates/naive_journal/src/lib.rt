@@ -15,7 +15,7 @@ mod rules;
 mod runs;
 
 use chains::chain;
-use records::{Code, Journal, Record};
+use records::{Code, Journal, RECORDS};
 use rules::are_kept;
 use runs::are_repeated;
 
@@ -28,22 +28,25 @@ enum Refusal {
 }
 
 // Do the lists of all locates on the main chain end?
-fn do_lists_end(journal: Journal<'_>, main: &[Record<'_>]) -> bool {
+fn do_lists_end(journal: Journal<'_>, main: &[u32]) -> bool {
+    let mut room = [0; RECORDS];
     main.iter()
+        .map(|number| journal.record(*number))
         .filter(|record| record.code() == Some(Code::Locate))
-        .all(|record| chain(journal, record.list()).is_some())
+        .all(|record| chain(journal, record.list(), &mut room).is_some())
 }
 
 fn judge(bytes: &[u8]) -> Result<(), Refusal> {
     let journal = Journal::new(bytes).ok_or(Refusal::Form)?;
-    let main = chain(journal, 1).ok_or(Refusal::Form)?;
-    if !do_lists_end(journal, main.as_slice()) {
+    let mut room = [0; RECORDS];
+    let main = chain(journal, 1, &mut room).ok_or(Refusal::Form)?;
+    if !do_lists_end(journal, main) {
         return Err(Refusal::Form);
     }
-    if !are_kept(main.as_slice()) {
+    if !are_kept(journal, main) {
         return Err(Refusal::Rules);
     }
-    if !are_repeated(journal, main.as_slice()) {
+    if !are_repeated(journal, main) {
         return Err(Refusal::Answers);
     }
     Ok(())

@@ -29,7 +29,7 @@ impl<'a> Journal<'a> {
     }
 
     // The record with a number, if there is one.
-    pub fn record(self, number: u32) -> Option<Record<'a>> {
+    pub fn find(self, number: u32) -> Option<Record<'a>> {
         let index = number.checked_sub(1)? as usize;
         let start = 32 * index;
         if start < self.0.len() {
@@ -37,6 +37,11 @@ impl<'a> Journal<'a> {
         } else {
             None
         }
+    }
+
+    // The record with a number; where there is none, one whose words are 0.
+    pub fn record(self, number: u32) -> Record<'a> {
+        self.find(number).unwrap_or_default()
     }
 }
 

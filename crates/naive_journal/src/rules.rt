@@ -1,5 +1,5 @@
 // Rules: which codes and numbers document 01 has, and that a run has nothing behind its commit.
-use crate::records::{Code, Record};
+use crate::records::{Code, Journal, Record};
 
 fn is_entry(entry: u32) -> bool {
     1 <= entry && entry <= 1024
@@ -23,17 +23,20 @@ fn is_allowed(record: Record<'_>) -> bool {
 }
 
 // Does a record keep to document 01, and if it is a commit, is none of the later ones of its run?
-fn is_kept(record: Record<'_>, later: &[Record<'_>]) -> bool {
+fn is_kept(journal: Journal<'_>, record: Record<'_>, later: &[u32]) -> bool {
     let run = record.run();
     is_allowed(record)
-        && (record.code() != Some(Code::Commit) || later.iter().all(|other| other.run() != run))
+        && (record.code() != Some(Code::Commit)
+            || later
+                .iter()
+                .all(|other| journal.record(*other).run() != run))
 }
 
 // Does every record of the main chain keep to document 01, and is every commit the last of its run?
-pub fn are_kept(main: &[Record<'_>]) -> bool {
+pub fn are_kept(journal: Journal<'_>, main: &[u32]) -> bool {
     let mut rest = main;
-    while let [record, later @ ..] = rest {
-        if !is_kept(*record, later) {
+    while let [number, later @ ..] = rest {
+        if !is_kept(journal, journal.record(*number), later) {
             return false;
         }
         rest = later;

@@ -1,13 +1,13 @@
 // Runs: the committed runs in order of commit, each done whole, and whether its records say the same.
 use crate::chains::chain;
 use crate::held::{Held, Member};
-use crate::records::{Code, Journal, Record};
+use crate::records::{Code, Journal, RECORDS, Record};
 
 // Are the pairs of a list memberships with keys from first to second, and does each come behind the one before it?
-fn are_found(held: &Held, list: &[Record<'_>], first: u32, second: u32) -> bool {
+fn are_found(journal: Journal<'_>, held: &Held, list: &[u32], first: u32, second: u32) -> bool {
     let mut last = None;
-    for record in list {
-        let pair = record.pair();
+    for number in list {
+        let pair = journal.record(*number).pair();
         let is_behind = match last {
             Some(last) => last < pair,
             None => true,
@@ -25,11 +25,12 @@ fn is_located(journal: Journal<'_>, held: &Held, record: Record<'_>) -> bool {
     let first = record.first();
     let second = record.second();
     let count = held.count_between(first, second);
-    match chain(journal, record.list()) {
+    let mut room = [0; RECORDS];
+    match chain(journal, record.list(), &mut room) {
         Some(list) => {
             list.len() == count
                 && record.answer() as usize == count
-                && are_found(held, list.as_slice(), first, second)
+                && are_found(journal, held, list, first, second)
         }
         None => false,
     }
@@ -57,9 +58,10 @@ fn is_repeated(journal: Journal<'_>, held: &mut Held, record: Record<'_>) -> boo
 }
 
 // Does the requests of a run, in their order on the main chain. Says whether all is as its records say.
-fn is_run_repeated(journal: Journal<'_>, held: &mut Held, main: &[Record<'_>], run: u32) -> bool {
-    for record in main {
-        if record.run() == run && !is_repeated(journal, held, *record) {
+fn is_run_repeated(journal: Journal<'_>, held: &mut Held, main: &[u32], run: u32) -> bool {
+    for number in main {
+        let record = journal.record(*number);
+        if record.run() == run && !is_repeated(journal, held, record) {
             return false;
         }
     }
@@ -67,9 +69,10 @@ fn is_run_repeated(journal: Journal<'_>, held: &mut Held, main: &[Record<'_>], r
 }
 
 // Do the committed runs, done one behind another from an empty store, give what their records say?
-pub fn are_repeated(journal: Journal<'_>, main: &[Record<'_>]) -> bool {
+pub fn are_repeated(journal: Journal<'_>, main: &[u32]) -> bool {
     let mut held = Held::new();
-    for record in main {
+    for number in main {
+        let record = journal.record(*number);
         if record.code() == Some(Code::Commit)
             && !is_run_repeated(journal, &mut held, main, record.run())
         {

@@ -11,8 +11,8 @@ use Rattle.std.proofs.lemmas.Grind.{get_or_after_one}
 use borrow.Author.Tests.{eq-eqb, ne_eqb, eqb-true}
 use Rattle.sessions.specs.declared.Session.{Session}
 use Rattle.sessions.specs.Sessions.{session_at, idle_session}
-use Rattle.std.specs.Prelude.{Option, Some, None}
-use Rattle.marks.specs.Trail.{Turn, Trail, ends, then_trail, Ends, Turned, turned, turned_as, trail-as, trail-none, ended-as, go-end}
+use Rattle.std.specs.Prelude.{Result, Ok, Err}
+use Rattle.marks.specs.Trail.{Turn, Trail, ends, then_trail, Ends, Turned, turned, turned_as, trail-as, trail-err, ended-as, go-end}
 use Rattle.undo_chains.specs.UndoChains.{undos_from}
 use Rattle.standing.specs.Standing.{party_ok}
 use Rattle.parties.specs.Parties.{parties_from, mark_ok, marks_from, one_at_node, standing_from, some_undo, has_undos, undos_of, all_undos}
@@ -100,8 +100,8 @@ pub record Seeking (whole : Bool) (t : List Session) (p rest : ℕ) : Type 0 whe
   pub is : some_undo t p rest ≡ whole
 
 -- the sessions, without the housekeeper before them
-pub behind : (t : List Session) (k : ℕ) → k < 16 → get_or (take 16 (drop 1 t)) k idle_session ≡ session_at t (1 + k)
-behind t k h = get_or-take 16 (drop 1 t) k idle_session h ∙ get_or_after_one t k idle_session
+pub behind : (t : List Session) (n k : ℕ) → k < n → get_or (take n (drop 1 t)) k idle_session ≡ session_at t (1 + k)
+behind t n k h = get_or-take n (drop 1 t) k idle_session h ∙ get_or_after_one t k idle_session
 
 module _ {whole : Bool} {t : List Session} {p rest : ℕ} (g : Seeking whole t p rest) where
   pub seek_found : {x : Session} → 0 < rest → x ≡ session_at t p → (x.undo ≡ 0 → ⊥) → true ≡ whole
@@ -136,17 +136,17 @@ module _ {whole : Trail (List ℕ)} {s : List ℕ} {m r : ℕ} {t : List Session
       ap (λ (x : Trail (List ℕ)). then_trail x (λ u. undos_of s m r t u.seen u.held u.left (p + 1) (rest - 1))) (sym e)
       ∙ ap (undos_of s m r t seen f left p) (sym (one_less rest h)) ∙ g.is
 
-  pub take-bad : {rest : ℕ} {w : Option ℕ} {seen' f' : List ℕ} → Taking whole s m r t seen f left p rest → 0 < rest
-      → Ends _ (undos_from s m r p seen f (session_at t p).undo left) w seen' f' → w ≡ None → Ends _ whole None seen' f'
-  take-bad g h k o = ended-as (take-as g h (trail-none k o))
+  pub take-bad : {rest n : ℕ} {w : Result ℕ ℕ} {seen' f' : List ℕ} → Taking whole s m r t seen f left p rest → 0 < rest
+      → Ends _ (undos_from s m r p seen f (session_at t p).undo left) w seen' f' → w ≡ Err n → Ends _ whole (Err n) seen' f'
+  take-bad g h k o = ended-as (take-as g h (trail-err k o))
 
-  pub take_more : {rest rest' n : ℕ} {w : Option ℕ} {seen' f' : List ℕ} → Taking whole s m r t seen f left p rest → 0 < rest
-      → Ends _ (undos_from s m r p seen f (session_at t p).undo left) w seen' f' → w ≡ Some n → rest' ≡ rest - 1
+  pub take_more : {rest rest' n : ℕ} {w : Result ℕ ℕ} {seen' f' : List ℕ} → Taking whole s m r t seen f left p rest → 0 < rest
+      → Ends _ (undos_from s m r p seen f (session_at t p).undo left) w seen' f' → w ≡ Ok n → rest' ≡ rest - 1
       → Taking whole s m r t seen' f' n (p + 1) rest'
   take_more {rest} {rest'} {n} {w} {seen'} {f'} g h k o z =
       record { is = ap (undos_of s m r t seen' f' n (p + 1)) z ∙ take-as g h (trail-as k o) }
 
-  pub take-end : {rest : ℕ} → Taking whole s m r t seen f left p rest → rest ≡ 0 → Ends _ whole (Some left) seen f
+  pub take-end : {rest : ℕ} → Taking whole s m r t seen f left p rest → rest ≡ 0 → Ends _ whole (Ok left) seen f
   unfolding undos_of
   take-end {rest} g e = ended-as (ap (undos_of s m r t seen f left p) (sym e) ∙ g.is)
 

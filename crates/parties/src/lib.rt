@@ -90,14 +90,14 @@ pub fn has_undos(t: [Session; PARTIES]) -> bool
     false
 }
 
-// All sessions' chains of undo records: how many records may still be met, or None where a chain is not in order.
+// All sessions' chains of undo records: how many records may still be met, as Err where a chain is not in order.
 pub fn all_undos(
     records: Records,
     seen: &mut [u8],
     files: &mut [u16],
     t: [Session; PARTIES],
     left: usize,
-) -> Option<usize>
+) -> Result<usize, usize>
     requires { (records.r < length seen.old) × Filing files.old }
     ensures { Ends _ (all_undos records.entry.store.now records.entry.m records.entry.r t seen.old files.old left) result seen.new files.new }
 {
@@ -108,5 +108,5 @@ pub fn all_undos(
         let session = p as u32;
         more = undo_chains::walk_undos(records, seen, files, session, first, more)?;
     }
-    Some(more)
+    Ok(more)
 }

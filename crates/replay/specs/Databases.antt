@@ -1,8 +1,9 @@
 -- The logical model in a Database.
 use Rattle.std.specs.Prelude.{ℕ}
 use Rattle.serial.specs.Model.{Db}
+use Rattle.replay.specs.declared.Fed.{Fed}
 use Rattle.replay.specs.declared.Database.{Database}
-use Rattle.replay.specs.Held.{held, Ready, Fed, Feeds}
+use Rattle.replay.specs.Held.{held, Ready, Feeds}
 
 abbrev pub model_of : Database → Db
 model_of d = held d.values d.keys d.entries d.count

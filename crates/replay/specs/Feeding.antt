@@ -5,13 +5,14 @@ use Rattle.std.proofs.Math.Option.{some, some-injective}
 use Rattle.std.proofs.Math.Decide.{ℕ_discrete}
 use Rattle.serial.specs.Serial.{pick}
 use Rattle.serial.specs.Model.{Db, Req, read, write, insert, remove, just, ans, eff, request_of}
-use Rattle.replay.specs.Held.{Fed, members_in, held, Ready, Feeds}
+use Rattle.replay.specs.declared.Fed.{Fed}
+use Rattle.replay.specs.Held.{members_in, held, Ready, Feeds}
 use Rattle.replay.specs.Members.{Sorted, Inserts, Removes}
 
 pub sorted_of : {vs ks es : List ℕ} {n : ℕ} → Ready vs ks es n → Sorted ks es n
 sorted_of r = record { keys = r.keys; entries = r.entries; count = r.count; rising = r.rising }
 
-pub ready_of : {vs ks es : List ℕ} {n : ℕ} → length vs ≡ 1025 → Sorted ks es n → Ready vs ks es n
+ready_of : {vs ks es : List ℕ} {n : ℕ} → length vs ≡ 1025 → Sorted ks es n → Ready vs ks es n
 ready_of h s = record { values = h; keys = s.keys; entries = s.entries; count = s.count; rising = s.rising }
 
 -- The value of one entry set.

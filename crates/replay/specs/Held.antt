@@ -3,6 +3,7 @@ use Rattle.std.specs.Prelude.{◌≡◌, List, [], ◌∷◌, ℕ, ◌+◌, ◌�
 use Rattle.std.proofs.Math.Option.{some}
 use Rattle.serial.specs.Rising.{Rising}
 use Rattle.serial.specs.Model.{Pair, by_key, Db, Req, just, ans, eff, request_of}
+use Rattle.replay.specs.declared.Fed.{Fed}
 
 unfoldable pub paired : List ℕ → List ℕ → List Pair
 paired [] es = []
@@ -23,11 +24,6 @@ pub record Ready (vs ks es : List ℕ) (n : ℕ) : Type 0 where
   pub entries : length es ≡ 2048
   pub count : n ≤ 2048
   pub rising : Rising by_key (members_in ks es n)
-
--- The answer to a request, and how many memberships there are after it.
-pub record Fed : Type 0 where
-  pub answer : ℕ
-  pub count : ℕ
 
 -- A request of code 1 to 4, fed: its answer and the database after it are the model's.
 pub record Feeds (code entry first : ℕ) (vs ks es : List ℕ) (n : ℕ) (r : Fed) (vs' ks' es' : List ℕ) : Type 0 where

@@ -6,7 +6,8 @@ use Rattle.serial.specs.Rising.{Rising, has, ins, del, has-cases, rising-ins, ri
 use Rattle.serial.specs.Model.{Pair, Before, by_key}
 use Rattle.reshaping.specs.Ops.{insert_in, remove_in}
 use Rattle.reshaping.specs.Live.{insert_at, remove_at, length-insert_in, length-remove_in}
-use Rattle.replay.specs.Held.{Fed, members_in}
+use Rattle.replay.specs.declared.Fed.{Fed}
+use Rattle.replay.specs.Held.{members_in}
 use Rattle.replay.specs.Places.{rank, rank-past, rank-here, rank-none, rank-le, has-at, rank-has, ins-new, ins-old, del-none, del-one}
 use Rattle.replay.specs.Pairs.{length-members, member-at, members-from, members-more, members-less}
 

@@ -85,10 +85,21 @@ pub enum UndoKind {
     Out,
 }
 
+// The words of table and store, of a party, of the header and of an entry, as words: a base counts through some 82,000 places, and counts them faster so.
+const ALL: u32 = BEHIND as u32;
+
+const TABLE: u32 = STORE as u32;
+
+const PARTY: u32 = SESSION_WORDS as u32;
+
+const HEADER: u32 = HEADER_WORDS as u32;
+
+const ENTRY_SIZE: u32 = ENTRY_WORDS as u32;
+
 // Word i of the session table where nobody has begun, with x where a field is not in use. Party 0 uses neither begun mark nor chain.
-fn idle(i: usize, x: u32) -> u32 {
-    let is_session = SESSION_WORDS <= i;
-    match (i % SESSION_WORDS) as u32 {
+fn idle(i: u32, x: u32) -> u32 {
+    let is_session = PARTY <= i;
+    match i % PARTY {
         STAGE | ASKED => 0,
         BEGUN | UNDO if is_session => 0,
         _ => x,
@@ -96,37 +107,36 @@ fn idle(i: usize, x: u32) -> u32 {
 }
 
 // Word i of a store of m entries and r records where nothing is held, with x elsewhere.
-fn unheld(i: usize, m: u32, r: u32, x: u32) -> u32 {
-    match i {
-        0 => m,
-        1 => r,
-        _ if i < HEADER_WORDS => x,
-        _ => {
-            let at = i - HEADER_WORDS;
-            if at / ENTRY_WORDS < m as usize && at % ENTRY_WORDS != 0 {
-                0
-            } else {
-                x
-            }
-        }
+fn unheld(i: u32, m: u32, r: u32, x: u32) -> u32 {
+    if i < HEADER {
+        return match i {
+            0 => m,
+            1 => r,
+            _ => x,
+        };
     }
+    let at = i - HEADER;
+    if m <= at / ENTRY_SIZE {
+        return x;
+    }
+    if at % ENTRY_SIZE == 0 { x } else { 0 }
 }
 
 // M entries and R records, nothing held, nobody begun; the other words are zeros or, where junk is not 0, small numbers that could be taken
 // for record numbers.
 pub fn base(w: &mut Words, m: u32, r: u32, junk: u32) {
-    for i in 0..BEHIND {
+    for i in 0..ALL {
         let x = if junk == 0 {
             0
         } else {
-            (2 + (4 * (i % 13) + 1) % 13) as u32
+            2 + (4 * (i % 13) + 1) % 13
         };
-        let y = if i < STORE {
+        let y = if i < TABLE {
             idle(i, x)
         } else {
-            unheld(i - STORE, m, r, x)
+            unheld(i - TABLE, m, r, x)
         };
-        w.set(i, y);
+        w.set(i as usize, y);
     }
 }
 

@@ -32,7 +32,7 @@ const NO_RECORD: usize = STORE + HEADER_WORDS - RECORD_WORDS;
 // A party's record.
 pub type Row = [u32; SESSION_WORDS];
 
-#[derive(Drop)]
+#[derive(Clone, Copy)]
 pub struct Words {
     words: [u32; WORDS],
 }

@@ -27,7 +27,7 @@ impl Code {
 
 // A request as it is put, whose numbers may be any words: a put of a wrong one is refused. An entry stands in entry, a write's value and a key in first, the
 // end of a locate in second.
-#[derive(Clone, Copy, PartialEq, Eq)]
+#[derive(Clone, Copy, PartialEq, Eq, Default)]
 pub struct Request {
     pub code: u32,
     pub entry: u32,

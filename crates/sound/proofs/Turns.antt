@@ -3,15 +3,16 @@ use mathlib.Core.Path.{◌≡◌, refl, sym, ap, subst, ◌∙◌}
 use mathlib.Core.List.{List}
 use mathlib.Core.Bool.{Bool, true, false, cond}
 use Prim.Native.Nat.{ℕ, zero, suc, ◌≤◌, ◌<◌}
-use native.Mathlib.Omega.{arith}
 use lib.Dec.{eqb, leb}
 use lib.ListN.{get_or, replicate}
 use borrow.Author.Tests.{eq-eqb, ne_eqb, le-leb, lt-leb}
 use Rattle.words.specs.Header.{header_word, entries_place, records_place, free_place}
 use Rattle.seniority.specs.Seniority.{distinct_in}
 use Rattle.sessions.specs.declared.Session.{Session}
-use Rattle.std.specs.Prelude.{Option, Some, None, Result, Ok, Err, is_ok, ok_or}
-use Rattle.marks.specs.Trail.{Going, Turn, Turned, turned_as, turn, Trail, Ends, trail-as, trail-none}
+use Rattle.std.specs.Prelude.{Result, Ok, Err, is_ok}
+use Rattle.std.specs.Result.{result_or}
+use Rattle.marks.specs.Steps.{err-ok}
+use Rattle.marks.specs.Trail.{Going, Turn, Turned, turned_as, turn, Trail, Ends, trail-as, trail-err}
 use Rattle.parties.specs.Parties.{parties_ok, standing_at_nodes, has_undos, all_undos, marks_ok}
 use Rattle.parties.proofs.Turns.{undos-none}
 use Rattle.tree_walk.specs.declared.Walk.{Walk}
@@ -28,12 +29,14 @@ use Rattle.sound.specs.Sound.{Checked, checked, failed, next_part, lowest_ok, fr
 
 -- ---- what a pass answers where the walk under it does
 
-module _ {A : Type 0} (f : Fault) where
-  pub walked : (o : Option A) {r : Result A Fault} (x : A) → r ≡ ok_or o f → r ≡ Ok x → o ≡ Some x
-  walked o x e h = grind arith
+module _ {A E : Type 0} (f : Fault) where
+  pub walked : (o : Result A E) {r : Result A Fault} (x : A) → r ≡ result_or o (Err f) → r ≡ Ok x → o ≡ Ok x
+  walked (Ok y) x e h = cc
+  walked (Err y) x e h = absurd (err-ok (sym e ∙ h))
 
-  pub refused : (o : Option A) {r : Result A Fault} (g : Fault) → r ≡ ok_or o f → r ≡ Err g → (o ≡ None) × (g ≡ f)
-  refused o g e h = grind arith
+  pub refused : (o : Result A E) {r : Result A Fault} (g : Fault) → r ≡ result_or o (Err f) → r ≡ Err g → (y : E) × (o ≡ Err y) × (g ≡ f)
+  refused (Ok y) g e h = absurd (err-ok (sym h ∙ e))
+  refused (Err y) g e h = (y, refl, cc)
 
 -- ---- the free chain
 
@@ -46,16 +49,16 @@ pub at_ahead : {whole : Trail ℕ} {next : ℕ → ℕ} {r kind : ℕ} {f : List
     → Going ℕ whole next r kind f seen a j left
 at_ahead {whole} {next} {r} {kind} {f} {seen} {a} {i} {j} {left} e g = subst (λ z. Going ℕ whole next r kind f seen a z left) e g
 
-module _ (s : List ℕ) (m r : ℕ) (seen : List ℕ) (left : ℕ) {first : ℕ} {w : Option ℕ} {seen' : List ℕ} (ef : first ≡ header_word s free_place) (k : Ends ℕ (free_from s m r seen first left) w seen' 0) where
+module _ (s : List ℕ) (m r : ℕ) (seen : List ℕ) (left : ℕ) {first : ℕ} {w : Result ℕ ℕ} {seen' : List ℕ} (ef : first ≡ header_word s free_place) (k : Ends ℕ (free_from s m r seen first left) w seen' 0) where
   free-as : {v : Trail ℕ} → free_from s m r seen first left ≡ v → finish_of s m r seen left ≡ ending left v
   unfolding finish_of
   free-as o = rw (← ef) (ap (ending left) o)
 
-  pub free-bad : w ≡ None → failed free_fault ≡ finish_of s m r seen left
+  pub free-bad : {n : ℕ} → w ≡ Err n → failed free_fault ≡ finish_of s m r seen left
   unfolding ending
-  free-bad o = sym (free-as (trail-none k o))
+  free-bad o = sym (free-as (trail-err k o))
 
-  module _ (n : ℕ) (o : w ≡ Some n) where
+  module _ (n : ℕ) (o : w ≡ Ok n) where
     pub free-short : (n ≡ 0 → ⊥) → failed unreached_fault ≡ finish_of s m r seen left
     unfolding ending
     free-short z = sym (free-as (trail-as k o) ∙ simp (ne_eqb n 0 z))
@@ -71,28 +74,28 @@ module _ (s order tally f : List ℕ) (m r begun : ℕ) (t : List Session) (coun
   unfolding groups_then
   groups-many h = simp (lt-leb count 4097 h)
 
-  module _ (h : count ≤ 4097) {w : Option ℕ} {seen' l : List ℕ} (k : Ends _ (all_groups s order tally f m r begun t count seen (replicate 2050 0) left) w seen' l) where
+  module _ (h : count ≤ 4097) {w : Result ℕ ℕ} {seen' l : List ℕ} (k : Ends _ (all_groups s order tally f m r begun t count seen (replicate 2050 0) left) w seen' l) where
     groups-as : {v : Trail (List ℕ)} → all_groups s order tally f m r begun t count seen (replicate 2050 0) left ≡ v
         → after_groups s m r v ≡ groups_then s order tally f m r begun t count seen left
     unfolding groups_then
     groups-as o = simp (le-leb count 4097 h) (ap (after_groups s m r) (sym o))
 
-    pub groups-bad : w ≡ None → failed groups_fault ≡ groups_then s order tally f m r begun t count seen left
+    pub groups-bad : {n : ℕ} → w ≡ Err n → failed groups_fault ≡ groups_then s order tally f m r begun t count seen left
     unfolding after_groups
-    groups-bad o = groups-as (trail-none k o)
+    groups-bad o = groups-as (trail-err k o)
 
-    pub groups-go : (n : ℕ) {c : Checked} → w ≡ Some n → c ≡ finish_of s m r seen' n → c ≡ groups_then s order tally f m r begun t count seen left
+    pub groups-go : (n : ℕ) {c : Checked} → w ≡ Ok n → c ≡ finish_of s m r seen' n → c ≡ groups_then s order tally f m r begun t count seen left
     unfolding after_groups
     groups-go n o e = e ∙ groups-as (trail-as k o)
 
 -- ---- the chains of undo records
 
-module _ (s order tally : List ℕ) (m r begun : ℕ) (t : List Session) (count : ℕ) (seen : List ℕ) (left : ℕ) {w : Option ℕ} {seen' f : List ℕ} (k : Ends _ (all_undos s m r t seen (replicate 12291 0) left) w seen' f) where
-  pub undos-bad : w ≡ None → failed undos_fault ≡ undos_then s order tally m r begun t count seen left
+module _ (s order tally : List ℕ) (m r begun : ℕ) (t : List Session) (count : ℕ) (seen : List ℕ) (left : ℕ) {w : Result ℕ ℕ} {seen' f : List ℕ} (k : Ends _ (all_undos s m r t seen (replicate 12291 0) left) w seen' f) where
+  pub undos-bad : {n : ℕ} → w ≡ Err n → failed undos_fault ≡ undos_then s order tally m r begun t count seen left
   unfolding undos_then after_undos
-  undos-bad o = ap (after_undos s order tally m r begun t count) (sym (trail-none k o))
+  undos-bad o = ap (after_undos s order tally m r begun t count) (sym (trail-err k o))
 
-  pub undos-go : (n : ℕ) {c : Checked} → w ≡ Some n → c ≡ groups_then s order tally f m r begun t count seen' n → c ≡ undos_then s order tally m r begun t count seen left
+  pub undos-go : (n : ℕ) {c : Checked} → w ≡ Ok n → c ≡ groups_then s order tally f m r begun t count seen' n → c ≡ undos_then s order tally m r begun t count seen left
   unfolding undos_then after_undos
   undos-go n o e = e ∙ ap (after_undos s order tally m r begun t count) (sym (trail-as k o))
 
@@ -149,16 +152,16 @@ module _ (s : List ℕ) (m r : ℕ) (t : List Session) {begun : ℕ} {a : Bool} 
     unfolding fault_in
     fault-lowest o e = simp (entries-as h, sym el ∙ o) e
 
-    module _ (o : l ≡ true) {x : Option Walk} {seen order : List ℕ} (q : Toured (root_tour s m r (replicate 4097 0) (replicate 4097 0)) x seen order) where
+    module _ (o : l ≡ true) {x : Result Walk Walk} {seen order : List ℕ} (q : Toured (root_tour s m r (replicate 4097 0) (replicate 4097 0)) x seen order) where
       tree-as : {v : Tour} → root_tour s m r (replicate 4097 0) (replicate 4097 0) ≡ v → fault_in s m r t ≡ after_tree s m r begun t v
       unfolding fault_in
       tree-as e = rw (entries-as h, sym el ∙ o, g) (ap (after_tree s m r (begun_mask t) t) e)
 
-      pub fault-tree : x ≡ None → failed tree_fault ≡ fault_in s m r t
+      pub fault-tree : (w : Walk) → x ≡ Err w → failed tree_fault ≡ fault_in s m r t
       unfolding after_tree
-      fault-tree z = sym (tree-as refl ∙ simp (toured-off q z))
+      fault-tree w z = sym (tree-as (toured-off w q z))
 
-      pub fault-go : (w : Walk) {c : Checked} → x ≡ Some w → c ≡ parties_then s order m r begun t (going w) seen → c ≡ fault_in s m r t
+      pub fault-go : (w : Walk) {c : Checked} → x ≡ Ok w → c ≡ parties_then s order m r begun t (going w) seen → c ≡ fault_in s m r t
       unfolding after_tree
       fault-go w z e = e ∙ sym (tree-as (toured-as w q z))
 

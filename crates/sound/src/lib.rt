@@ -86,7 +86,7 @@ fn sizes_ok(store: &[u32]) -> bool
 
 // The free chain, from record first on. Mostly it goes to the record behind; that one is then met at its place and not by way of the link, so that
 // the machine need not wait for one word before it looks at the next.
-fn walk_free(records: Records, seen: &mut [u8], first: usize, left: usize) -> Option<usize>
+fn walk_free(records: Records, seen: &mut [u8], first: usize, left: usize) -> Result<usize, usize>
     requires { records.r < length seen.old }
     ensures { Ends _ (free_from records.entry.store.now records.entry.m records.entry.r seen.old first left) result seen.new 0 }
 {
@@ -102,7 +102,7 @@ fn walk_free(records: Records, seen: &mut [u8], first: usize, left: usize) -> Op
             i = words::word(store, m, ahead, 0) as usize;
         }
     }
-    Some(more)
+    Ok(more)
 }
 
 // What is left are the free records, and they are all of the rest.
@@ -112,7 +112,7 @@ fn finish(records: Records, seen: &mut [u8], left: usize) -> Result<usize, Fault
 {
     let Records { store, .. } = records;
     let first = words::free(store) as usize;
-    let more = walk_free(records, seen, first, left).ok_or(Fault::FreeChain)?;
+    let more = walk_free(records, seen, first, left).or(Err(Fault::FreeChain))?;
     if more != 0 {
         return Err(Fault::Unreached);
     }
@@ -141,7 +141,7 @@ fn groups_then(
     let walked = holdings::walk_groups(
         records, seen, order, tally, files, &mut l, begun, t, count, left,
     );
-    let more = walked.ok_or(Fault::Groups)?;
+    let more = walked.or(Err(Fault::Groups))?;
     finish(records, seen, more)
 }
 
@@ -161,7 +161,7 @@ fn chains_then(
 {
     let mut f = [0u16; 12291];
     let walked = parties::all_undos(records, seen, &mut f, t, left);
-    let more = walked.ok_or(Fault::Undos)?;
+    let more = walked.or(Err(Fault::Undos))?;
     groups_then(records, seen, order, tally, &f, begun, t, count, more)
 }
 
@@ -238,7 +238,7 @@ fn fault_in(records: Records, t: [Session; PARTIES]) -> Result<usize, Fault>
     let mut seen = [0u8; 4097];
     let mut order = [0u16; 4097];
     let walked = tree_walk::walk_root(records, &mut seen, &mut order);
-    let w = walked.ok_or(Fault::Tree)?;
+    let w = walked.or(Err(Fault::Tree))?;
     parties_then(records, &mut seen, &order, begun, t, w)
 }
 

@@ -178,6 +178,6 @@ pub fn first_step(store: &mut [u32], m: usize, p: u32, x: Session) -> Moved
         1 => read_step(store, p, x),
         2 => write_step(store, m, p, x),
         3 | 4 => entry_step(store, p, x),
-        _ => tidied_none(x),
+        0 | 5..=4294967295 => tidied_none(x),
     }
 }

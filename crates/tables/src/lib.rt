@@ -1,7 +1,7 @@
 // Tables: a lent session table. Its 17 records are loaded by value, one is stored back, or all are.
 //
-// A lent table is a slice of session records. Each function asks that there are 17, which its caller tests. What is loaded is the records as they stand; what
-// is stored is what was passed, and no other record changes. It rests on sessions alone.
+// A lent table is a slice of session records. `load` tests that there are 17; each other function asks for it, and its caller tests it. What is loaded is the
+// records as they stand; what is stored is what was passed, and no other record changes. It rests on sessions alone.
 #![tactic(auto)]
 
 ghost use Rattle.std.specs.Prelude.{◌≡◌, None, IfSome, length, set};

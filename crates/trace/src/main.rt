@@ -4,27 +4,45 @@
 // cannot be written, it says so on standard error, with the system's reason, and stops.
 #![tactic(auto)]
 
+use arrayvec::ArrayString;
 use failures::Failure;
 use scripts::text::Told;
+use std::fmt::Write;
 use std::io::Read;
 use tracing::{LIST, STORE, Script};
 
-fn show(rt: &impl Print, told: Option<Told<'_>>) -> Result<(), Failure> {
-    match told {
-        Some(told) => rt.println(told).map_err(Failure::Output),
-        None => Ok(()),
-    }
+// Room for the longest line: a number of 20 digits, a word, two numbers, 512 pairs of at most 22 bytes.
+type Text = ArrayString<16384>;
+
+// Writes what was told, each line at once, however long it is.
+fn show(rt: &impl Print, text: &mut Text, told: Option<Told<'_>>) -> Result<(), Failure> {
+    let Some(told) = told else {
+        return Ok(());
+    };
+    text.clear();
+    let _ = text.writeln(told);
+    rt.write_all(text.as_str().as_bytes())
+        .map_err(Failure::Output)
 }
 
-fn play(rt: &impl Print, script: &mut Script<'_>, bytes: &[u8]) -> Result<(), Failure> {
+fn play(
+    rt: &impl Print,
+    store: &mut [u32],
+    list: &mut [u32],
+    text: &mut Text,
+    script: &mut Script,
+    bytes: &[u8],
+) -> Result<(), Failure> {
     for byte in bytes {
-        show(rt, script.read_byte(*byte))?;
+        show(rt, text, script.read_byte(store, list, *byte))?;
     }
     Ok(())
 }
 
 // Nothing says that the input ends, so the reads are counted, up to a number that no run uses up.
-fn play_all(rt: &(impl Input + Print), script: &mut Script<'_>) -> Result<(), Failure> {
+fn play_all(rt: &(impl Input + Print), store: &mut [u32], list: &mut [u32]) -> Result<(), Failure> {
+    let mut script = Script::start(store);
+    let mut text = Text::new();
     let mut reader = rt.reader();
     let mut buf = [0u8; 4096];
     for _ in 0..u64::MAX {
@@ -32,16 +50,15 @@ fn play_all(rt: &(impl Input + Print), script: &mut Script<'_>) -> Result<(), Fa
         if n == 0 {
             break;
         }
-        play(rt, script, &buf[..n])?;
+        play(rt, store, list, &mut text, &mut script, &buf[..n])?;
     }
-    show(rt, script.read_end())
+    show(rt, &mut text, script.read_end(store, list))
 }
 
 fn main(rt: HostRuntime) {
     let mut store = [0; STORE];
     let mut list = [0; LIST];
-    let mut script = Script::start(&mut store, &mut list);
-    if let Err(failure) = play_all(&rt, &mut script) {
+    if let Err(failure) = play_all(&rt, &mut store, &mut list) {
         let _ = eprintln!(rt; "trace: {failure}");
     }
 }

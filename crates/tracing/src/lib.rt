@@ -28,26 +28,22 @@ pub const LIST: usize = 1024;
 
 pub const ENTRIES: u32 = 16;
 
-// A script so far: the store and the list that its calls are lent, the session table, the line in hand, and how many lines have ended.
-#[derive(Drop)]
-pub struct Script<'a> {
-    pub store: &'a mut [u32],
-    pub list: &'a mut [u32],
+// A script so far: the session table, the line in hand, and how many lines have ended. Its store and its list are lent to each call, so that it can be copied.
+#[derive(Clone, Copy)]
+pub struct Script {
     pub table: [Session; PARTIES],
     pub line: Line,
     pub number: u64,
 }
 
-impl<'a> Script<'a> {
+impl Script {
     // A script at its start, over a store that is formatted for it.
-    pub fn start(store: &'a mut [u32], list: &'a mut [u32]) -> Self
+    pub fn start(store: &mut [u32]) -> Self
         ensures { result.number ≡ 0 }
     {
         let formatted = calls::format(store, [fresh_session(); PARTIES], ENTRIES);
         let table = formatted.table;
         Script {
-            store,
-            list,
             table,
             line: Line::new(),
             number: 0,
@@ -55,36 +51,46 @@ impl<'a> Script<'a> {
     }
 
     // Reads a byte of the script. If it ends a line that is told, this is what it tells.
-    pub fn read_byte(&mut self, byte: u8) -> Option<Told<'_>>
+    pub fn read_byte<'a>(
+        &mut self,
+        store: &mut [u32],
+        list: &'a mut [u32],
+        byte: u8,
+    ) -> Option<Told<'a>>
         ensures { byte ≢ 10 → IsNone result }
     {
         if byte == b'\n' {
-            return self.read_end();
+            return self.read_end(store, list);
         }
         self.line.push(byte);
         None
     }
 
     // The script is at its end: a last line that has no line end is played too.
-    pub fn read_end(&mut self) -> Option<Told<'_>> {
+    pub fn read_end<'a>(&mut self, store: &mut [u32], list: &'a mut [u32]) -> Option<Told<'a>> {
         let line = mem::replace(&mut self.line, Line::new());
         let number = self.number.saturating_add(1);
         self.number = number;
         let outcome = match line.command() {
             Ok(None) => return None,
-            Ok(Some(command)) => self.play(command),
+            Ok(Some(command)) => self.play(store, list, command),
             Err(_) => Outcome::Malformed,
         };
         Some(Told { number, outcome })
     }
 
-    fn play(&mut self, command: Command) -> Outcome<'_> {
+    fn play<'a>(
+        &mut self,
+        store: &mut [u32],
+        list: &'a mut [u32],
+        command: Command,
+    ) -> Outcome<'a> {
         let is_locate = has_locate(&self.table, command);
-        let served = served(self.store, self.list, self.table, command);
+        let served = served(store, list, self.table, command);
         let table = served.table;
         self.table = table;
         if is_locate {
-            Outcome::Located(served.answer, self.list)
+            Outcome::Located(served.answer, list)
         } else {
             Outcome::Answered(served.answer)
         }

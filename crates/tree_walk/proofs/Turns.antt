@@ -10,46 +10,39 @@ use borrow.Author.Tests.{eq-eqb, ne_eqb, le-leb, lt-leb, leb-true, le-ltb, lt-lt
 use Rattle.words.specs.Header.{header_word, root_place, height_place, first_place}
 use Rattle.nodes.specs.declared.Node.{Node}
 use Rattle.nodes.specs.Node.{node_at}
-use Rattle.std.specs.Prelude.{Option, Some, None}
-use Rattle.std.proofs.lemmas.Option.{none-some, cond_some}
+use Rattle.std.specs.Prelude.{Result, Ok, Err}
 use Rattle.marks.specs.Marks.{Visit, start, meet, Met, node_mark, descriptor_mark}
-use Rattle.marks.specs.Steps.{both}
-use Rattle.marks.specs.Trail.{visit-as, visit-none}
+use Rattle.marks.specs.Steps.{both, err-ok}
+use Rattle.marks.specs.Trail.{ok-of, err-of, visit-as, visit-err}
 use Rattle.tree_walk.specs.declared.Walk.{Walk}
-use Rattle.tree_walk.specs.TreeWalk.{Stand, going, walk_if, Tour, tour, Toured, then_tour, stop, top_of, least_of, leaf_words, met_walk, leaf_met, leaf_tour, leaves_from, raise, sons_from, count_latch, fanout_ok, inside, entered_as, enter_tour, Entered, into, tree_from, end_tour, start_walk, root_tour}
+use Rattle.tree_walk.specs.TreeWalk.{Stand, going, walk_of, walk_if, Tour, tour, Toured, then_tour, stop, top_of, least_of, leaf_words, met_walk, leaf_met, leaf_tour, leaves_from, raise, sons_from, count_latch, fanout_ok, inside, entered_as, enter_tour, Entered, into, tree_from, end_tour, start_walk, root_tour}
 
-pub to-tour : {u v : Tour} {o : Option Walk} {seen order : List ℕ} → Toured u o seen order → v ≡ u → Toured v o seen order
+pub to-tour : {u v : Tour} {o : Result Walk Walk} {seen order : List ℕ} → Toured u o seen order → v ≡ u → Toured v o seen order
 to-tour t e = rw e t
 
+-- a walk of these words, in order or not
+abbrev pub stood : Bool → Walk → Stand
+stood b w = record { ok = b; left = w.left; latches = w.latches; next = w.next; count = w.count; low = w.low }
+
 -- what an answer tells of the walk
-some-walk : (x : Stand) {o : Option Walk} (w : Walk) → o ≡ walk_if x → o ≡ Some w → x ≡ going w
-some-walk x {o} w e h =
-    let c = cond_some x.ok (record { left = x.left; latches = x.latches; next = x.next; count = x.count; low = x.low }) w (sym e ∙ h) in
-    ap (λ (b : Bool). of b (record { left = x.left; latches = x.latches; next = x.next; count = x.count; low = x.low })) c.0 ∙ ap (of true) c.1
-  where
-    of : Bool → Walk → Stand
-    of b w = record { ok = b; left = w.left; latches = w.latches; next = w.next; count = w.count; low = w.low }
+ok-walk : (x : Stand) {o : Result Walk Walk} (w : Walk) → o ≡ walk_if x → o ≡ Ok w → x ≡ going w
+ok-walk x w e h = let c = ok-of x.ok (walk_of x) w e h in ap (λ (b : Bool). stood b (walk_of x)) c.0 ∙ ap (stood true) c.1
 
-none-walk : (x : Stand) {o : Option Walk} → o ≡ walk_if x → o ≡ None → x.ok ≡ false
-none-walk x {o} e h = at x.ok _ (sym h ∙ e)
-  where
-    at : (b : Bool) (w : Walk) → None ≡ cond b (Some w) None → b ≡ false
-    at true w q = absurd (none-some w q)
-    at false w q = refl
+err-walk : (x : Stand) {o : Result Walk Walk} (w : Walk) → o ≡ walk_if x → o ≡ Err w → x ≡ stood false w
+err-walk x w e h = let c = err-of x.ok (walk_of x) w e h in ap (λ (b : Bool). stood b (walk_of x)) c.0 ∙ ap (stood false) c.1
 
-pub toured-as : {v : Tour} {o : Option Walk} {seen order : List ℕ} (w : Walk) → Toured v o seen order → o ≡ Some w → v ≡ tour (going w) seen order
-toured-as {v} w t h =
-    ap (λ (x : Stand). tour x v.seen v.order) (some-walk v.walk w t.walk h)
-    ∙ ap (λ (x : List ℕ). tour (going w) x v.order) (sym t.marks) ∙ ap (tour (going w) _) (sym t.noted)
+as-tour : {v : Tour} {o : Result Walk Walk} {seen order : List ℕ} (x : Stand) → Toured v o seen order → v.walk ≡ x → v ≡ tour x seen order
+as-tour {v} x t h =
+    ap (λ (y : Stand). tour y v.seen v.order) h ∙ ap (λ (y : List ℕ). tour x y v.order) (sym t.marks) ∙ ap (tour x _) (sym t.noted)
 
-pub toured-off : {v : Tour} {o : Option Walk} {seen order : List ℕ} → Toured v o seen order → o ≡ None → v.walk.ok ≡ false
-toured-off {v} t h = none-walk v.walk t.walk h
+pub toured-as : {v : Tour} {o : Result Walk Walk} {seen order : List ℕ} (w : Walk) → Toured v o seen order → o ≡ Ok w → v ≡ tour (going w) seen order
+toured-as {v} w t h = as-tour (going w) t (ok-walk v.walk w t.walk h)
 
-as-none : {v : Tour} {o : Option Walk} {seen order : List ℕ} → Toured v o seen order → o ≡ None → Toured v None seen order
-as-none t h = record { walk = sym h ∙ t.walk; marks = t.marks; noted = t.noted }
+pub toured-off : {v : Tour} {o : Result Walk Walk} {seen order : List ℕ} (w : Walk) → Toured v o seen order → o ≡ Err w → v ≡ tour (stood false w) seen order
+toured-off {v} w t h = as-tour (stood false w) t (err-walk v.walk w t.walk h)
 
--- a walk that is so, and one that is stopped
-from-walk : {v : Tour} {o : Option Walk} {seen order : List ℕ} (x : Stand) → v ≡ tour x seen order → o ≡ walk_if x → Toured v o seen order
+-- a walk that is so, one that is not in order, and one that is stopped
+from-walk : {v : Tour} {o : Result Walk Walk} {seen order : List ℕ} (x : Stand) → v ≡ tour x seen order → o ≡ walk_if x → Toured v o seen order
 from-walk x e h =
     record {
       walk = h ∙ ap (λ (t : Tour). walk_if t.walk) (sym e);
@@ -57,7 +50,10 @@ from-walk x e h =
       noted = ap (λ (t : Tour). t.order) (sym e);
     }
 
-from-stop : {v : Tour} {seen order : List ℕ} (x : Stand) → v ≡ tour (stop x) seen order → Toured v None seen order
+from-off : {v : Tour} {seen order : List ℕ} (w : Walk) → v ≡ tour (stood false w) seen order → Toured v (Err w) seen order
+from-off w e = from-walk (stood false w) e refl
+
+from-stop : {v : Tour} {seen order : List ℕ} (x : Stand) → v ≡ tour (stop x) seen order → Toured v (Err (walk_of x)) seen order
 unfolding stop
 from-stop x e = from-walk (stop x) e refl
 
@@ -95,18 +91,18 @@ module _ {whole : Tour} {s : List ℕ} {m r : ℕ} {n : Node} {hi k : ℕ} {t : 
       ap (λ (x : Tour). then_tour x (leaves_from s m r n hi (k + 1) (rest - 1))) e
       ∙ ap (λ (j : ℕ). leaves_from s m r n hi k j t) (sym (one_less rest h)) ∙ g.is
 
-  pub leaf-stop : {rest i least top : ℕ} {o : Option Walk} {seen' order' : List ℕ} → Touring whole s m r n hi k rest t → 0 < rest
+  pub leaf-stop : {rest i least top : ℕ} {o : Result Walk Walk} {seen' order' : List ℕ} (v : Walk) → Touring whole s m r n hi k rest t → 0 < rest
       → i ≡ get_or n.sons k 0 → least ≡ least_of n k → top ≡ top_of n k hi → Toured (leaf_tour s m r i least top t) o seen' order'
-      → o ≡ None → Toured whole None seen' order'
-  leaf-stop g h ei el et q o = to-tour (as-none q o) (sym (simp (toured-off q o) at (turn-as g h ei el et refl)))
+      → o ≡ Err v → Toured whole (Err v) seen' order'
+  leaf-stop v g h ei el et q e = from-off v (sym (turn-as g h ei el et (toured-off v q e)))
 
-  pub leaf-more : {rest rest' i least top : ℕ} {o : Option Walk} {seen' order' : List ℕ} (v : Walk) → Touring whole s m r n hi k rest t → 0 < rest
+  pub leaf-more : {rest rest' i least top : ℕ} {o : Result Walk Walk} {seen' order' : List ℕ} (v : Walk) → Touring whole s m r n hi k rest t → 0 < rest
       → i ≡ get_or n.sons k 0 → least ≡ least_of n k → top ≡ top_of n k hi → Toured (leaf_tour s m r i least top t) o seen' order'
-      → o ≡ Some v → rest' ≡ rest - 1 → Touring whole s m r n hi (k + 1) rest' (tour (going v) seen' order')
+      → o ≡ Ok v → rest' ≡ rest - 1 → Touring whole s m r n hi (k + 1) rest' (tour (going v) seen' order')
   leaf-more {rest} {rest'} {i} {least} {top} {o} {seen'} {order'} v g h ei el et q e z =
       record { is = ap (λ (j : ℕ). leaves_from s m r n hi (k + 1) j (tour (going v) seen' order')) z ∙ turn-as g h ei el et (toured-as v q e) }
 
-  pub leaf-end : {rest : ℕ} {w : Walk} {seen order : List ℕ} → Touring whole s m r n hi k rest t → t ≡ tour (going w) seen order → rest ≡ 0 → Toured whole (Some w) seen order
+  pub leaf-end : {rest : ℕ} {w : Walk} {seen order : List ℕ} → Touring whole s m r n hi k rest t → t ≡ tour (going w) seen order → rest ≡ 0 → Toured whole (Ok w) seen order
   unfolding leaves_from
   leaf-end {rest} {w} g q e = from-walk (going w) (sym g.is ∙ ap (λ (j : ℕ). leaves_from s m r n hi k j t) e ∙ q) refl
 
@@ -124,12 +120,12 @@ module _ {whole : Tour} {f : ℕ → ℕ → Tour → Tour} {n : Node} {hi k : �
       ∙ ap (λ (y : ℕ). then_tour (f (get_or n.sons k 0) y t) (λ u. sons_from f n hi (k + 1) (rest - 1) (tour (raise u.walk y) u.seen u.order))) et
       ∙ ap (λ (j : ℕ). sons_from f n hi k j t) (sym (one_less rest h)) ∙ g.is
 
-  pub son-stop : {rest i top : ℕ} {o : Option Walk} {seen' order' : List ℕ} → Sonning whole f n hi k rest t → 0 < rest
-      → i ≡ get_or n.sons k 0 → top ≡ top_of n k hi → Toured (f i top t) o seen' order' → o ≡ None → Toured whole None seen' order'
-  son-stop g h ei et q o = to-tour (as-none q o) (sym (simp (toured-off q o) at (son-as g h ei et refl)))
+  pub son-stop : {rest i top : ℕ} {o : Result Walk Walk} {seen' order' : List ℕ} (v : Walk) → Sonning whole f n hi k rest t → 0 < rest
+      → i ≡ get_or n.sons k 0 → top ≡ top_of n k hi → Toured (f i top t) o seen' order' → o ≡ Err v → Toured whole (Err v) seen' order'
+  son-stop v g h ei et q e = from-off v (sym (son-as g h ei et (toured-off v q e)))
 
-  pub son-more : {rest rest' i top : ℕ} {o : Option Walk} {u : Walk} {seen' order' : List ℕ} (v : Walk) → Sonning whole f n hi k rest t → 0 < rest
-      → i ≡ get_or n.sons k 0 → top ≡ top_of n k hi → Toured (f i top t) o seen' order' → o ≡ Some v → rest' ≡ rest - 1 → going u ≡ raise (going v) top
+  pub son-more : {rest rest' i top : ℕ} {o : Result Walk Walk} {u : Walk} {seen' order' : List ℕ} (v : Walk) → Sonning whole f n hi k rest t → 0 < rest
+      → i ≡ get_or n.sons k 0 → top ≡ top_of n k hi → Toured (f i top t) o seen' order' → o ≡ Ok v → rest' ≡ rest - 1 → going u ≡ raise (going v) top
       → Sonning whole f n hi (k + 1) rest' (tour (going u) seen' order')
   son-more {rest} {rest'} {i} {top} {o} {u} {seen'} {order'} v g h ei et q y z e =
       record {
@@ -137,21 +133,22 @@ module _ {whole : Tour} {f : ℕ → ℕ → Tour → Tour} {n : Node} {hi k : �
             ∙ ap (λ (x : Stand). sons_from f n hi (k + 1) (rest - 1) (tour x seen' order')) e ∙ son-as g h ei et (toured-as v q y);
       }
 
-  pub son-end : {rest : ℕ} {w : Walk} {seen order : List ℕ} → Sonning whole f n hi k rest t → t ≡ tour (going w) seen order → rest ≡ 0 → Toured whole (Some w) seen order
+  pub son-end : {rest : ℕ} {w : Walk} {seen order : List ℕ} → Sonning whole f n hi k rest t → t ≡ tour (going w) seen order → rest ≡ 0 → Toured whole (Ok w) seen order
   unfolding sons_from
   son-end {rest} {w} g q e = from-walk (going w) (sym g.is ∙ ap (λ (j : ℕ). sons_from f n hi k j t) e ∙ q) refl
 
-module _ (r i : ℕ) (w : Walk) (seen : List ℕ) {c : Option ℕ} {seen' : List ℕ} (k : Met r i w.left (meet r node_mark (start w.left seen) i) c seen') where
-  pub entered-not : c ≡ None → Entered r i (enter_tour r i (going w) seen) None seen'
+module _ (r i : ℕ) (w : Walk) (seen : List ℕ) {c : Result ℕ ℕ} {seen' : List ℕ} (k : Met r i w.left (meet r node_mark (start w.left seen) i) c seen') where
+  pub entered-not : (n : ℕ) → c ≡ Err n
+      → Entered r i (enter_tour r i (going w) seen) (Err (record { left = n; latches = w.latches; next = w.next; count = w.count; low = w.low })) seen'
   unfolding enter_tour entered_as
-  entered-not o = record {
-    walk = simp (ap (λ (v : Visit). v.ok) (visit-none k.says o));
+  entered-not n o = record {
+    walk = ap (λ (v : Visit). walk_if (entered_as (going w) v)) (sym (visit-err k.says o));
     marks = k.says.marks;
-    inside = λ v e. absurd (none-some v e);
+    inside = λ v e. absurd (err-ok e);
   }
 
-  pub entered : (n : ℕ) → c ≡ Some n
-      → Entered r i (enter_tour r i (going w) seen) (Some (record { left = n; latches = w.latches; next = w.next; count = w.count; low = w.low })) seen'
+  pub entered : (n : ℕ) → c ≡ Ok n
+      → Entered r i (enter_tour r i (going w) seen) (Ok (record { left = n; latches = w.latches; next = w.next; count = w.count; low = w.low })) seen'
   unfolding enter_tour entered_as
   entered n o = record {
     walk = ap (λ (v : Visit). walk_if (entered_as (going w) v)) (sym (visit-as k.says o));
@@ -160,20 +157,20 @@ module _ (r i : ℕ) (w : Walk) (seen : List ℕ) {c : Option ℕ} {seen' : List
   }
 
 module _ (s : List ℕ) (m r i least top : ℕ) (w : Walk) (seen order : List ℕ) where
-  pub leaf-off : (i ≡ w.next → ⊥) → Toured (leaf_tour s m r i least top (tour (going w) seen order)) None seen order
+  pub leaf-off : (i ≡ w.next → ⊥) → Toured (leaf_tour s m r i least top (tour (going w) seen order)) (Err w) seen order
   unfolding leaf_tour
   leaf-off ne = from-stop (going w) (simp (ne_eqb i w.next ne))
 
-  pub leaf-full : i ≡ w.next → 4096 < w.count → Toured (leaf_tour s m r i least top (tour (going w) seen order)) None seen order
+  pub leaf-full : i ≡ w.next → 4096 < w.count → Toured (leaf_tour s m r i least top (tour (going w) seen order)) (Err w) seen order
   unfolding leaf_tour
   leaf-full q h = from-stop (going w) (simp (eq-eqb i w.next q, lt-leb w.count 4096 h))
 
-  module _ (q : i ≡ w.next) (h : w.count ≤ 4096) {c : Option ℕ} {seen' : List ℕ} (k : Met r i w.left (meet r descriptor_mark (start w.left seen) i) c seen') where
-    pub leaf-twice : c ≡ None → Toured (leaf_tour s m r i least top (tour (going w) seen order)) None seen' order
+  module _ (q : i ≡ w.next) (h : w.count ≤ 4096) {c : Result ℕ ℕ} {seen' : List ℕ} (k : Met r i w.left (meet r descriptor_mark (start w.left seen) i) c seen') where
+    pub leaf-twice : {n : ℕ} → c ≡ Err n → Toured (leaf_tour s m r i least top (tour (going w) seen order)) (Err w) seen' order
     unfolding leaf_tour leaf_met
-    leaf-twice o = from-stop (going w) (simp (eq-eqb i w.next q, le-leb w.count 4096 h, visit-none k.says o))
+    leaf-twice o = from-stop (going w) (simp (eq-eqb i w.next q, le-leb w.count 4096 h, visit-err k.says o))
 
-    pub leaf-met : {n : ℕ} {u : Walk} {o : Option Walk} → c ≡ Some n → going u ≡ met_walk (going w) n → o ≡ walk_if (leaf_words s m i least top (going u))
+    pub leaf-met : {n : ℕ} {u : Walk} {o : Result Walk Walk} → c ≡ Ok n → going u ≡ met_walk (going w) n → o ≡ walk_if (leaf_words s m i least top (going u))
         → Toured (leaf_tour s m r i least top (tour (going w) seen order)) o seen' (set order w.count i)
     unfolding leaf_tour leaf_met
     leaf-met o z e =
@@ -196,29 +193,27 @@ inside-good : (n : Node) (least : ℕ) (v : Stand) (seen order : List ℕ) → f
 unfolding inside
 inside-good n least v seen order f e g = simp (f, e)
 
-module _ (s : List ℕ) (m r : ℕ) (least i hi : ℕ) (w : Stand) (seen order : List ℕ) {o : Option Walk} {seen₁ : List ℕ} (k : Entered r i (enter_tour r i w seen) o seen₁) where
-  enter-off : o ≡ None → (g : Tour → Tour) → Toured (into (enter_tour r i w seen) order g) None seen₁ order
+module _ (s : List ℕ) (m r : ℕ) (least i hi : ℕ) (w : Stand) (seen order : List ℕ) {o : Result Walk Walk} {seen₁ : List ℕ} (k : Entered r i (enter_tour r i w seen) o seen₁) where
+  enter-off : (v : Walk) → o ≡ Err v → (g : Tour → Tour) → Toured (into (enter_tour r i w seen) order g) (Err v) seen₁ order
   unfolding into
-  enter-off h g =
-      to-tour {u = tour (enter_tour r i w seen).walk (enter_tour r i w seen).seen order} (record { walk = sym h ∙ k.walk; marks = k.marks; noted = refl })
-      (simp (none-walk (enter_tour r i w seen).walk k.walk h))
+  enter-off v h g = from-off v (rw (err-walk (enter_tour r i w seen).walk v k.walk h, ← k.marks) refl)
 
-  pub node-twice : (d : ℕ) → o ≡ None → Toured (tree_from s m r d least i hi (tour w seen order)) None seen₁ order
+  pub node-twice : (d : ℕ) (v : Walk) → o ≡ Err v → Toured (tree_from s m r d least i hi (tour w seen order)) (Err v) seen₁ order
   unfolding tree_from
-  node-twice zero h = enter-off h _
-  node-twice (suc d) h = enter-off h _
+  node-twice zero v h = enter-off v h _
+  node-twice (suc d) v h = enter-off v h _
 
-  module _ (v : Walk) (h : o ≡ Some v) {n : Node} (e : n ≡ node_at s m i) where
+  module _ (v : Walk) (h : o ≡ Ok v) {n : Node} (e : n ≡ node_at s m i) where
     enter-as : (g : Tour → Tour) → into (enter_tour r i w seen) order g ≡ g (tour (going v) seen₁ order)
     unfolding into
-    enter-as g = rw (some-walk (enter_tour r i w seen).walk v k.walk h, ← k.marks) refl
+    enter-as g = rw (ok-walk (enter_tour r i w seen).walk v k.walk h, ← k.marks) refl
 
-    pub node-fanout : (d : ℕ) → fanout_ok n least ≡ false → Toured (tree_from s m r d least i hi (tour w seen order)) None seen₁ order
+    pub node-fanout : (d : ℕ) → fanout_ok n least ≡ false → Toured (tree_from s m r d least i hi (tour w seen order)) (Err v) seen₁ order
     unfolding tree_from
     node-fanout zero f = from-stop (going v) (enter-as _ ∙ rw (← e) (inside-bad _ _ _ _ _ f _))
     node-fanout (suc d) f = from-stop (going v) (enter-as _ ∙ rw (← e) (inside-bad _ _ _ _ _ f _))
 
-    module _ (f : fanout_ok n least ≡ true) {u : Walk} (z : going u ≡ count_latch n (going v)) {d : ℕ} {x : Option Walk} {seen₂ order₂ : List ℕ} where
+    module _ (f : fanout_ok n least ≡ true) {u : Walk} (z : going u ≡ count_latch n (going v)) {d : ℕ} {x : Result Walk Walk} {seen₂ order₂ : List ℕ} where
       pub node-lowest : d ≡ 0 → Toured (leaves_from s m r n hi 0 n.count (tour (going u) seen₁ order)) x seen₂ order₂
           → Toured (tree_from s m r d least i hi (tour w seen order)) x seen₂ order₂
       unfolding tree_from
@@ -255,35 +250,32 @@ module _ (s : List ℕ) (m r : ℕ) (seen order : List ℕ) {root height first :
   unfolding root_tour tall
   root-tall h = rw (← eh, h, ← ef, ← ew, ← er) refl
 
-  pub root_none : height ≡ 0 → Toured (root_tour s m r seen order) None seen order
+  pub root_none : height ≡ 0 → Toured (root_tour s m r seen order) (Err (walk_of w)) seen order
   unfolding tall
   root_none h = from-stop w (root-flat (simp (eq-eqb height 0 h)))
 
-  pub root-high : (height ≡ 0 → ⊥) → 8 < height → Toured (root_tour s m r seen order) None seen order
+  pub root-high : (height ≡ 0 → ⊥) → 8 < height → Toured (root_tour s m r seen order) (Err (walk_of w)) seen order
   unfolding tall
   root-high n h = from-stop w (root-flat (simp (ne_eqb height 0 n, lt-leb height 8 h)))
 
-  module _ (n : height ≡ 0 → ⊥) (h : height ≤ 8) {o : Option Walk} {seen' order' : List ℕ} (q : Toured (tree_from s m r (height - 1) 1 root 4294967294 (tour w seen order)) o seen' order') where
+  module _ (n : height ≡ 0 → ⊥) (h : height ≤ 8) {o : Result Walk Walk} {seen' order' : List ℕ} (q : Toured (tree_from s m r (height - 1) 1 root 4294967294 (tour w seen order)) o seen' order') where
     root-end : {v : Tour} → tree_from s m r (height - 1) 1 root 4294967294 (tour w seen order) ≡ v → root_tour s m r seen order ≡ end_tour v
     unfolding tall
     root-end e = root-tall (simp (ne_eqb height 0 n, le-leb height 8 h)) ∙ ap end_tour e
 
-    -- a walk that is not in order has not ended in order
-    end-off : (v : Tour) → Toured v o seen' order' → o ≡ None → Toured (end_tour v) None seen' order'
+    -- a walk that is not in order stands so at its end, whatever the chain names
+    pub root-broken : (v : Walk) → o ≡ Err v → Toured (root_tour s m r seen order) (Err v) seen' order'
     unfolding end_tour stop
-    end-off v t e = at (eqb v.walk.next 0)
+    root-broken v e = from-off v (root-end (toured-off v q e) ∙ at (eqb v.next 0))
       where
-        at : (b : Bool) → Toured (cond b v (tour (stop v.walk) v.seen v.order)) None seen' order'
-        at true = as-none t e
-        at false = record { walk = refl; marks = t.marks; noted = t.noted }
+        at : (b : Bool) → cond b (tour (stood false v) seen' order') (tour (stood false v) seen' order') ≡ tour (stood false v) seen' order'
+        at true = refl
+        at false = refl
 
-    pub root-broken : o ≡ None → Toured (root_tour s m r seen order) None seen' order'
-    root-broken e = to-tour (end-off _ q e) (root-end refl)
-
-    pub root-open : (v : Walk) → o ≡ Some v → (v.next ≡ 0 → ⊥) → Toured (root_tour s m r seen order) None seen' order'
+    pub root-open : (v : Walk) → o ≡ Ok v → (v.next ≡ 0 → ⊥) → Toured (root_tour s m r seen order) (Err v) seen' order'
     unfolding end_tour
     root-open v e z = from-stop (going v) (root-end (toured-as v q e) ∙ simp (ne_eqb v.next 0 z))
 
-    pub root-done : (v : Walk) → o ≡ Some v → v.next ≡ 0 → Toured (root_tour s m r seen order) (Some v) seen' order'
+    pub root-done : (v : Walk) → o ≡ Ok v → v.next ≡ 0 → Toured (root_tour s m r seen order) (Ok v) seen' order'
     unfolding end_tour
     root-done v e z = from-walk (going v) (root-end (toured-as v q e) ∙ simp (eq-eqb v.next 0 z)) refl

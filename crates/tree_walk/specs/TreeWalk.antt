@@ -1,6 +1,6 @@
 -- A walk of the tree that meets each node and descriptor once, checks fanout, boundaries, keys and the chain of descriptors, counts the
 -- latched nodes, and notes the descriptors in the order of their keys.
-use Rattle.std.specs.Prelude.{◌≡◌, Option, Some, None, List, Bool, true, false, cond, not, ◌&&◌, ℕ, zero, suc, ◌+◌, ◌-◌, ◌≤◌, eqb, ltb, leb, get_or, set}
+use Rattle.std.specs.Prelude.{◌≡◌, Result, Ok, Err, List, Bool, true, false, cond, not, ◌&&◌, ℕ, zero, suc, ◌+◌, ◌-◌, ◌≤◌, eqb, ltb, leb, get_or, set}
 use Rattle.words.specs.Header.{header_word, root_place, height_place, first_place}
 use Rattle.nodes.specs.Node.{node_at}
 use Rattle.nodes.specs.declared.Node.{Node}
@@ -18,12 +18,17 @@ pub record Stand : Type 0 where
   pub count : ℕ
   pub low : ℕ
 
--- a walk that is in order so far, and what a function answers: such a walk, if it is
+-- a walk that is in order so far
 abbrev pub going : Walk → Stand
 going w = record { ok = true; left = w.left; latches = w.latches; next = w.next; count = w.count; low = w.low }
 
-abbrev pub walk_if : Stand → Option Walk
-walk_if w = cond w.ok (Some (record { left = w.left; latches = w.latches; next = w.next; count = w.count; low = w.low })) None
+-- a walk's words, whether it is in order or not
+abbrev pub walk_of : Stand → Walk
+walk_of w = record { left = w.left; latches = w.latches; next = w.next; count = w.count; low = w.low }
+
+-- what a function answers: a walk's words, as Ok if it is in order, and as Err if not
+abbrev pub walk_if : Stand → Result Walk Walk
+walk_if w = cond w.ok (Ok (walk_of w)) (Err (walk_of w))
 
 -- a walk with its marks, and the records of the descriptors in order so far
 pub record Tour : Type 0 where
@@ -35,7 +40,7 @@ abbrev pub tour : Stand → List ℕ → List ℕ → Tour
 tour w seen order = record { walk = w; seen = seen; order = order }
 
 -- what a function answers and leaves is what the walk says
-pub record Toured (v : Tour) (w : Option Walk) (seen order : List ℕ) : Type 0 where
+pub record Toured (v : Tour) (w : Result Walk Walk) (seen order : List ℕ) : Type 0 where
   pub walk : w ≡ walk_if v.walk
   pub marks : seen ≡ v.seen
   pub noted : order ≡ v.order
@@ -139,10 +144,10 @@ enter_tour r i w seen =
     record { walk = entered_as w (meet r node_mark (start w.left seen) i); seen = (meet r node_mark (start w.left seen) i).seen }
 
 -- what a function answers and leaves is what entering says, with what is known of a record that was met
-pub record Entered (r i : ℕ) (e : Enter) (w : Option Walk) (seen : List ℕ) : Type 0 where
+pub record Entered (r i : ℕ) (e : Enter) (w : Result Walk Walk) (seen : List ℕ) : Type 0 where
   pub walk : w ≡ walk_if e.walk
   pub marks : seen ≡ e.seen
-  pub inside : (v : Walk) → w ≡ Some v → (1 ≤ i) × (i ≤ r)
+  pub inside : (v : Walk) → w ≡ Ok v → (1 ≤ i) × (i ≤ r)
 
 unfoldable pub into : Enter → List ℕ → (Tour → Tour) → Tour
 into e order g = then_tour (tour e.walk e.seen order) g

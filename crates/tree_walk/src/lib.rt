@@ -1,10 +1,10 @@
 // Tree walk: the tree is whole. Each node and descriptor is met once, all descriptors are at one depth, keys rise and are chained in
 // that order, boundaries separate sons, and each node has as many sons as it may.
 //
-// One walk from the root does all of it, and answers None where the tree is not whole. It counts the latched nodes on its way, for the comparison with the parties at nodes, and notes
-// the descriptors in the order of their keys, for the walk of the groups. The depth of a node says whether its sons are nodes or
-// descriptors. Each function's result, and what it leaves, EQUAL a definition of specs/TreeWalk. It rests on the crates words, kinds, nodes,
-// groups and marks.
+// One walk from the root does all of it, and answers Err with the walk as it stood where the tree is not whole. It counts the latched nodes
+// on its way, for the comparison with the parties at nodes, and notes the descriptors in the order of their keys, for the walk of the
+// groups. The depth of a node says whether its sons are nodes or descriptors. Each function's result, and what it leaves, EQUAL a definition
+// of specs/TreeWalk. It rests on the crates words, kinds, nodes, groups and marks.
 #![tactic(auto)]
 
 ghost use Rattle.std.specs.Prelude.{◌≡◌, ◌≤◌, ◌<◌, length};
@@ -15,8 +15,9 @@ use kinds::Record;
 use marks::{Mark, Records};
 use nodes::Node;
 
-// A walk that is in order so far: how many records may still be met, how many nodes are latched, the record of the descriptor
-// that the chain names next, how many descriptors were met, and the lowest key that the next may have.
+// A walk: how many records may still be met, how many nodes are latched, the record of the descriptor that the chain names next, how many
+// descriptors were met, and the lowest key that the next may have. A function answers it as Ok if it is in order so far, and if not, as Err,
+// as it stood when it was refused.
 #[derive(Clone, Copy)]
 pub struct Walk {
     pub left: usize,
@@ -29,22 +30,29 @@ pub struct Walk {
 // ---- descriptors
 
 // Descriptor i's key is above the one before it, and from least to top; the chain goes on behind it.
-fn leaf_words(store: &[u32], m: usize, i: usize, least: usize, top: usize, w: Walk) -> Option<Walk>
+fn leaf_words(
+    store: &[u32],
+    m: usize,
+    i: usize,
+    least: usize,
+    top: usize,
+    w: Walk,
+) -> Result<Walk, Walk>
     requires { HasRecord store.now m i × (w.count ≤ 4096) }
     ensures { result ≡ walk_if (leaf_words store.now m i least top (going w)) }
 {
     let key = groups::descriptor_key(store, m, i) as usize;
     if key < w.low {
-        return None;
+        return Err(w);
     }
     if key < least {
-        return None;
+        return Err(w);
     }
     if top < key {
-        return None;
+        return Err(w);
     }
     let next = groups::descriptor_next(store, m, i) as usize;
-    Some(Walk {
+    Ok(Walk {
         next,
         count: w.count + 1,
         low: key + 1,
@@ -61,19 +69,21 @@ fn walk_leaf(
     least: usize,
     top: usize,
     w: Walk,
-) -> Option<Walk>
+) -> Result<Walk, Walk>
     requires { (records.r < length seen.old) × (length order.old ≡ 4097) }
     ensures { Toured (leaf_tour records.entry.store.now records.entry.m records.entry.r i least top (tour (going w) seen.old order.old)) result seen.new order.new }
 {
     let Records { store, m, r } = records;
     if i != w.next {
-        return None;
+        return Err(w);
     }
     let k = w.count;
     if 4096 < k {
-        return None;
+        return Err(w);
     }
-    let left = Mark::Descriptor.meet(seen, r, i, w.left)?;
+    let Ok(left) = Mark::Descriptor.meet(seen, r, i, w.left) else {
+        return Err(w);
+    };
     order[k] = i as u16;
     leaf_words(store, m, i, least, top, Walk { left, ..w })
 }
@@ -86,7 +96,7 @@ fn walk_leaves(
     n: Node,
     hi: usize,
     w: Walk,
-) -> Option<Walk>
+) -> Result<Walk, Walk>
     requires { (records.r < length seen.old) × (length order.old ≡ 4097) × (hi < 4294967296) × (n.count ≤ 8) }
     ensures { Toured (leaves_from records.entry.store.now records.entry.m records.entry.r n hi 0 n.count (tour (going w) seen.old order.old)) result seen.new order.new }
 {
@@ -104,7 +114,7 @@ fn walk_leaves(
         }
         v = walk_leaf(records, seen, order, i, least, top, v)?;
     }
-    Some(v)
+    Ok(v)
 }
 
 // ---- nodes
@@ -118,12 +128,14 @@ fn raised(w: Walk, top: usize) -> Walk
 }
 
 // Node i is met for the first time.
-fn enter_node(seen: &mut [u8], r: usize, i: usize, w: Walk) -> Option<Walk>
+fn enter_node(seen: &mut [u8], r: usize, i: usize, w: Walk) -> Result<Walk, Walk>
     requires { r < length seen.old }
     ensures { Entered r i (enter_tour r i (going w) seen.old) result seen.new }
 {
-    let left = Mark::Node.meet(seen, r, i, w.left)?;
-    Some(Walk { left, ..w })
+    match Mark::Node.meet(seen, r, i, w.left) {
+        Ok(left) => Ok(Walk { left, ..w }),
+        Err(left) => Err(Walk { left, ..w }),
+    }
 }
 
 // A node's latch, if it has one, is counted, to 4096.
@@ -164,7 +176,7 @@ fn walk_node(
     i: usize,
     hi: usize,
     w: Walk,
-) -> Option<Walk>
+) -> Result<Walk, Walk>
     requires { (records.r < length seen.old) × (length order.old ≡ 4097) × (hi < 4294967296) }
     ensures { Toured (tree_from records.entry.store.now records.entry.m records.entry.r depth least i hi (tour (going w) seen.old order.old)) result seen.new order.new }
 {
@@ -172,7 +184,7 @@ fn walk_node(
     let v = enter_node(seen, r, i, w)?;
     let n = Node::load(store, m, i);
     if !fanout_ok(n, least) {
-        return None;
+        return Err(v);
     }
     let u = count_latch(n, v);
     if depth == 0 {
@@ -191,7 +203,7 @@ fn walk_sons(
     n: Node,
     hi: usize,
     w: Walk,
-) -> Option<Walk>
+) -> Result<Walk, Walk>
     requires { (records.r < length seen.old) × (length order.old ≡ 4097) × (hi < 4294967296) × (n.count ≤ 8) }
     ensures { Toured (sons_from (tree_from records.entry.store.now records.entry.m records.entry.r depth 3) n hi 0 n.count (tour (going w) seen.old order.old)) result seen.new order.new }
 {
@@ -208,7 +220,7 @@ fn walk_sons(
         let u = walk_node(records, seen, order, depth, 3, i, top, v)?;
         v = raised(u, top);
     }
-    Some(v)
+    Ok(v)
 }
 
 // ---- the whole tree
@@ -228,7 +240,7 @@ fn starting(r: usize, first: usize) -> Walk
 
 // From the root, with 1 to 8 levels of nodes; the descriptors are chained from the header's first to the end, and their keys lie below
 // the upper infinity.
-pub fn walk_root(records: Records, seen: &mut [u8], order: &mut [u16]) -> Option<Walk>
+pub fn walk_root(records: Records, seen: &mut [u8], order: &mut [u16]) -> Result<Walk, Walk>
     requires { (records.r < length seen.old) × (length order.old ≡ 4097) }
     ensures { Toured (root_tour records.entry.store.now records.entry.m records.entry.r seen.old order.old) result seen.new order.new }
 {
@@ -238,14 +250,14 @@ pub fn walk_root(records: Records, seen: &mut [u8], order: &mut [u16]) -> Option
     let first = words::first(store) as usize;
     let w = starting(r, first);
     if height == 0 {
-        return None;
+        return Err(w);
     }
     if 8 < height {
-        return None;
+        return Err(w);
     }
     let v = walk_node(records, seen, order, height - 1, 1, root, 4294967294, w)?;
     if v.next != 0 {
-        return None;
+        return Err(v);
     }
-    Some(v)
+    Ok(v)
 }

@@ -107,7 +107,7 @@ fn file_undo(store: &[u32], files: &mut [u16], m: usize, i: usize)
     append(files, d, i);
 }
 
-// Session p's chain, from record first on: how many records may still be met, or None where the chain is not in order.
+// Session p's chain, from record first on: how many records may still be met, as Err where the chain is not in order.
 pub fn walk_undos(
     records: Records,
     seen: &mut [u8],
@@ -115,7 +115,7 @@ pub fn walk_undos(
     p: u32,
     first: usize,
     left: usize,
-) -> Option<usize>
+) -> Result<usize, usize>
     requires { (records.r < length seen.old) × (1 ≤ p) × (p ≤ 32) × Filing files.old }
     ensures { Ends _ (undos_from records.entry.store.now records.entry.m records.entry.r p seen.old files.old first left) result seen.new files.new }
 {
@@ -125,10 +125,10 @@ pub fn walk_undos(
     while i != 0 {
         more = Mark::Undo.meet(seen, r, i, more)?;
         if !undo_ok(records, seen, p, i) {
-            return None;
+            return Err(more);
         }
         file_undo(store, files, m, i);
         i = undos::undo_next(store, m, i) as usize;
     }
-    Some(more)
+    Ok(more)
 }

@@ -4,6 +4,8 @@
 // be read, or not whole, counts as a difference, and it says so on standard error.
 #![tactic(auto)]
 
+ghost use Rattle.std.specs.Prelude.{◌≤◌, ◌<◌, length, IfOk};
+
 mod expected;
 
 use expected::Expected;
@@ -16,8 +18,10 @@ use std::rt::{Env, Files};
 use std::{fmt, fs, io, str};
 use tracing::{LIST, STORE, Script};
 
-// The most bytes that a file may have.
+// The most bytes that a file may have, and room for one more.
 const LIMIT: usize = 65536;
+
+const ROOM: usize = LIMIT + 1;
 
 // Why a file was not read whole.
 #[derive(Debug, Drop)]
@@ -52,11 +56,11 @@ fn compare(expected: &mut Expected<'_>, told: Option<Told<'_>>) -> fmt::Result {
 fn play(script: &[u8], expected: &mut Expected<'_>) -> fmt::Result {
     let mut store = [0; STORE];
     let mut list = [0; LIST];
-    let mut player = Script::start(&mut store, &mut list);
+    let mut player = Script::start(&mut store);
     for byte in script {
-        compare(expected, player.read_byte(*byte))?;
+        compare(expected, player.read_byte(&mut store, &mut list, *byte))?;
     }
-    compare(expected, player.read_end())
+    compare(expected, player.read_end(&mut store, &mut list))
 }
 
 // Whether the script gives this text, no more and no less.
@@ -67,7 +71,9 @@ fn is_right(script: &[u8], wanted: &[u8]) -> bool {
 
 // Argument i, put at the start of buf. One that is missing, or has more bytes than buf, is empty. Arguments are read as bytes, since those of std are text,
 // and a file may have any name.
-fn arg<'a>(rt: &impl Env, i: usize, buf: &'a mut [u8]) -> &'a [u8] {
+fn arg<'a>(rt: &impl Env, i: usize, buf: &'a mut [u8]) -> &'a [u8]
+    ensures { length result.now ≤ length buf.old }
+{
     match rt.arg(i, buf) {
         Ok(n) => &buf[..n],
         Err(_) => &[],
@@ -85,23 +91,28 @@ fn arg_count(rt: &impl Env) -> usize {
     usize::MAX
 }
 
-// Reads the file at this path, and not more of it than the first byte that is too much.
-fn load<R: Files + AllocGlobal>(rt: &R, path: &str) -> Result<Vec<u8>, LoadError> {
-    let mut bytes = Vec::new(rt.alloc());
-    fs::open(rt, path)?
-        .take(LIMIT as u64 + 1)
-        .read_to_end(&mut bytes)?;
-    if bytes.len() > LIMIT {
-        return Err(LoadError::TooLong);
+// Reads the file at this path into the buffer, which has room for the first byte that is too much; what was read. A buffer on the stack and no Vec: the
+// program needs no heap.
+fn load<'a>(rt: &impl Files, path: &str, buf: &'a mut [u8]) -> Result<&'a [u8], LoadError>
+    ensures { IfOk result (λ bytes. length bytes.now < length buf.old) }
+{
+    let mut file = fs::open(rt, path)?;
+    let mut done = 0;
+    while done < buf.len() {
+        let n = file.read(&mut buf[done..])?;
+        if n == 0 {
+            return Ok(&buf[..done]);
+        }
+        done += n;
     }
-    Ok(bytes)
+    Err(LoadError::TooLong)
 }
 
 // Reads the file that argument i names. If it cannot, it says so on standard error. A name that is no text is that of no file.
-fn load_arg(rt: &(impl Env + Files + Eprint + AllocGlobal), i: usize) -> Option<Vec<u8>> {
+fn load_arg<'a>(rt: &(impl Env + Files + Eprint), i: usize, buf: &'a mut [u8]) -> Option<&'a [u8]> {
     let mut name = [0; 4096];
     let path = str::from_utf8(arg(rt, i, &mut name)).unwrap_or("");
-    match load(rt, path) {
+    match load(rt, path, buf) {
         Ok(bytes) => Some(bytes),
         Err(error) => {
             let _ = eprintln!(rt; "{path}: {error}");
@@ -111,11 +122,13 @@ fn load_arg(rt: &(impl Env + Files + Eprint + AllocGlobal), i: usize) -> Option<
 }
 
 // Plays the script that argument i names; whether its text is that of argument j.
-fn is_same(rt: &(impl Env + Files + Eprint + AllocGlobal), i: usize, j: usize) -> bool {
-    let script = load_arg(rt, i);
-    let wanted = load_arg(rt, j);
+fn is_same(rt: &(impl Env + Files + Eprint), i: usize, j: usize) -> bool {
+    let mut script = [0; ROOM];
+    let mut wanted = [0; ROOM];
+    let script = load_arg(rt, i, &mut script);
+    let wanted = load_arg(rt, j, &mut wanted);
     match (script, wanted) {
-        (Some(script), Some(wanted)) => is_right(script.as_slice(), wanted.as_slice()),
+        (Some(script), Some(wanted)) => is_right(script, wanted),
         _ => false,
     }
 }
@@ -127,7 +140,7 @@ fn tell(rt: &(impl Env + Print), i: usize, text: &str) {
 }
 
 // Plays the script that argument i names, and tells whether its text differs from that of argument j.
-fn differs(rt: &(impl Env + Files + Print + Eprint + AllocGlobal), i: usize, j: usize) -> bool {
+fn differs(rt: &(impl Env + Files + Print + Eprint), i: usize, j: usize) -> bool {
     let is_same = is_same(rt, i, j);
     tell(rt, i, if is_same { " same" } else { " differs" });
     !is_same

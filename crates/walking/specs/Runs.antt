@@ -8,10 +8,11 @@ use Rattle.nodes.specs.Ops.{son_for}
 use Rattle.reshaping.specs.Ops.{split_node}
 use Rattle.sessions.specs.declared.Session.{Session}
 use Rattle.outcomes.specs.Said.{Stepped, moved}
-use Rattle.outcomes.specs.declared.Answer.TheVariants.{More}
+use Rattle.outcomes.specs.declared.Answer.TheVariants.{More, Refused}
 use Rattle.outcomes.specs.declared.Moved.{Moved}
 use Rattle.serial.specs.Serial.{true≢false}
 use Rattle.machine.specs.Logic.{eqb_is}
+use Rattle.endings.specs.Table.{idled}
 use Rattle.nodes.specs.Paths.{son_at, son_toward}
 use Rattle.descents.specs.Descents.{has_free, in_way, first_in_way}
 use Rattle.splits.specs.Splits.{CanSplitSon, split_son_half}
@@ -22,6 +23,9 @@ use Rattle.walking.specs.Ready.{Mendable, PairReady}
 
 pub stands-run : (x : Session) {y : Session} {i l : ℕ} → y ≡ standing_at x i l → ◌≡◌ {A = Moved} (record { answer = More; session = y }) (record { answer = More; session = standing_at x i l })
 stands-run x e = ap (λ (z : Session). record { answer = More; session = z }) e
+
+pub full-run : (x : Session) {y : Session} → y ≡ idled x → ◌≡◌ {A = Moved} (record { answer = Refused 11 0; session = y }) (record { answer = Refused 11 0; session = idled x })
+full-run x e = ap (λ (z : Session). record { answer = Refused 11 0; session = z }) e
 
 -- The node by whatever name.
 pub there-run : (x : Session) (l : ℕ) {z : Moved} {i j : ℕ} → z ≡ record { answer = More; session = standing_at x i l } → i ≡ j → z ≡ record { answer = More; session = standing_at x j l }

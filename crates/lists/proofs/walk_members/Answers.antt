@@ -1,5 +1,6 @@
 use mathlib.Core.Path.{refl}
 use native.Mathlib.Omega.{arith}
+use Rattle.std.proofs.lemmas.Result.{err_from_is_err_and}
 use borrow.Author.Rules.{rules}
 use Rattle.marks.specs.Steps.{has_one}
 use Rattle.marks.specs.Trail.{go-end, go-stop, go-bad, go-more}
@@ -12,7 +13,9 @@ unfolding members_from
 loop-i-init c = (refl, refl, record { is = refl })
 
 pub returns-in_err-more : goal.returns-in_err-more
-returns-in_err-more c = rw c.from_residual.ensures (listed (go-stop c.loop-i.invariant.2 c.loop-i-test.true c.meet.ensures c.in_err-more.was))
+returns-in_err-more c =
+    let p = err_from_is_err_and c.from_residual.result c.from_residual.ensures.1 in
+    rw (p.1, p.2) (listed (go-stop c.loop-i.invariant.2 c.loop-i-test.true c.meet.ensures c.in_err-more.was))
 
 pub member_one-requires : goal.member_one-requires
 member_one-requires c = (has_one c.args.records.inside (c.meet.ensures.inside _ c.in_ok-more.was), search rules, c.requires.2)

@@ -12,10 +12,10 @@ unfolding has_undos
 loop-s-init c = record { is = refl }
 
 pub returns-then-s-ne0 : goal.returns-then-s-ne0
-returns-then-s-ne0 c = seek_found c.loop-s.invariant (omega arith) (behind c.args.t c.loop-s.s-index (omega arith)) c.if-s-ne0.true
+returns-then-s-ne0 c = seek_found c.loop-s.invariant (omega arith) (behind c.args.t (parties - 1) c.loop-s.s-index (omega arith)) c.if-s-ne0.true
 
 pub loop-s-preserved : goal.loop-s-preserved
-loop-s-preserved c = seek-more c.loop-s.invariant (omega arith) (behind c.args.t c.loop-s.s-index (omega arith)) c.if-s-ne0.false (omega arith) (omega arith)
+loop-s-preserved c = seek-more c.loop-s.invariant (omega arith) (behind c.args.t (parties - 1) c.loop-s.s-index (omega arith)) c.if-s-ne0.false (omega arith) (omega arith)
 
 pub returns : goal.returns
 returns c = seek-end c.loop-s.invariant (omega arith)

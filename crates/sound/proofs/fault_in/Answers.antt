@@ -12,7 +12,7 @@ returns-then-not-lowest_ok c = fault-lowest _ _ _ _ c.begun_mask-begun.ensures c
 pub returns-in_err-w : goal.returns-in_err-w
 returns-in_err-w c =
     let p = err_from_is_err_and c.from_residual.result c.from_residual.ensures.1 in
-    let q = refused _ _ _ c.ok_or.ensures.value c.in_err-w.was in rw (p.1, p.2, q.1) (fault-tree _ _ _ _ c.begun_mask-begun.ensures c.entries_ok.ensures c.if-not-entries_ok.false c.lowest_ok.ensures c.if-not-lowest_ok.false c.walk_root-walked.ensures q.0)
+    let q = refused _ _ _ c.or.ensures c.in_err-w.was in rw (p.1, p.2, q.2) (fault-tree _ _ _ _ c.begun_mask-begun.ensures c.entries_ok.ensures c.if-not-entries_ok.false c.lowest_ok.ensures c.if-not-lowest_ok.false c.walk_root-walked.ensures _ q.1)
 
 pub returns : goal.returns
-returns c = fault-go _ _ _ _ c.begun_mask-begun.ensures c.entries_ok.ensures c.if-not-entries_ok.false c.lowest_ok.ensures c.if-not-lowest_ok.false c.walk_root-walked.ensures _ (walked _ _ _ c.ok_or.ensures.value c.in_ok-w.was) c.parties_then.ensures
+returns c = fault-go _ _ _ _ c.begun_mask-begun.ensures c.entries_ok.ensures c.if-not-entries_ok.false c.lowest_ok.ensures c.if-not-lowest_ok.false c.walk_root-walked.ensures _ (walked _ _ _ c.or.ensures c.in_ok-w.was) c.parties_then.ensures

@@ -1,5 +1,6 @@
 use mathlib.Core.Path.{refl}
 use native.Mathlib.Omega.{arith}
+use Rattle.std.proofs.lemmas.Result.{err_from_is_err_and}
 use borrow.Author.Rules.{rules}
 use Rattle.marks.specs.Steps.{has_one}
 use Rattle.marks.specs.Trail.{go-end, go-stop, go-more}
@@ -12,13 +13,17 @@ unfolding free_from
 loop-i-init c = (refl, record { is = refl })
 
 pub returns-in_err-more : goal.returns-in_err-more
-returns-in_err-more c = rw c.from_residual.ensures (go-stop c.loop-i.invariant.1 c.loop-i-test.true c.meet.ensures c.in_err-more.was)
+returns-in_err-more c =
+    let p = err_from_is_err_and c.from_residual.result c.from_residual.ensures.1 in
+    rw (p.1, p.2) (go-stop c.loop-i.invariant.1 c.loop-i-test.true c.meet.ensures c.in_err-more.was)
 
 pub word-i-requires : goal.word-i-requires
 word-i-requires c = (has_one c.args.records.inside (c.meet.ensures.inside _ c.in_ok-more.was), search rules)
 
 pub returns-in_err-more-2 : goal.returns-in_err-more-2
-returns-in_err-more-2 c = rw c.from_residual-in_err-more-2.ensures (go-stop (at_ahead c.if-i-ahead.true (go-more c.loop-i.invariant.1 c.loop-i-test.true c.meet.ensures c.in_ok-more.was (free-turned _ _ _) c.word-i.ensures)) (λ e. absurd (omega (arith, e))) c.meet-then-i-ahead.ensures c.in_err-more-2.was)
+returns-in_err-more-2 c =
+    let p = err_from_is_err_and c.from_residual-in_err-more-2.result c.from_residual-in_err-more-2.ensures.1 in
+    rw (p.1, p.2) (go-stop (at_ahead c.if-i-ahead.true (go-more c.loop-i.invariant.1 c.loop-i-test.true c.meet.ensures c.in_ok-more.was (free-turned _ _ _) c.word-i.ensures)) (λ e. absurd (omega (arith, e))) c.meet-then-i-ahead.ensures c.in_err-more-2.was)
 
 pub word-i-requires-then-i-ahead : goal.word-i-requires-then-i-ahead
 word-i-requires-then-i-ahead c = (has_one c.args.records.inside (c.meet-then-i-ahead.ensures.inside _ c.in_ok-more-2.was), search rules)

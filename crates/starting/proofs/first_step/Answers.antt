@@ -20,5 +20,5 @@ pub returns-in-3 : goal.returns-in-3
 returns-in-3 c =
     entry-run _ _ _ _ _ _ (omega arith) (omega arith) c.entry_step.ensures
 
-pub returns-in_default : goal.returns-in_default
-returns-in_default c = tidied-run _ _ _ _ _ _ (omega arith) refl c.tidied_none.ensures
+pub returns-in-0 : goal.returns-in-0
+returns-in-0 c = tidied-run _ _ _ _ _ _ (omega arith) refl c.tidied_none.ensures

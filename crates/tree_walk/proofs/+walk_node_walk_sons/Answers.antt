@@ -1,4 +1,5 @@
 use Rattle.std.proofs.Common.{◌≡◌, refl, sym, ◌∙◌, ℕ, arith, rules}
+use Rattle.std.proofs.lemmas.Result.{err_from_is_err_and}
 use Rattle.tree_walk.specs.TreeWalk.{top_of}
 use Rattle.tree_walk.proofs.Turns.{node_of, top-inner, top-last, son-stop, son-more, son-end}
 use Rattle.tree_walk.proofs.Turns.{node-twice, node-fanout, node-lowest, node-inner, fan-count, kept-lt}
@@ -6,7 +7,9 @@ use Rattle.tree_walk.proofs.+walk_node_walk_sons.Goals as goal
 use Rattle.tree_walk.proofs.+walk_node_walk_sons.Goals.{walk_sons-then-k-count, walk_sons-else-k-count}
 
 pub walk_node-returns-in_err-v : goal.walk_node-returns-in_err-v
-walk_node-returns-in_err-v t c = rw c.from_residual.ensures (node-twice _ _ _ _ _ _ _ _ _ c.enter_node.ensures _ c.in_err-v.was)
+walk_node-returns-in_err-v t c =
+    let p = err_from_is_err_and c.from_residual.result c.from_residual.ensures.1 in
+    rw (p.1, p.2) (node-twice _ _ _ _ _ _ _ _ _ c.enter_node.ensures _ _ c.in_err-v.was)
 
 pub walk_node-returns-then-not-fanout_ok : goal.walk_node-returns-then-not-fanout_ok
 walk_node-returns-then-not-fanout_ok t c =
@@ -35,12 +38,13 @@ walk_node-returns t c =
 
 pub walk_sons-returns-in_err-u : goal.walk_sons-returns-in_err-u
 walk_sons-returns-in_err-u t c =
+    let p = err_from_is_err_and c.from_residual.result c.from_residual.ensures.1 in
     let top : c.if-k-count.top ≡ top_of (node_of c.args.n.latch c.args.n.count c.args.n.bounds c.args.n.sons) c.loop-k.k c.args.hi =
     elim c.if-k-count.branch [
       | walk_sons-then-k-count w ↦ top-inner _ _ _ w.if-k-count.true w.top-is
       | walk_sons-else-k-count w ↦ top-last _ _ _ w.if-k-count.false w.top-is
     ] in
-    rw c.from_residual.ensures (son-stop (c.loop-k.invariant.2 c.args.n.latch) (omega arith) refl top c.walk_node.ensures c.in_err-u.was)
+    rw (p.1, p.2) (son-stop _ (c.loop-k.invariant.2 c.args.n.latch) (omega arith) refl top c.walk_node.ensures c.in_err-u.was)
 
 pub walk_sons-loop-k-preserved : goal.walk_sons-loop-k-preserved
 walk_sons-loop-k-preserved t c =

@@ -1,8 +1,8 @@
 use Rattle.tree_walk.proofs.Turns.{entered, entered-not}
 use Rattle.tree_walk.proofs.enter_node.Goals as goal
 
-pub returns-in_err-left : goal.returns-in_err-left
-returns-in_err-left c = rw c.from_residual.ensures (entered-not _ _ _ _ c.meet.ensures c.in_err-left.was)
+pub returns-in-Ok : goal.returns-in-Ok
+returns-in-Ok c = entered _ _ _ _ c.meet.ensures _ c.in-Ok.is
 
-pub returns : goal.returns
-returns c = entered _ _ _ _ c.meet.ensures _ c.in_ok-left.was
+pub returns-in-Err : goal.returns-in-Err
+returns-in-Err c = entered-not _ _ _ _ c.meet.ensures _ c.in-Err.is

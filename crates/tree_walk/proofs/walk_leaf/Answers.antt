@@ -10,13 +10,12 @@ returns-then-i-w c = leaf-off _ _ _ _ _ _ _ _ _ c.if-i-w.true
 pub returns-then-k-gt4096 : goal.returns-then-k-gt4096
 returns-then-k-gt4096 c = leaf-full _ _ _ _ _ _ _ _ _ c.if-i-w.false c.if-k-gt4096.true
 
-pub returns-in_err-left : goal.returns-in_err-left
-returns-in_err-left c =
-    rw c.from_residual.ensures (leaf-twice _ _ _ _ _ _ _ _ _ c.if-i-w.false c.if-k-gt4096.false c.meet.ensures c.in_err-left.was)
+pub returns-in_default : goal.returns-in_default
+returns-in_default c = leaf-twice _ _ _ _ _ _ _ _ _ c.if-i-w.false c.if-k-gt4096.false c.meet.ensures c.in_default.is
 
 pub leaf_words-requires : goal.leaf_words-requires
-leaf_words-requires c = (has_one c.args.records.inside (c.meet.ensures.inside _ c.in_ok-left.was), c.if-k-gt4096.false)
+leaf_words-requires c = (has_one c.args.records.inside (c.meet.ensures.inside _ c.in-Ok.is), c.if-k-gt4096.false)
 
 pub returns : goal.returns
 unfolding met_walk
-returns c = leaf-met _ _ _ _ _ _ _ _ _ c.if-i-w.false c.if-k-gt4096.false c.meet.ensures c.in_ok-left.was refl c.leaf_words.ensures
+returns c = leaf-met _ _ _ _ _ _ _ _ _ c.if-i-w.false c.if-k-gt4096.false c.meet.ensures c.in-Ok.is refl c.leaf_words.ensures

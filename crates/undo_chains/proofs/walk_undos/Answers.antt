@@ -1,4 +1,5 @@
 use mathlib.Core.Path.{refl, sym, ◌∙◌}
+use Rattle.std.proofs.lemmas.Result.{err_from_is_err_and}
 use borrow.Author.Rules.{rules}
 use Rattle.marks.specs.Trail.{go-end, go-stop, go-bad, go-more}
 use Rattle.undo_chains.specs.UndoChains.{undos_from}
@@ -13,7 +14,9 @@ pub returns : goal.returns
 returns c = go-end c.loop-i.invariant.2 c.loop-i-test.false
 
 pub returns-in_err-more : goal.returns-in_err-more
-returns-in_err-more c = rw c.from_residual.ensures (go-stop c.loop-i.invariant.2 c.loop-i-test.true c.meet.ensures c.in_err-more.was)
+returns-in_err-more c =
+    let p = err_from_is_err_and c.from_residual.result c.from_residual.ensures.1 in
+    rw (p.1, p.2) (go-stop c.loop-i.invariant.2 c.loop-i-test.true c.meet.ensures c.in_err-more.was)
 
 pub returns-then-not-undo_ok : goal.returns-then-not-undo_ok
 returns-then-not-undo_ok c = go-bad c.loop-i.invariant.2 c.loop-i-test.true c.meet.ensures c.in_ok-more.was (turn-bad _ _ _ _ _ _ _ (sym c.undo_ok.ensures ∙ c.if-not-undo_ok.true))
