@@ -12,7 +12,7 @@ use Rattle.replay.specs.Members.{Sorted, Inserts, Removes}
 pub sorted_of : {vs ks es : List ℕ} {n : ℕ} → Ready vs ks es n → Sorted ks es n
 sorted_of r = record { keys = r.keys; entries = r.entries; count = r.count; rising = r.rising }
 
-ready_of : {vs ks es : List ℕ} {n : ℕ} → length vs ≡ 1025 → Sorted ks es n → Ready vs ks es n
+pub ready_of : {vs ks es : List ℕ} {n : ℕ} → length vs ≡ 1025 → Sorted ks es n → Ready vs ks es n
 ready_of h s = record { values = h; keys = s.keys; entries = s.entries; count = s.count; rising = s.rising }
 
 -- The value of one entry set.
