@@ -22,7 +22,7 @@ export CC
 help: ## this list
 	@sed -n 's/^\([a-z]*\):[^#]*## \(.*\)/\1|\2/p' Makefile | while IFS='|' read -r name what; do \
 	    printf '  make %-10s %s\n' "$$name" "$$what"; done
-	@echo 'Times are of an older kit, on two processors. CRATE, SCRIPT, PREFIX, DESTDIR, FUZZ_SECONDS and CC may be set.'
+	@echo 'Times but those of check and archive are of an older kit, on two processors. CRATE, SCRIPT, PREFIX, DESTDIR, FUZZ_SECONDS and CC may be set.'
 
 try: need-rt ## a look: plays SCRIPT (an example) with nothing proved, in seconds
 	@examples/look '$(SCRIPT)'
@@ -32,7 +32,7 @@ prove: need-rt ## proves CRATE (the trace program) and what it rests on, 8 minut
 	@.ci/prove $(CRATE)
 	@if [ '$(CRATE)' = trace ]; then echo 'target/bin/trace < $(SCRIPT)'; target/bin/trace < '$(SCRIPT)'; fi
 
-check: need-rt need-cc ## the gate, 24 minutes: proofs, must-fail edits, programs, the examples in C
+check: need-rt need-cc ## the gate, 1 hour: proofs, must-fail edits, programs, the examples in C
 	@.ci/run
 
 journals: need-rt ## proves the checker of journals and what it rests on, 2 minutes, and holds it to stored verdicts
@@ -42,7 +42,7 @@ journals: need-rt ## proves the checker of journals and what it rests on, 2 minu
 stamps: need-cc $(STAMPS) ## proves and builds local stamps for C, 1 minute, and checks what the programs over it print
 	@$(MAKE) --no-print-directory -C examples/stamps all check CC='$(CC)'
 
-archive: $(STAMPS) $(STORE) ## proves and builds both libraries for C, 9 minutes
+archive: $(STAMPS) $(STORE) ## proves and builds both libraries for C, half an hour
 
 $(STAMPS) $(STORE): target/staticlib/lib%.a: crates.txt $(shell find crates -path 'crates/*/out' -prune -o \( -name '*.rt' -o -name '*.antt' \) -print)
 	@.ci/archive $*
